@@ -1,0 +1,12 @@
+use Rattle.std.proofs.Common.{◌&&◌, nat_lt, length, rules, tests, sym, ◌∙◌, Bool}
+use Rattle.std.proofs.lemmas.Iterator.{YieldsList-from_slice}
+use Rattle.std.proofs.lemmas.Iterator.Search.{position_from_yields_List}
+use Rattle.ing_labels.specs.Labels.{Pair, has_value}
+use Rattle.ing_labels.proofs.Places.{position-map}
+use Rattle.ing_labels.proofs.checks.first_long_value.Goals as goal
+
+pub returns : goal.returns
+returns c =
+    let fails : Pair → Bool = λ p. has_value p && nat_lt c.args.most (length p.1) in
+    position_from_yields_List (λ p. fails (p.0.now, p.1.now)) _ _ _ c.position.ensures.ran (YieldsList-from_slice c.args.pairs.now cc) (λ x b q k. search (rules, tests))
+    ∙ sym (position-map fails (λ p. (p.0.now, p.1.now)) c.args.pairs.now)

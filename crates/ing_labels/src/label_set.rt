@@ -1,0 +1,105 @@
+// The labels of one stream.
+ghost use Rattle.std.specs.Prelude.{◌≡◌, ◌≢◌, IfOk, IfErr};
+ghost use Rattle.std.specs.String.{string_bytes};
+
+use crate::canonical::canonical_text;
+use crate::checks::{
+    first_bad_name, first_long_name, first_long_value, first_repeated_name, value_count,
+    values_by_name,
+};
+use crate::fault::{LabelFault, LabelLimits};
+use std::alloc::{AllocError, Global};
+use std::collections::BTreeMap;
+use std::marker::Model;
+
+/// The labels of one stream, seen as the map from the bytes of a name to the bytes of its value:
+/// one label or more, each with a label name and a value that is not empty (Loki documentation:
+/// labels).
+#[derive(Debug, Drop)]
+pub struct Labels {
+    values: BTreeMap<String, String>,
+}
+
+impl Model for Labels {
+    ghost use Rattle.std.specs.Prelude.{ℕ, List};
+    ghost use Rattle.std.specs.Coded.{coded_ℕ, coded_list};
+    ghost use Rattle.std.specs.FinMap as map;
+    ghost use Rattle.ing_labels.specs.Labels.{LabelMap};
+
+    ghost Value = { LabelMap };
+
+    ghost coded = { map.code (coded_list coded_ℕ) (coded_list coded_ℕ) };
+
+    ghost use Rattle.ing_labels.specs.Held.{held_map, IsHeld};
+
+    ghost view = { held_map };
+
+    ghost invariant = { IsHeld };
+}
+
+impl Labels {
+    ghost use Rattle.ing_labels.specs.Labels.{labels_of, texts, IsLabelSet, HoldsPairs, KeepsLimits};
+    ghost use Rattle.ing_labels.specs.Canonical.{canonical_of};
+
+    /// The labels of a list of pairs of a name and a value. A label with an empty value is the same as
+    /// an absent one. `at` counts the pairs as given, also those with an empty value.
+    ///
+    /// The whole list is tested in this order:
+    /// 1. `BadName`: a name that is no label name, also one with an empty value.
+    /// 2. `TwiceNamed`: a name that an earlier pair has, whatever the values.
+    /// 3. `NoLabels`: no pair has a value that is not empty.
+    /// 4. `TooMany`: more than `limits.names` pairs have one.
+    /// 5. `NameTooLong`: one of these has a name of more than `limits.name_bytes` bytes.
+    /// 6. `ValueTooLong`: one of these has a value of more than `limits.value_bytes` bytes.
+    ///
+    /// `NoMemory` may stand in place of any other answer. The time is n log n in the pairs, times the
+    /// length of a name. (Loki documentation: labels, and `limits_config` for the limits; the order of the
+    /// tests is this crate's own.)
+    pub fn of_pairs(
+        alloc: Global,
+        pairs: &[(&str, &str)],
+        limits: &LabelLimits,
+    ) -> Result<Labels, LabelFault>
+        ensures labels { IfOk result (λ l. labels_of limits.now (texts pairs.now) ≡ Ok l) }
+        ensures fault { IfErr result (λ e. e ≢ LabelFault.NoMemory → labels_of limits.now (texts pairs.now) ≡ Err e) }
+
+        // What the map is, in words that do not follow the tests.
+        ensures label_set { IfOk result IsLabelSet }
+        ensures pairs { IfOk result (HoldsPairs (texts pairs.now)) }
+        ensures limits { IfOk result (KeepsLimits limits.now) }
+    {
+        if let Some(at) = first_bad_name(pairs) {
+            return Err(LabelFault::BadName { at });
+        }
+        if let Some(at) = first_repeated_name(alloc, pairs)? {
+            return Err(LabelFault::TwiceNamed { at });
+        }
+        let count = value_count(pairs);
+        if count == 0 {
+            return Err(LabelFault::NoLabels);
+        }
+        if count > limits.names {
+            return Err(LabelFault::TooMany);
+        }
+        if let Some(at) = first_long_name(pairs, limits.name_bytes) {
+            return Err(LabelFault::NameTooLong { at });
+        }
+        if let Some(at) = first_long_value(pairs, limits.value_bytes) {
+            return Err(LabelFault::ValueTooLong { at });
+        }
+        let values = values_by_name(alloc, pairs)?;
+        Ok(Labels { values })
+    }
+
+    /// The canonical name, as `{a="x", b="y"}`: names in byte order, `, ` between pairs, and in a value a
+    /// backslash, a quote and a line feed are written `\\`, `\"` and `\n` (Loki documentation: label sets
+    /// as Prometheus writes them; the three escapes are this crate's own profile).
+    pub fn canonical(&self, alloc: Global) -> Result<String, AllocError>
+        ensures text { IfOk result (λ s. string_bytes s ≡ canonical_of self.now) }
+
+        // Each `Labels` is one or more labels, with label names and values that are not empty.
+        ensures label_set { IsLabelSet self.now }
+    {
+        canonical_text(alloc, &self.values)
+    }
+}

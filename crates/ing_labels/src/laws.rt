@@ -1,0 +1,21 @@
+// What the definitions say, as contracts of functions that do nothing.
+ghost use Rattle.ing_labels.specs.Canonical.{CanonicalNamesAreExact};
+ghost use Rattle.ing_labels.specs.Rows.{EmptyValuesAreAbsent, CanonicalEscapes, BadNameComesFirst, EmptyValueRepeats, NoValueNoLabels};
+
+/// Two label maps, of label names, have equal canonical names exactly where they are equal.
+pub fn canonical_names_are_exact()
+    ensures { CanonicalNamesAreExact }
+{}
+
+/// Two canonical names, byte by byte.
+pub fn worked_canonical_names()
+    ensures empty_values_are_absent { EmptyValuesAreAbsent }
+    ensures canonical_escapes { CanonicalEscapes }
+{}
+
+/// Three refusals, with the index of the pair at fault.
+pub fn worked_refusals()
+    ensures bad_name_comes_first { BadNameComesFirst }
+    ensures empty_value_repeats { EmptyValueRepeats }
+    ensures no_value_no_labels { NoValueNoLabels }
+{}
