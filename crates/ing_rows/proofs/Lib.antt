@@ -1,0 +1,5 @@
+mod Accepted
+mod Digits
+mod Live
+mod Once
+mod Pushed

@@ -1,0 +1,11 @@
+pub mod Defaults
+pub mod Events
+pub mod Faults
+pub mod Gauges
+pub mod Kept
+pub mod PlainRows
+pub mod Rows
+pub mod Steps
+pub mod Texts
+pub mod Verdicts
+pub mod Worked
