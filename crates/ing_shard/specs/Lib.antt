@@ -1,0 +1,10 @@
+pub mod Contents
+pub mod Faults
+pub use Rattle.ing_rows.specs.Rows
+pub use Rattle.ing_rows.specs.Verdicts
+pub use Rattle.ing_rows.specs.Steps
+pub use Rattle.ing_rows.specs.Kept
+pub use Rattle.ing_rows.specs.Gauges
+pub use Rattle.ing_rows.specs.Events
+pub use Rattle.ing_labels.specs.Canonical
+pub use Rattle.ing_labels.specs.Labels

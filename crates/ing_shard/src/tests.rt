@@ -1,0 +1,59 @@
+//! The calls that take memory, once each, and what a refusal leaves.
+use super::*;
+use ing_labels::{LabelLimits, Labels};
+use ing_rows::{Entry, Line, Rules, Stamp, Tenant, Verdict};
+use std::alloc::Global;
+use std::test::Fail;
+
+const LIMITS: LabelLimits = LabelLimits {
+    names: 15,
+    name_bytes: 1024,
+    value_bytes: 2048,
+};
+
+fn stamp(nanoseconds: u64) -> Result<Stamp, Fail> {
+    Ok(Stamp::of_nanoseconds(nanoseconds).ok_or("a stamp")?)
+}
+
+fn two_entries(alloc: Global) -> Result<Vec<Entry>, Fail> {
+    let mut entries = Vec::new(alloc);
+    for (nanoseconds, text) in [(1, "x"), (2, "y")] {
+        entries.push(Entry {
+            stamp: stamp(nanoseconds)?,
+            line: Line::of_text(alloc, text)?,
+        })?;
+    }
+    Ok(entries)
+}
+
+#[test]
+fn a_push_is_judged_and_counted(rt: HostRuntime) -> Result<(), Fail> {
+    let mut shard = Shard::fresh(rt.alloc(), Rules::default());
+    let tenant = Tenant::of_text(rt.alloc(), "acme")?;
+    let labels = Labels::of_pairs(rt.alloc(), &[("app", "web")], &LIMITS)?;
+    let entries = two_entries(rt.alloc())?;
+    assert_eq!(rt; shard.totals(), (0, 0));
+    assert_eq!(rt; shard.rules().max_line_size, 262_144);
+    // One allocation at most is refused in a run of this test: a refused push leaves the shard as it was, and the same
+    // push then succeeds.
+    let pushed = match shard.push(rt.alloc(), &tenant, &labels, &entries, stamp(1)?) {
+        Ok(pushed) => pushed,
+        Err(fault) => {
+            assert_eq!(rt; (fault.number(), fault.name()), (0, "NoMemory"));
+            assert_eq!(rt; shard.totals(), (0, 0));
+            shard.push(rt.alloc(), &tenant, &labels, &entries, stamp(1)?)?
+        }
+    };
+    let all = [
+        Verdict::Accepted { number: 0 },
+        Verdict::Accepted { number: 1 },
+    ];
+    assert_eq!(rt; pushed.verdicts.as_slice(), all.as_slice());
+    assert!(rt; !pushed.durable);
+    assert_eq!(rt; shard.totals(), (2, 0));
+    assert_eq!(rt; entries.len(), 2);
+    let again = shard.push(rt.alloc(), &tenant, &labels, &entries[1..], stamp(1)?)?;
+    assert_eq!(rt; again.verdicts.as_slice(), [Verdict::Duplicate].as_slice());
+    assert_eq!(rt; shard.totals(), (2, 0));
+    Ok(())
+}
