@@ -1,4 +1,5 @@
 -- The canonical name of a label map: `{a="x", b="y"}`.
+-- What names no section of the Loki documentation is own.
 use Rattle.std.specs.Prelude.{◌≡◌, ◌↔◌, ℕ, Bool, ◌||◌, List, [], ◌∷◌, ◌++◌, codes, ◌==◌, if◌then◌else◌}
 use Rattle.std.specs.List.{flat_map, join_by}
 use Rattle.std.specs.FinMap.{entries}

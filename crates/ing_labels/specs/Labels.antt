@@ -1,4 +1,5 @@
 -- Label maps, and which list of pairs makes one.
+-- What names no section of the Loki documentation is own.
 use Rattle.std.specs.Prelude.{◌≡◌, ◌≢◌, ◌↔◌, ◌≤◌, nat_le, ℕ, Bool, not, ◌&&◌, ◌==◌, nat_lt, List, [], length, map, filter, position, take, Option, Some, None, Result, Ok, Err, IsTrue, if◌then◌else◌}
 use Rattle.std.specs.List.{list_any, list_all, enumerate_from, Contains}
 use Rattle.std.specs.declared.cmp.Ordering.{Ordering}

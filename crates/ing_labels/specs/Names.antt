@@ -1,4 +1,5 @@
 -- What a label name is.
+-- What names no section of the Loki documentation is own.
 use Rattle.std.specs.Prelude.{ℕ, Bool, false, ◌||◌, ◌&&◌, nat_le, ◌==◌, List, [], ◌∷◌}
 use Rattle.std.specs.List.{list_all}
 

@@ -1,4 +1,5 @@
 -- The events of a shard and its replies, which steps they allow, and whole runs.
+-- What names no section of the Loki documentation is own.
 use Rattle.std.specs.Prelude.{◌≡◌, ℕ, ◌+◌, ◌-◌, ◌^◌, ◌<◌, ◌≤◌, Bool, true, false, ◌&&◌, ◌||◌, List, [], ◌∷◌, ◌++◌, filter, length, ◌==◌, nat_lt, nat_le, is_some, None, Some}
 use Rattle.ing_rows.specs.declared.entry.Entry.{Entry}
 use Rattle.ing_rows.specs.declared.place.SealReason.TheVariants.{Forced}

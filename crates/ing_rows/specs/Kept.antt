@@ -1,4 +1,5 @@
 -- Rows without chunk, block and place: what was accepted, wherever it is kept.
+-- What names no section of the Loki documentation is own.
 use Rattle.std.specs.Prelude.{◌≡◌, ℕ, Bool, false, List, [], ◌∷◌, map, Option}
 use Rattle.ing_rows.specs.declared.entry.Entry.{Entry}
 use Rattle.ing_rows.specs.declared.place.Place.TheVariants.{Head}
@@ -14,6 +15,7 @@ pub record Numbered : Type 0 where
   pub number : ℕ
   pub entry : Entry
 
+-- a row without chunk, block and place
 abbrev pub numbered : Row → Numbered
 numbered r = record { stream = r.stream; number = r.number; entry = r.entry }
 

@@ -1,4 +1,5 @@
 -- The state of a shard as one flat list of accepted entries, each with its place, and one of chunks that are not stored.
+-- What names no section of the Loki documentation is own.
 use Rattle.std.specs.Prelude.{ℕ, ◌+◌, max, Bool, true, false, not, ◌&&◌, ◌||◌, List, [], ◌∷◌, filter, sum_by, length, bytes_eq, ◌==◌, nat_lt, if◌then◌else◌, IsPermutation, Option, Some, None}
 use Rattle.ing_rows.specs.declared.entry.Entry.{Entry}
 use Rattle.ing_rows.specs.declared.place.Place.{Place}
@@ -28,12 +29,12 @@ pub record Mark : Type 0 where
   pub last_update : ℕ
   pub reason : Option SealReason
 
--- own
+-- the rows and marks of one shard
 pub record State : Type 0 where
   pub rows : List Row
   pub marks : List Mark
 
--- the same rows and the same marks, in whatever order (own)
+-- the same rows and the same marks, in whatever order
 pub record IsSame (a b : State) : Type 0 where
   pub rows : IsPermutation a.rows b.rows
   pub marks : IsPermutation a.marks b.marks
@@ -42,6 +43,7 @@ pub record IsSame (a b : State) : Type 0 where
 abbrev pub empty_state : State
 empty_state = record { rows = []; marks = [] }
 
+-- the same tenant and the same name
 abbrev pub same_stream : StreamKey → StreamKey → Bool
 same_stream a b = bytes_eq a.tenant b.tenant && bytes_eq a.name b.name
 
@@ -83,12 +85,15 @@ is_stored (Flight f) = false
 abbrev pub size_of : Entry → ℕ
 size_of e = 16 + length e.line
 
+-- of all of them
 abbrev pub size_of_rows : List Row → ℕ
 size_of_rows rows = sum_by (λ r. size_of r.entry) rows
 
+-- the rows of one stream
 abbrev pub rows_of : StreamKey → List Row → List Row
 rows_of s rows = filter (λ r. same_stream r.stream s) rows
 
+-- the rows of one chunk of one stream
 abbrev pub is_of_chunk : StreamKey → ℕ → Row → Bool
 is_of_chunk s chunk r = same_stream r.stream s && (r.chunk == chunk)
 
@@ -99,6 +104,7 @@ rows_of_chunk s chunk rows = filter (is_of_chunk s chunk) rows
 abbrev pub count_of : List Row → StreamKey → ℕ
 count_of rows s = length (rows_of s rows)
 
+-- the greatest stamp among rows, and 0 where there is none
 abbrev pub greatest_stamp : List Row → ℕ
 greatest_stamp [] = 0
 greatest_stamp (r ∷ rows) = max r.entry.stamp (greatest_stamp rows)
@@ -107,6 +113,7 @@ greatest_stamp (r ∷ rows) = max r.entry.stamp (greatest_stamp rows)
 abbrev pub highest_of : List Row → StreamKey → ℕ
 highest_of rows s = greatest_stamp (rows_of s rows)
 
+-- of two rows the one with the greater number
 abbrev pub later : Row → Option Row → Option Row
 later r None = Some r
 later r (Some q) = if nat_lt q.number r.number then Some r else Some q
@@ -120,6 +127,7 @@ latest (r ∷ rows) = later r (latest rows)
 abbrev pub last_of : List Row → StreamKey → Option Row
 last_of rows s = latest (rows_of s rows)
 
+-- the list has the stream
 abbrev pub has_stream : StreamKey → List StreamKey → Bool
 has_stream s [] = false
 has_stream s (t ∷ ts) = same_stream t s || has_stream s ts

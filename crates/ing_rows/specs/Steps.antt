@@ -1,4 +1,5 @@
 -- What the events of a shard do to its state, one case each.
+-- What names no section of the Loki documentation is own.
 use Rattle.std.specs.Prelude.{◌≡◌, ◌≢◌, ℕ, ◌+◌, ◌-◌, ◌≤◌, max, min, Bool, true, false, not, ◌&&◌, List, [], ◌∷◌, map, filter, find, All, Contains, ◌==◌, nat_lt, nat_le, if◌then◌else◌, is_none, is_some, Option, Some, None}
 use Rattle.ing_rows.specs.declared.entry.Entry.{Entry}
 use Rattle.ing_rows.specs.declared.place.Place.{Place}
@@ -17,9 +18,11 @@ moved test place rows = map (λ r. if test r then record r { place = place } els
 
 -- ---- one entry of a push
 
+-- the mark is that of the stream's growing chunk
 abbrev pub is_growing : StreamKey → Mark → Bool
 is_growing s m = same_stream m.stream s && is_none m.reason
 
+-- the mark is that of this chunk
 abbrev pub is_mark_of : StreamKey → ℕ → Mark → Bool
 is_mark_of s chunk m = same_stream m.stream s && (m.chunk == chunk)
 
@@ -51,6 +54,7 @@ added old s e now =
       marks = marks_for old s now;
     }
 
+-- a row in the head of the chunk
 abbrev pub in_head : StreamKey → ℕ → Row → Bool
 in_head s chunk r = is_of_chunk s chunk r && is_head r.place
 
@@ -110,6 +114,7 @@ after_push rules s now (e ∷ es) st = after_push rules s now es (after_entry ru
 
 -- ---- sweeping and sealing
 
+-- the least stamp among rows, and 0 where there is none
 abbrev pub least_stamp : List Row → ℕ
 least_stamp [] = 0
 least_stamp (r ∷ []) = r.entry.stamp
@@ -133,6 +138,7 @@ abbrev pub is_sealed_now : (Mark → Option SealReason) → List Mark → Row �
 is_sealed_now why [] r = false
 is_sealed_now why (m ∷ ms) r = if is_of_chunk m.stream m.chunk r then is_some (seal_of why m) else is_sealed_now why ms r
 
+-- the mark with that reason
 abbrev pub seal_mark : (Mark → Option SealReason) → Mark → Mark
 seal_mark why m = given (seal_of why m) where
   given : Option SealReason → Mark
@@ -151,6 +157,7 @@ Seals why old new =
 abbrev pub Sweeps : (List ℕ → Rules) → ℕ → State → State → Type 0
 Sweeps rules now old new = Seals (λ m. due_of (rules m.stream.tenant) now old.rows m) old new
 
+-- each growing chunk is sealed by force
 abbrev pub SealsAll : State → State → Type 0
 SealsAll old new = Seals (λ m. Some Forced) old new
 
@@ -169,6 +176,7 @@ pub record Claims (s : StreamKey) (chunk f : ℕ) (old new : State) : Type 0 whe
   pub unused : All (λ r. is_flight f r.place ≡ false) old.rows
   pub moves : IsSame new (record old { rows = moved (is_of_chunk s chunk) (Flight f) old.rows })
 
+-- there is no chunk to claim
 pub record ClaimsNone (s : StreamKey) (old new : State) : Type 0 where
   pub none : (chunk : ℕ) → IsClaimable old s chunk → ⊥
   pub same : IsSame new old

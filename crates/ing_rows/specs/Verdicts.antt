@@ -1,4 +1,5 @@
 -- How an entry is judged.
+-- What names no section of the Loki documentation is own.
 use Rattle.std.specs.Prelude.{ℕ, ◌-◌, ◌/◌, Bool, false, not, ◌&&◌, List, length, bytes_eq, ◌==◌, nat_lt, nat_le, if◌then◌else◌, Option, Some, None}
 use Rattle.ing_rows.specs.declared.entry.Entry.{Entry}
 use Rattle.ing_rows.specs.declared.rules.Rules.{Rules}

@@ -1,0 +1,43 @@
+-- The JSON values that are written as replies.
+use Rattle.std.specs.Prelude.{ℕ, List, [], ◌∷◌, ◌++◌, map, codes, decimal, Bool, Option, Some, None}
+use Rattle.serde_json.specs.Data.{Data, boolean, number, unsigned, string, array, object, no_members, member}
+use Rattle.serde_json.specs.View.{items_of}
+use Rattle.serde_json.specs.Written.{compact_text}
+use Rattle.ing_rows.specs.declared.verdict.Verdict.{Verdict}
+use Rattle.ing_rows.specs.declared.verdict.Verdict.TheVariants.{Accepted, Duplicate, LineTooLong, TooFarBehind, TooManyStreams}
+
+abbrev pub count : ℕ → Data
+count n = number (unsigned n)
+
+-- stamps are texts, since they pass what a double holds (own)
+abbrev pub verdict_data : Verdict → Data
+verdict_data (Accepted n) = object (member (codes "accepted") (count n) no_members)
+verdict_data Duplicate = string (codes "duplicate")
+verdict_data LineTooLong = string (codes "line_too_long")
+verdict_data (TooFarBehind limit) = object (member (codes "too_far_behind") (string (decimal limit)) no_members)
+verdict_data (TooManyStreams live) = object (member (codes "too_many_streams") (count live) no_members)
+
+-- a refusal: its name, its number, and the place at fault in front where it has one
+abbrev pub fault_data : List ℕ → ℕ → Option ℕ → Data
+fault_data name n None = object (member (codes "error") (string name) (member (codes "number") (count n) no_members))
+fault_data name n (Some at) = object (member (codes "at") (count at) (member (codes "error") (string name) (member (codes "number") (count n) no_members)))
+
+-- the stream by its canonical name, and the verdict of each entry
+abbrev pub judged_data : List ℕ → Bool → List Verdict → Data
+judged_data name durable verdicts =
+    object (member (codes "durable") (boolean durable) (member (codes "stream") (string name) (member (codes "verdicts") (array (items_of (map verdict_data verdicts))) no_members)))
+
+-- a reply for each stream
+abbrev pub push_data : List Data → Data
+push_data replies = object (member (codes "push") (array (items_of replies)) no_members)
+
+-- of the one shard: entries accepted in this run, kept in memory, recovered from an earlier run, and stored
+abbrev pub report_data : ℕ → ℕ → ℕ → ℕ → Data
+report_data accepted kept recovered stored =
+    object (member (codes "report") (array (items_of (
+    object (member (codes "accepted") (count accepted) (member (codes "kept") (count kept) (member (codes "recovered") (count recovered) (member (codes "stored") (count stored) no_members)))) ∷ []
+    ))) no_members)
+
+-- a reply is one line
+abbrev pub line_text : Data → List ℕ
+line_text d = compact_text d ++ 10 ∷ []

@@ -1,0 +1,16 @@
+-- What a reader of lines has left to give.
+use Rattle.std.specs.Prelude.{ℕ, List, slice_range, Option}
+use Rattle.std.specs.Io.KnownBytes.{prepend_known}
+use Rattle.ingestd.specs.declared.lines.Lines.{Lines}
+
+-- the bytes that were read and are in no line yet
+abbrev pub unread : Lines → List ℕ
+unread lines = slice_range lines.chunk.items lines.at lines.filled
+
+-- how many calls of `read` were made
+abbrev pub reads_made : Lines → ℕ
+reads_made lines = lines.reads
+
+-- the unread bytes, and then the bytes that the reader has, where these are known
+abbrev pub left : Lines → Option (List ℕ) → Option (List ℕ)
+left lines remaining = prepend_known (unread lines) remaining
