@@ -3,6 +3,7 @@ pub mod Events
 pub mod Faults
 pub mod Gauges
 pub mod Kept
+pub mod Placement
 pub mod PlainRows
 pub mod Rows
 pub mod Steps

@@ -187,3 +187,20 @@ fn half_the_age_behind_the_greatest_stamp(rt: HostRuntime) {
     each_push_is_a_run_of_entries();
     a_push_adds_what_it_accepts();
 }
+
+#[test]
+fn shards_by_sha_256(rt: HostRuntime) -> Result<(), Fail> {
+    for (text, name, shards, shard) in [
+        ("t", "{a=\"1\"}", 64, 62),
+        ("acme", "{app=\"web\"}", 7, 5),
+        ("t", "{a=\"1\"}", 1, 0),
+    ] {
+        let tenant = Tenant::of_text(rt.alloc(), text)?;
+        assert_eq!(rt;
+            shard_of(&tenant, name, shards),
+            shard,
+            "{text} {name} {shards}"
+        );
+    }
+    Ok(())
+}

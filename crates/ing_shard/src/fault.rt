@@ -13,6 +13,9 @@ pub enum PushFault {
     /// A count would pass 2^62.
     #[error("a counter is full")]
     CounterFull,
+    /// More entries than one push of a stream may have.
+    #[error("too many entries")]
+    TooManyEntries,
 }
 
 impl PushFault {
@@ -23,6 +26,7 @@ impl PushFault {
         match self {
             PushFault::NoMemory => 0,
             PushFault::CounterFull => 19,
+            PushFault::TooManyEntries => 32,
         }
     }
 
@@ -33,6 +37,7 @@ impl PushFault {
         match self {
             PushFault::NoMemory => "NoMemory",
             PushFault::CounterFull => "CounterFull",
+            PushFault::TooManyEntries => "TooManyEntries",
         }
     }
 }

@@ -57,3 +57,23 @@ fn a_push_is_judged_and_counted(rt: HostRuntime) -> Result<(), Fail> {
     assert_eq!(rt; shard.totals(), (2, 0));
     Ok(())
 }
+
+#[test]
+fn more_entries_than_one_push_may_have(rt: HostRuntime) -> Result<(), Fail> {
+    let mut rules = Rules::default();
+    rules.max_entries_per_push = 1;
+    let mut shard = Shard::fresh(rt.alloc(), rules);
+    let tenant = Tenant::of_text(rt.alloc(), "acme")?;
+    let labels = Labels::of_pairs(rt.alloc(), &[("app", "web")], &LIMITS)?;
+    let entries = two_entries(rt.alloc())?;
+    let fault = shard
+        .push(rt.alloc(), &tenant, &labels, &entries, stamp(1)?)
+        .err();
+    assert_eq!(rt; fault, Some(PushFault::TooManyEntries));
+    assert_eq!(rt;
+        fault.map(|fault| (fault.number(), fault.name())),
+        Some((32, "TooManyEntries"))
+    );
+    assert_eq!(rt; shard.totals(), (0, 0));
+    Ok(())
+}

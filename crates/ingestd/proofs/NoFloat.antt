@@ -18,7 +18,7 @@ use Rattle.ingestd.specs.declared.command.fault.LineFault.{LineFault}
 use Rattle.ingestd.specs.Commands.{Command, StreamEntries}
 use Rattle.ingestd.specs.Outcome.{number_of, name_of}
 use Rattle.ingestd.specs.Replies.{verdict_data, fault_data, judged_data}
-use Rattle.ingestd.specs.Session.{limits_of, is_too_much, reply_for, after_stream, stream_replies, command_reply}
+use Rattle.ingestd.specs.Session.{limits_of, is_too_many, is_too_much, reply_for, after_stream, stream_replies, command_reply}
 
 fault_has_none : (name : List ℕ) (n : ℕ) (at : Option ℕ) → has_float (fault_data name n at) ≡ false
 fault_has_none name n None = refl
@@ -49,7 +49,7 @@ module _ (rules : Rules) (tenant : List ℕ) (now : ℕ) where
 
   reply_has_none : (s : StreamEntries) (st : State) (labels : Result LabelMap LabelFault) → has_float (reply_for rules tenant now s st labels) ≡ false
   reply_has_none s st (Err fault) = fault_has_none (label_faults.fault_name fault) (label_faults.fault_number fault) (label_faults.fault_place fault)
-  reply_has_none s st (Ok labels) = chosen (is_too_much st s) _ _ refl (judged_has_none (canonical_of labels) false (verdicts_of rules (stream_of tenant labels) now s.entries st))
+  reply_has_none s st (Ok labels) = chosen (is_too_many rules s) _ _ refl (chosen (is_too_much st s) _ _ refl (judged_has_none (canonical_of labels) false (verdicts_of rules (stream_of tenant labels) now s.entries st)))
 
   streams_have_none : (ss : List StreamEntries) (st : State) → items_have_float (items_of (stream_replies rules tenant now ss st)) ≡ false
   streams_have_none [] st = refl

@@ -23,6 +23,10 @@ use Rattle.ingestd.specs.Replies.{fault_data, judged_data, push_data, report_dat
 abbrev pub limits_of : Rules → LabelLimits
 limits_of rules = record { names = rules.max_label_names; name_bytes = rules.max_label_name_length; value_bytes = rules.max_label_value_length }
 
+-- more entries than one push of a stream may have
+abbrev pub is_too_many : Rules → StreamEntries → Bool
+is_too_many rules s = nat_lt rules.max_entries_per_push (length s.entries)
+
 -- the entries of the shard and these would pass 2^62
 abbrev pub is_too_much : State → StreamEntries → Bool
 is_too_much st s = nat_lt (2 ^ 62) (length st.rows + length s.entries)
@@ -36,7 +40,8 @@ label_fault fault = fault_data (label_faults.fault_name fault) (label_faults.fau
 abbrev pub reply_for : Rules → List ℕ → ℕ → StreamEntries → State → Result LabelMap LabelFault → Data
 reply_for rules tenant now s st (Err fault) = label_fault fault
 reply_for rules tenant now s st (Ok labels) =
-    if is_too_much st s then fault_data (codes "CounterFull") 19 None
+    if is_too_many rules s then fault_data (codes "TooManyEntries") 32 None
+    else if is_too_much st s then fault_data (codes "CounterFull") 19 None
     else judged_data (canonical_of labels) false (verdicts_of rules (stream_of tenant labels) now s.entries st)
 
 abbrev pub stream_reply : Rules → List ℕ → ℕ → StreamEntries → State → Data
@@ -45,7 +50,7 @@ stream_reply rules tenant now s st = reply_for rules tenant now s st (labels_of 
 -- a refused stream changes nothing
 abbrev pub left_for : Rules → List ℕ → ℕ → StreamEntries → State → Result LabelMap LabelFault → State
 left_for rules tenant now s st (Err fault) = st
-left_for rules tenant now s st (Ok labels) = if is_too_much st s then st else after_push rules (stream_of tenant labels) now s.entries st
+left_for rules tenant now s st (Ok labels) = if is_too_many rules s then st else if is_too_much st s then st else after_push rules (stream_of tenant labels) now s.entries st
 
 abbrev pub after_stream : Rules → List ℕ → ℕ → StreamEntries → State → State
 after_stream rules tenant now s st = left_for rules tenant now s st (labels_of (limits_of rules) s.labels)

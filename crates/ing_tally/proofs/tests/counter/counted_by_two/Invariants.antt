@@ -1,0 +1,5 @@
+use Rattle.ing_tally.proofs.tests.counter.counted_by_two.Given as goal
+
+-- the book that was just opened
+abbrev pub ghosts-count_by_two : goal.ghosts-count_by_two
+ghosts-count_by_two g a = record { book = a.book.name }
