@@ -4,3 +4,14 @@ pub mod Joined
 pub mod Exact
 pub mod Made
 pub mod Kept
+pub mod Spelt
+pub mod Complete
+pub mod Chars
+pub mod Ends
+pub mod Mapped
+pub mod Looked
+pub mod Rising
+pub mod CanonicalSpelt
+pub mod CanonicalWhole
+pub mod CanonicalChars
+pub mod CanonicalEnds

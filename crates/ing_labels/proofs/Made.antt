@@ -26,7 +26,7 @@ pub entries-empty : entries (empty {X = List ℕ} {R = name_order}) ≡ []
 entries-empty = no_length _ (sym (len-entries (empty {X = List ℕ} {R = name_order})) ∙ len-empty name_order (List ℕ))
 
 -- one more entry in its place
-texts-insert_entry : {Z : Type 0} (es : List (String Z × String Z)) (k v : String Z) → entry_texts (insert_entry string_cmp es k v) ≡ put name_order (string_bytes k) (string_bytes v) (entry_texts es)
+pub texts-insert_entry : {Z : Type 0} (es : List (String Z × String Z)) (k v : String Z) → entry_texts (insert_entry string_cmp es k v) ≡ put name_order (string_bytes k) (string_bytes v) (entry_texts es)
 texts-insert_entry [] k v = refl
 texts-insert_entry (e ∷ es) k v =
     elim (slice_cmp nat_cmp (string_bytes k) (string_bytes e.0)) as (λ r. entry_texts (match_ordering r ((k, v) ∷ e ∷ es) ((e.0, v) ∷ es) (e ∷ insert_entry string_cmp es k v)) ≡ by_order r ((string_bytes k, string_bytes v) ∷ entry_texts (e ∷ es)) ((string_bytes e.0, string_bytes v) ∷ entry_texts es) ((string_bytes e.0, string_bytes e.1) ∷ put name_order (string_bytes k) (string_bytes v) (entry_texts es))) [

@@ -5,3 +5,9 @@ pub mod Canonical
 pub mod Rows
 pub mod Texts
 pub mod Held
+pub mod Selectors
+pub mod Reading
+pub mod TextFaults
+pub mod LabelValues
+pub mod CanonicalTexts
+pub mod CanonicalReading

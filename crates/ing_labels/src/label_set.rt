@@ -3,11 +3,13 @@ ghost use Rattle.std.specs.Prelude.{◌≡◌, ◌≢◌, IfOk, IfErr};
 ghost use Rattle.std.specs.String.{string_bytes};
 
 use crate::canonical::canonical_text;
+use crate::canonical_reader::read_pairs;
 use crate::checks::{
     first_bad_name, first_long_name, first_long_value, first_repeated_name, value_count,
     values_by_name,
 };
 use crate::fault::{LabelFault, LabelLimits};
+use crate::text_fault::TextFault;
 use std::alloc::{AllocError, Global};
 use std::collections::BTreeMap;
 use std::marker::Model;
@@ -40,6 +42,8 @@ impl Model for Labels {
 impl Labels {
     ghost use Rattle.ing_labels.specs.Labels.{labels_of, texts, IsLabelSet, HoldsPairs, KeepsLimits};
     ghost use Rattle.ing_labels.specs.Canonical.{canonical_of};
+    ghost use Rattle.ing_labels.specs.CanonicalTexts.{IsCanonicalFault};
+    ghost use Rattle.ing_labels.specs.LabelValues.{label_value};
 
     /// The labels of a list of pairs of a name and a value. A label with an empty value is the same as
     /// an absent one. `at` counts the pairs as given, also those with an empty value.
@@ -89,6 +93,29 @@ impl Labels {
         }
         let values = values_by_name(alloc, pairs)?;
         Ok(Labels { values })
+    }
+
+    /// The labels of a canonical name: exactly the texts that `canonical` writes are read, whatever their
+    /// length. `NotCanonical`: the text is none; `at` is the length of its longest front, in bytes, with
+    /// which some canonical name begins. `NoMemory` may stand in place of any other answer. (The form is
+    /// that of Prometheus' label sets; that no other spelling is read is this crate's own rule.)
+    pub fn parse_canonical(alloc: Global, text: &str) -> Result<Labels, TextFault>
+        ensures text { IfOk result (λ l. text.now ≡ canonical_of l) }
+        ensures label_set { IfOk result IsLabelSet }
+        ensures fault { IfErr result (IsCanonicalFault text.now) }
+    {
+        let values = read_pairs(alloc, text)?;
+        Ok(Labels { values })
+    }
+
+    /// The value of a label: the empty text where the label is absent (Loki documentation: labels).
+    pub fn value(&self, name: &str) -> &str
+        ensures { result.now ≡ label_value self.now name.now }
+    {
+        match self.values.get(name) {
+            Some(value) => value.as_str(),
+            None => "",
+        }
     }
 
     /// The canonical name, as `{a="x", b="y"}`: names in byte order, `, ` between pairs, and in a value a

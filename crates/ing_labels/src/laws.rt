@@ -1,5 +1,6 @@
 // What the definitions say, as contracts of functions that do nothing.
 ghost use Rattle.ing_labels.specs.Canonical.{CanonicalNamesAreExact};
+ghost use Rattle.ing_labels.specs.Selectors.{SelectorTextsAreExact};
 ghost use Rattle.ing_labels.specs.Rows.{EmptyValuesAreAbsent, CanonicalEscapes, BadNameComesFirst, EmptyValueRepeats, NoValueNoLabels};
 
 /// Two label maps, of label names, have equal canonical names exactly where they are equal.
@@ -18,4 +19,9 @@ pub fn worked_refusals()
     ensures bad_name_comes_first { BadNameComesFirst }
     ensures empty_value_repeats { EmptyValueRepeats }
     ensures no_value_no_labels { NoValueNoLabels }
+{}
+
+/// A text is the text of one list of matchers at most.
+pub fn selector_texts_are_exact()
+    ensures { SelectorTextsAreExact }
 {}

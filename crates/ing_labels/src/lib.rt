@@ -1,16 +1,26 @@
-//! The labels of a stream: label names, label maps and their canonical names.
+//! The labels of a stream: label names, label maps, their canonical names, and selectors.
 #![tactic(auto)]
 
 mod canonical;
+mod canonical_reader;
 mod checks;
 mod fault;
 mod label_set;
 mod laws;
+mod matcher;
 mod names;
+mod selector;
+mod selector_reader;
+mod text_fault;
 
 pub use fault::{LabelFault, LabelLimits};
 pub use label_set::Labels;
-pub use laws::{canonical_names_are_exact, worked_canonical_names, worked_refusals};
+pub use laws::{
+    canonical_names_are_exact, selector_texts_are_exact, worked_canonical_names, worked_refusals,
+};
+pub use matcher::{MatchOp, Matcher};
+pub use selector::Selector;
+pub use text_fault::TextFault;
 
 #[cfg(test)]
 mod tests;

@@ -1,5 +1,5 @@
-// Worked lists of pairs.
-use crate::{LabelFault, LabelLimits, Labels};
+// Worked lists of pairs, and worked texts.
+use crate::{LabelFault, LabelLimits, Labels, Selector, TextFault};
 use std::test::Fail;
 
 const WIDE: LabelLimits = LabelLimits {
@@ -91,4 +91,110 @@ fn faults_have_numbers_and_names(rt: HostRuntime) -> Result<(), Fail> {
         "pair 1 has the name of an earlier pair"
     );
     Ok(())
+}
+
+// Whether a selector matches the labels a=1 and b="x y".
+fn is_match(rt: &HostRuntime, text: &str) -> Result<bool, Fail> {
+    let labels = Labels::of_pairs(rt.alloc(), &[("a", "1"), ("b", "x y")], &WIDE)?;
+    let selector = Selector::parse(rt.alloc(), text)?;
+    Ok(selector.matches(&labels))
+}
+
+#[test]
+fn selectors_match(rt: HostRuntime) -> Result<(), Fail> {
+    assert_eq!(rt; is_match(&rt, "{a=\"1\"}")?, true);
+    assert_eq!(rt; is_match(&rt, " {\ta = \"1\" ,\r\nb!=\"x\"\n} ")?, true);
+    assert_eq!(rt; is_match(&rt, "{a=\"1\",a!=\"1\"}")?, false);
+    assert_eq!(rt; is_match(&rt, "{a=\"1\",c=\"\"}")?, true);
+    assert_eq!(rt; is_match(&rt, "{a=\"1\",c!=\"\"}")?, false);
+    assert_eq!(rt; is_match(&rt, "{a=\"1\",b=\"x y\"}")?, true);
+    Ok(())
+}
+
+// The fault of a selector text.
+fn selector_fault(rt: &HostRuntime, text: &str) -> Option<TextFault> {
+    Selector::parse(rt.alloc(), text).err()
+}
+
+#[test]
+fn selectors_are_refused(rt: HostRuntime) {
+    assert_eq!(rt; selector_fault(&rt, "{}"), Some(TextFault::TooWide));
+    assert_eq!(rt; selector_fault(&rt, "{a!=\"1\"}"), Some(TextFault::TooWide));
+    assert_eq!(rt; selector_fault(&rt, "{a=\"\"}"), Some(TextFault::TooWide));
+    assert_eq!(rt;
+        selector_fault(&rt, "{a=~\"x\"}"),
+        Some(TextFault::BadSelector { at: 3 })
+    );
+    assert_eq!(rt;
+        selector_fault(&rt, "{}x"),
+        Some(TextFault::BadSelector { at: 2 })
+    );
+    assert_eq!(rt;
+        selector_fault(&rt, "{a=\"é\",}"),
+        Some(TextFault::BadSelector { at: 8 })
+    );
+    assert_eq!(rt;
+        selector_fault(&rt, "{a=\"1\""),
+        Some(TextFault::BadSelector { at: 6 })
+    );
+}
+
+#[test]
+fn text_faults_have_numbers_and_names(rt: HostRuntime) -> Result<(), Fail> {
+    let fault = TextFault::BadSelector { at: 3 };
+    assert_eq!(rt; fault.number(), 8);
+    assert_eq!(rt; fault.name(), "BadSelector");
+    assert_eq!(rt; fault.at(), Some(3));
+    assert_eq!(rt;
+        format!(in rt.alloc(); "{fault}")?.as_str(),
+        "no selector, from byte 3 on"
+    );
+    Ok(())
+}
+
+#[test]
+fn canonical_names_are_read_back(rt: HostRuntime) -> Result<(), Fail> {
+    let text = "{Z_=\"{}=,\", _Z9=\"\té€'\", m=\"a\\\"b\\\\c\\nd\"}";
+    let labels = Labels::parse_canonical(rt.alloc(), text)?;
+    assert_eq!(rt; labels.value("m"), "a\"b\\c\nd");
+    assert_eq!(rt; labels.value("n"), "");
+    assert_eq!(rt; labels.canonical(rt.alloc())?.as_str(), text);
+    Ok(())
+}
+
+// The fault of a text that is no canonical name.
+fn canonical_fault(rt: &HostRuntime, text: &str) -> Option<TextFault> {
+    Labels::parse_canonical(rt.alloc(), text).err()
+}
+
+#[test]
+fn other_texts_are_not_canonical(rt: HostRuntime) {
+    assert_eq!(rt;
+        canonical_fault(&rt, "{b=\"1\", a=\"2\"}"),
+        Some(TextFault::NotCanonical { at: 8 })
+    );
+    assert_eq!(rt;
+        canonical_fault(&rt, "{b=\"1\", b=\"2\"}"),
+        Some(TextFault::NotCanonical { at: 9 })
+    );
+    assert_eq!(rt;
+        canonical_fault(&rt, "{bd=\"1\", bc=\"2\"}"),
+        Some(TextFault::NotCanonical { at: 10 })
+    );
+    assert_eq!(rt;
+        canonical_fault(&rt, "{a=\"\"}"),
+        Some(TextFault::NotCanonical { at: 4 })
+    );
+    assert_eq!(rt;
+        canonical_fault(&rt, "{a=\"1\""),
+        Some(TextFault::NotCanonical { at: 6 })
+    );
+    assert_eq!(rt;
+        canonical_fault(&rt, "{}"),
+        Some(TextFault::NotCanonical { at: 1 })
+    );
+    assert_eq!(rt;
+        canonical_fault(&rt, "{a=\"1\",b=\"2\"}"),
+        Some(TextFault::NotCanonical { at: 7 })
+    );
 }

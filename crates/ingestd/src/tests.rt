@@ -178,6 +178,18 @@ fn entries_up_to_the_limit(rt: HostRuntime) -> Result<(), Fail> {
 }
 
 #[test]
+fn no_labels_is_refused(rt: HostRuntime) -> Result<(), Fail> {
+    let input = push_line(&rt, r#"{"a":""}"#, r#"["1","x"]"#)?;
+    let alloc = rt.alloc();
+    let report = report_line(&rt, 0)?;
+    let output = format!(in alloc;
+        "{{\"push\":[{{\"error\":\"NoLabels\",\"number\":3}}]}}\n{report}"
+    )?;
+    assert_eq!(rt; written(&rt, input.as_str()).as_str(), output.as_str());
+    Ok(())
+}
+
+#[test]
 fn refused_streams_have_their_fault_in_their_place(rt: HostRuntime) -> Result<(), Fail> {
     let alloc = rt.alloc();
     let cases = [

@@ -1,0 +1,7 @@
+use Rattle.std.specs.Str.Iter.{chars_rest}
+use Rattle.ing_labels.specs.Reading.{reading_of}
+use Rattle.ing_labels.proofs.Ends.{ReadTo}
+use Rattle.ing_labels.proofs.selector_reader.read_matchers.Given as goal
+
+abbrev pub invariant-loop-c : goal.invariant-loop-c
+invariant-loop-c l = ReadTo l.text (chars_rest l.c-iterator) l.at (reading_of l.state)

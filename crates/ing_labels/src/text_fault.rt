@@ -1,0 +1,66 @@
+// Why a text is refused.
+ghost use Rattle.std.specs.Prelude.{◌≡◌};
+ghost use Rattle.ing_labels.specs.TextFaults.{text_fault_number, text_fault_name, text_fault_place};
+
+use std::alloc::AllocError;
+use thiserror::Error;
+
+/// Why a text is no canonical name, or no selector that may be used. `at` is the length, in bytes, of
+/// the longest front of the text with which some text of the kind begins.
+#[derive(Clone, Copy, Debug, PartialEq, Eq, Error)]
+pub enum TextFault {
+    #[error("out of memory")]
+    NoMemory,
+    #[error("no canonical name, from byte {at} on")]
+    NotCanonical { at: usize },
+    #[error("no selector, from byte {at} on")]
+    BadSelector { at: usize },
+    #[error("no matcher asks for one value that is not empty")]
+    TooWide,
+}
+
+impl TextFault {
+    /// The number by which replies name the fault: 0, or 7 to 9 (own numbering, after `LabelFault`'s).
+    pub fn number(&self) -> u32
+        ensures { result ≡ text_fault_number self.now }
+    {
+        match self {
+            TextFault::NoMemory => 0,
+            TextFault::NotCanonical { .. } => 7,
+            TextFault::BadSelector { .. } => 8,
+            TextFault::TooWide => 9,
+        }
+    }
+
+    /// The word by which replies name the fault (own).
+    pub fn name(&self) -> &'static str
+        ensures { result.now ≡ text_fault_name self.now }
+    {
+        match self {
+            TextFault::NoMemory => "NoMemory",
+            TextFault::NotCanonical { .. } => "NotCanonical",
+            TextFault::BadSelector { .. } => "BadSelector",
+            TextFault::TooWide => "TooWide",
+        }
+    }
+
+    /// The place in the text, in bytes, of the two faults that speak of one, and else `None`.
+    pub fn at(&self) -> Option<usize>
+        ensures { result ≡ text_fault_place self.now }
+    {
+        match self {
+            TextFault::NotCanonical { at } | TextFault::BadSelector { at } => Some(*at),
+            TextFault::NoMemory | TextFault::TooWide => None,
+        }
+    }
+}
+
+impl From<AllocError> for TextFault {
+    ghost use Rattle.ing_labels.specs.declared.text_fault.TextFault.TheVariants.{NoMemory};
+
+    ghost from_gives = { λ _ e. e ≡ NoMemory };
+
+    fn from(_: AllocError) -> Self {
+        Self::NoMemory
+    }
+}
