@@ -6,7 +6,7 @@ ghost use Rattle.ing_tally.specs.Views.{IsShare, IsFirstOf, IsCovered, Becomes, 
 use crate::rule::{Add, HandOut, Issue, Look, Retire, Seat, Table, Take, TakeIn};
 use crate::share::Share;
 
-// Adds n to the word. The book holds a share, and holds n more of the number.
+/// Adds n to the word. The book holds a share, and holds n more of the number.
 pub fn add(table: &Table, book: &mut Seat, n: u64)
     requires book { IsFirstOf table.now.shared.table_id book.old }
     requires share { book.old.me.0.shares ≡ 1 }
@@ -16,7 +16,7 @@ pub fn add(table: &Table, book: &mut Seat, n: u64)
     table.shared.fetch_add::<Add>(book, 0, n);
 }
 
-// Takes n from the word. The book held as much of the number.
+/// Takes n from the word. The book held as much of the number.
 pub fn take(table: &Table, book: &mut Seat, n: u64)
     requires book { IsFirstOf table.now.shared.table_id book.old }
     requires share { book.old.me.0.shares ≡ 1 }
@@ -27,7 +27,7 @@ pub fn take(table: &Table, book: &mut Seat, n: u64)
     table.shared.fetch_sub::<Take>(book, 0, n);
 }
 
-// Reads the word.
+/// Reads the word.
 pub fn look(table: &Table, book: &mut Seat)
     requires { IsFirstOf table.now.shared.table_id book.old }
     ensures view { Becomes book.old book.new book.old.me.0 }
@@ -36,7 +36,7 @@ pub fn look(table: &Table, book: &mut Seat)
     table.shared.load::<Look>(book, 0);
 }
 
-// The shares that the book holds, of amount 0, are out no longer.
+/// The shares that the book holds, of amount 0, are out no longer.
 pub fn retire(table: &Table, book: &mut Seat)
     requires book { IsFirstOf table.now.shared.table_id book.old }
     requires zero { book.old.me.0.amount ≡ 0 }
@@ -46,7 +46,7 @@ pub fn retire(table: &Table, book: &mut Seat)
     table.shared.load::<Retire>(book, 0);
 }
 
-// A new share of 0.
+/// A new share of 0.
 pub fn issue(table: &Table, book: &mut Seat) -> Seat
     requires { IsFirstOf table.now.shared.table_id book.old }
     ensures book { Becomes book.old book.new (one_more_out book.old.me.0) }
@@ -55,7 +55,7 @@ pub fn issue(table: &Table, book: &mut Seat) -> Seat
     table.shared.split_seat::<Issue>(book)
 }
 
-// All that a seat holds, of one share, in a new seat.
+/// All that a seat holds, of one share, in a new seat.
 pub fn hand_out(table: &Table, from: &mut Seat) -> Seat
     requires same_table { from.old.table_id ≡ table.now.shared.table_id }
     requires one_word { table.now.shared.table_id.words ≡ 1 }
@@ -66,7 +66,7 @@ pub fn hand_out(table: &Table, from: &mut Seat) -> Seat
     table.shared.split_seat::<HandOut>(from)
 }
 
-// The book takes in what a share holds.
+/// The book takes in what a share holds.
 pub fn take_in(table: &Table, book: &mut Seat, share: Seat)
     requires book { IsFirstOf table.now.shared.table_id book.old }
     requires same_table { share.table_id ≡ table.now.shared.table_id }
@@ -76,7 +76,7 @@ pub fn take_in(table: &Table, book: &mut Seat, share: Seat)
     table.shared.join_seat::<TakeIn>(book, share);
 }
 
-// The book takes in what all these shares hold.
+/// The book takes in what all these shares hold.
 pub fn take_in_all(table: &Table, book: &mut Seat, mut shares: Vec<Share>)
     requires book { IsFirstOf table.now.shared.table_id book.old }
     requires ours { AreOf (name_of table.now.shared.table_id) shares.items }
