@@ -21,8 +21,8 @@ pub use place::{Place, SealReason};
 pub use placement::shard_of;
 pub use plain::Plain;
 pub use rules::Rules;
-pub use stamp::{Stamp, window_limit};
-pub use tenant::Tenant;
+pub use stamp::{Stamp, value_of_digits, window_limit};
+pub use tenant::{Tenant, is_tenant_id};
 pub use verdict::Verdict;
 
 #[cfg(test)]

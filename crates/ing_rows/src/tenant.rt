@@ -31,7 +31,7 @@ impl Tenant {
         ensures valid { IfOk result (λ _. is_tenant text.now ≡ true) }
         ensures refused { IfErr result (λ fault. fault ≢ RowFault.NoMemory → (fault ≡ RowFault.BadTenant) × (is_tenant text.now ≡ false)) }
     {
-        if !is_tenant_text(text) {
+        if !is_tenant_id(text) {
             return Err(RowFault::BadTenant);
         }
         let text = String::from_str(alloc, text)?;
@@ -55,7 +55,9 @@ impl Tenant {
     }
 }
 
-fn is_tenant_text(text: &str) -> bool
+/// Whether a text is a tenant id: 1 to 150 bytes of ASCII letters, digits and `!-_.*'()`, and neither `.` nor `..`
+/// (Loki documentation: multi-tenancy). Takes no memory.
+pub fn is_tenant_id(text: &str) -> bool
     ensures { result ≡ is_tenant text.now }
 {
     let bytes = text.as_bytes();

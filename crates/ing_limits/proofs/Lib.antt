@@ -1,0 +1,4 @@
+pub mod Sums
+pub mod Least
+pub mod Numbers
+pub mod Ranges

@@ -1,0 +1,16 @@
+//! The settings of a log store's ingester, read from TOML.
+#![tactic(auto)]
+
+mod duration;
+mod fault;
+mod flaws;
+mod keys;
+mod laws;
+mod settings;
+
+pub use fault::SettingsFault;
+pub use laws::{worked_durations, worked_refusals};
+pub use settings::Settings;
+
+#[cfg(test)]
+mod tests;

@@ -1,0 +1,222 @@
+// The settings of a store.
+ghost use Rattle.std.specs.Prelude.{◌≡◌, ◌<◌, IfOk, IfErr, IfSome, Ok, Err, codes};
+ghost use Rattle.toml.specs.View.{view, table_view};
+ghost use Rattle.ing_limits.specs.Held.{held_tenants};
+ghost use Rattle.ing_limits.specs.Settings as settings;
+ghost use Rattle.ing_limits.specs.Small.{IsSmall};
+
+use crate::fault::SettingsFault;
+use crate::flaws::{Flaw, first_flawed, tenants_in};
+use crate::keys::{Level, kind_of, number_of};
+use ing_rows::{Rules, Tenant};
+use std::alloc::{AllocError, Global};
+use std::marker::Model;
+use toml::{Table, Value};
+
+/// A tenant and the tenant's rules.
+#[derive(Debug, Drop)]
+pub struct TenantRules {
+    tenant: String,
+    rules: Rules,
+}
+
+/// The settings of a store (Loki documentation: ingester and limits configuration; the names in TOML are own).
+#[derive(Debug, Drop)]
+pub struct Settings {
+    shards: u32,
+    flushers: u32,
+    flush_queue_length: u32,
+    rules: Rules,
+    tenants: Vec<TenantRules>,
+}
+
+impl Model for Settings {
+    ghost use Rattle.ing_limits.specs.Settings.{StoreSettings};
+
+    ghost Value = { StoreSettings };
+
+    ghost use Rattle.ing_limits.specs.Coded.{settings_code};
+
+    ghost coded = { settings_code };
+
+    ghost use Rattle.ing_limits.specs.Held.{held_settings};
+
+    ghost view = { held_settings };
+
+    ghost use Rattle.ing_limits.specs.Held.{IsHeld};
+
+    ghost invariant = { IsHeld };
+}
+
+/// The number at a key of a table, or the default.
+fn setting(table: &Table, level: Level, key: &str, default: u64) -> u64
+    ensures { result ≡ settings.setting level key.now default (table_view table.now) }
+{
+    match table.get(key) {
+        Some(value) => match kind_of(level, key) {
+            Some(kind) => number_of(kind, value).unwrap_or(default),
+            None => default,
+        },
+        None => default,
+    }
+}
+
+/// The limits in a table, and the given ones where it has none.
+fn limits_in(given: &Rules, table: &Table) -> Rules
+    ensures { result ≡ settings.limits_in given.now (table_view table.now) }
+{
+    let limit = |key, default| setting(table, Level::Tenant, key, default);
+    Rules {
+        max_label_names: limit("max_label_names", given.max_label_names),
+        max_label_name_length: limit("max_label_name_length", given.max_label_name_length),
+        max_label_value_length: limit("max_label_value_length", given.max_label_value_length),
+        max_line_size: limit("max_line_size", given.max_line_size),
+        max_streams_per_tenant: limit("max_streams_per_tenant", given.max_streams_per_tenant),
+        max_entries_per_push: limit("max_entries_per_push", given.max_entries_per_push),
+        ..*given
+    }
+}
+
+/// The rules of the tenants that have no table.
+fn common_rules(table: &Table) -> Rules
+    ensures { result ≡ settings.common_rules (table_view table.now) }
+{
+    let limits = limits_in(&Rules::default(), table);
+    Rules {
+        chunk_block_size: setting(table, Level::Top, "chunk_block_size", 262_144),
+        chunk_target_size: setting(table, Level::Top, "chunk_target_size", 1_572_864),
+        chunk_idle_period: setting(table, Level::Top, "chunk_idle_period", 1_800_000_000_000),
+        max_chunk_age: setting(table, Level::Top, "max_chunk_age", 7_200_000_000_000),
+        ..limits
+    }
+}
+
+/// A whole number at the top of the file, or the default.
+fn count_of(table: &Table, key: &str, default: u32) -> u32
+    requires { IsSmall (settings.kind_of Level.Top key.now) }
+    ensures { result ≡ settings.setting Level.Top key.now default (table_view table.now) }
+{
+    setting(table, Level::Top, key, u64::from(default)) as u32
+}
+
+/// The rules of the tenants that have a table.
+fn tenants_of(
+    alloc: Global,
+    common: &Rules,
+    tenants: &Table,
+) -> Result<Vec<TenantRules>, AllocError>
+    ensures { IfOk result (λ held. held_tenants held.items ≡ settings.rules_by_tenant common.now (settings.entries_of (table_view tenants.now))) }
+{
+    let mut held = Vec::new(alloc);
+    for (name, value) in tenants {
+        let tenant = String::from_str(alloc, name.as_str())?;
+        let rules = rules_in(common, value);
+        held.push(TenantRules { tenant, rules })?;
+    }
+    Ok(held)
+}
+
+/// The rules of a tenant with this table.
+fn rules_in(common: &Rules, value: &Value) -> Rules
+    ensures { result ≡ settings.limits_in common.now (settings.members_in (view value.now)) }
+{
+    match value.as_table() {
+        Some(table) => limits_in(common, table),
+        None => *common,
+    }
+}
+
+/// The rules of all tenants that have a table of their own.
+fn all_tenants(alloc: Global, common: &Rules, table: &Table) -> Result<Vec<TenantRules>, AllocError>
+    ensures { IfOk result (λ held. held_tenants held.items ≡ settings.rules_by_tenant common.now (settings.entries_of (settings.members_at (codes "tenants") (table_view table.now)))) }
+{
+    match tenants_in(table) {
+        Some(tenants) => tenants_of(alloc, common, tenants),
+        None => Ok(Vec::new(alloc)),
+    }
+}
+
+impl Settings {
+    ghost use Rattle.ing_limits.specs.Settings.{settings_of, settings_in};
+    ghost use Rattle.ing_limits.specs.Faults.{refusal_of};
+    ghost use Rattle.ing_limits.specs.Ranges.{IsUpTo, AreRulesInRange, rules_for};
+
+    /// The settings that a TOML text gives. The text is tested in this order:
+    /// 1. `NotToml`: it is no TOML document.
+    /// 2. `UnknownSetting`: there is no setting of a name in it.
+    /// 3. `BadSetting`: a value is out of its range or of another type.
+    ///
+    /// Of several unknown names, or several bad settings, the first dotted name in byte order is given. `NoMemory` may
+    /// stand in place of any other answer. (Loki documentation: ingester and limits configuration; TOML, the ranges
+    /// and the order of the tests are own.)
+    pub fn from_toml(alloc: Global, text: &str) -> Result<Settings, SettingsFault>
+        ensures settings { IfOk result (λ s. settings_of text.now ≡ Ok s) }
+        ensures refused { IfErr result (λ fault. IfSome (refusal_of fault) (λ refusal. settings_of text.now ≡ Err refusal)) }
+    {
+        let table = match toml::table_from_str(alloc, text) {
+            Ok(table) => table,
+            Err(error) if error.is_memory() => return Err(SettingsFault::NoMemory),
+            Err(_) => return Err(SettingsFault::NotToml),
+        };
+        if let Some(name) = first_flawed(alloc, Flaw::Unknown, &table)? {
+            return Err(SettingsFault::UnknownSetting { name });
+        }
+        if let Some(name) = first_flawed(alloc, Flaw::Bad, &table)? {
+            return Err(SettingsFault::BadSetting { name });
+        }
+        Ok(Settings::of_table(alloc, &table)?)
+    }
+
+    /// The settings in a table without unknown names and bad values.
+    fn of_table(alloc: Global, table: &Table) -> Result<Settings, AllocError>
+        ensures { IfOk result (λ s. s ≡ settings_in (table_view table.now)) }
+    {
+        let rules = common_rules(table);
+        let tenants = all_tenants(alloc, &rules, table)?;
+        Ok(Settings {
+            shards: count_of(table, "shards", 1),
+            flushers: count_of(table, "flushers", 1),
+            flush_queue_length: count_of(table, "flush_queue_length", 1024),
+            rules,
+            tenants,
+        })
+    }
+
+    /// How many shards there are.
+    pub fn shards(&self) -> u32
+        ensures value { result ≡ self.now.shards }
+        ensures range { IsUpTo 64 result }
+    {
+        self.shards
+    }
+
+    /// How many flushers there are.
+    pub fn flushers(&self) -> u32
+        ensures value { result ≡ self.now.flushers }
+        ensures range { IsUpTo 32 result }
+    {
+        self.flushers
+    }
+
+    /// How many operations the flush queue holds at most.
+    pub fn flush_queue_length(&self) -> u32
+        ensures value { result ≡ self.now.flush_queue_length }
+        ensures range { IsUpTo 65536 result }
+    {
+        self.flush_queue_length
+    }
+
+    /// The rules of a tenant: the tenant's own, or those of all tenants where it has no table. Takes no memory, and time
+    /// in proportion to the number of tenants with a table.
+    pub fn for_tenant(&self, tenant: &Tenant) -> &Rules
+        ensures rules { result.now ≡ rules_for self.now tenant.now }
+        ensures range { AreRulesInRange result.now }
+    {
+        for held in &self.tenants {
+            if tenant.as_str().cmp(held.tenant.as_str()).is_eq() {
+                return &held.rules;
+            }
+        }
+        &self.rules
+    }
+}
