@@ -5,7 +5,7 @@ use Rattle.ing_rows.specs.declared.entry.Entry.{Entry}
 use Rattle.ing_rows.specs.declared.rules.Rules.{Rules}
 use Rattle.ing_rows.specs.declared.verdict.Verdict.{Verdict}
 use Rattle.ing_rows.specs.declared.verdict.Verdict.TheVariants.{Accepted, Duplicate, LineTooLong, TooFarBehind, TooManyStreams}
-use Rattle.ing_rows.specs.Rows.{StreamKey, Row, State, count_of}
+use Rattle.ing_rows.specs.Rows.{StreamKey, State, count_of}
 use Rattle.ing_rows.specs.Verdicts.{verdict_of}
 use Rattle.ing_rows.specs.Steps.{in_head, chunk_for, added, cut, filled, accepted, after_entry, after_push, verdicts_of}
 use Rattle.ing_rows.specs.Kept.{Numbered, numbered}

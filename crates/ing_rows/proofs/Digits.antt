@@ -1,5 +1,5 @@
 -- Digits read from the left have the value of their places.
-use Rattle.std.proofs.Common.{◌≡◌, ℕ, suc, ◌+◌, ◌-◌, ◌*◌, ◌^◌, ◌<◌, ◌≤◌, ◌∙◌, ◌&&◌, Bool, true, false, List, [], ◌∷◌, length, drop, get_or, refl, sym, ap, arith, nat_le, length-drop, drop-cons, add-one}
+use Rattle.std.proofs.Common.{◌≡◌, ℕ, suc, ◌+◌, ◌-◌, ◌*◌, ◌^◌, ◌<◌, ◌≤◌, ◌∙◌, ◌&&◌, true, List, ◌∷◌, length, drop, get_or, sym, ap, arith, nat_le, length-drop, drop-cons, add-one}
 use Rattle.std.proofs.Math.Nat.{pow-suc, pow-le-pow_right}
 use Rattle.std.proofs.lemmas.Bool.Decides.{nat_tests}
 use Rattle.ing_rows.specs.Texts.{is_digit, digits_value}

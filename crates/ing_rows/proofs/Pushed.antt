@@ -10,7 +10,7 @@ use Rattle.ing_rows.specs.declared.verdict.Verdict.{Verdict}
 use Rattle.ing_rows.specs.declared.verdict.Verdict.TheVariants.{Accepted, Duplicate, LineTooLong, TooFarBehind, TooManyStreams}
 use Rattle.ing_rows.specs.Rows.{StreamKey, Row, Mark, State, IsSame, same_stream, rows_of, count_of, greatest_stamp, highest_of, later, latest, last_of, has_stream, streams_of, is_live, is_stored, live_streams}
 use Rattle.ing_rows.specs.Verdicts.{window_limit, is_entry, verdict_of}
-use Rattle.ing_rows.specs.Steps.{moved, in_head, chunk_for, added, cut, filled, accepted, PushesEntry, Pushes, after_entry, after_push, verdicts_of}
+use Rattle.ing_rows.specs.Steps.{moved, in_head, chunk_for, added, cut, filled, accepted, Pushes, after_entry, after_push, verdicts_of}
 use Rattle.ing_rows.specs.Kept.{Numbered, numbered, AreUnstored, Shows, as_row, as_rows, kept_after, kept_verdicts, kept_after_push}
 
 same_state : (st : State) → IsSame st st

@@ -1,6 +1,6 @@
 -- The events of a shard and its replies, which steps they allow, and whole runs.
 -- What names no section of the Loki documentation is own.
-use Rattle.std.specs.Prelude.{◌≡◌, ℕ, ◌+◌, ◌-◌, ◌^◌, ◌<◌, ◌≤◌, Bool, true, false, ◌&&◌, ◌||◌, List, [], ◌∷◌, ◌++◌, filter, length, ◌==◌, nat_lt, nat_le, is_some, None, Some}
+use Rattle.std.specs.Prelude.{◌≡◌, ℕ, ◌+◌, ◌-◌, ◌^◌, ◌<◌, ◌≤◌, Bool, true, false, ◌&&◌, ◌||◌, List, [], ◌∷◌, ◌++◌, filter, length, ◌==◌, nat_lt, nat_le, is_some, Some}
 use Rattle.ing_rows.specs.declared.entry.Entry.{Entry}
 use Rattle.ing_rows.specs.declared.place.SealReason.TheVariants.{Forced}
 use Rattle.ing_rows.specs.declared.rules.Rules.{Rules}

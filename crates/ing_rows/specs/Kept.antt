@@ -1,6 +1,6 @@
 -- Rows without chunk, block and place: what was accepted, wherever it is kept.
 -- What names no section of the Loki documentation is own.
-use Rattle.std.specs.Prelude.{◌≡◌, ℕ, Bool, false, List, [], ◌∷◌, map, Option}
+use Rattle.std.specs.Prelude.{◌≡◌, ℕ, false, List, [], ◌∷◌, map}
 use Rattle.ing_rows.specs.declared.entry.Entry.{Entry}
 use Rattle.ing_rows.specs.declared.place.Place.TheVariants.{Head}
 use Rattle.ing_rows.specs.declared.rules.Rules.{Rules}

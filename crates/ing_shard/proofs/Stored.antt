@@ -1,5 +1,5 @@
 -- Where no row is stored, all of them are counted and none as stored.
-use Rattle.std.proofs.Common.{◌≡◌, ℕ, Bool, cond, List, [], ◌∷◌, length, map, filter, refl, ap, sym, ◌∙◌}
+use Rattle.std.proofs.Common.{◌≡◌, ℕ, cond, List, [], ◌∷◌, length, filter, refl, ap, sym, ◌∙◌}
 use Rattle.std.proofs.lemmas.List.{length-map}
 use Rattle.ing_rows.specs.Rows.{Row, State, is_stored}
 use Rattle.ing_rows.specs.Kept.{Numbered, numbered, AreUnstored, Shows}

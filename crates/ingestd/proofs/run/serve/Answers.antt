@@ -1,6 +1,5 @@
-use Rattle.std.proofs.Common.{◌≡◌, ◌∙◌, sym, ap, subst, List, ℕ}
+use Rattle.std.proofs.Common.{◌≡◌, subst}
 use Rattle.std.specs.Io.KnownBytes.{Appends}
-use Rattle.ing_rows.specs.Rows.{State}
 use Rattle.ing_rows.specs.Kept.{Shows}
 use Rattle.ingestd.specs.Session.{answer_to, after_line}
 use Rattle.ingestd.specs.Unread.{left}

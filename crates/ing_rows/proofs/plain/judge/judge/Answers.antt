@@ -1,6 +1,6 @@
-use Rattle.std.proofs.Common.{◌≡◌, ◌∙◌, arith, sym, ap, length}
+use Rattle.std.proofs.Common.{arith}
 use Rattle.std.proofs.lemmas.Bool.Decides.{nat_tests}
-use Rattle.ing_rows.specs.PlainRows.{rows_seen, seen, stream}
+use Rattle.ing_rows.specs.PlainRows.{seen, stream}
 use Rattle.ing_rows.proofs.Live.{has_live, bytes_self}
 use Rattle.ing_rows.proofs.plain.judge.judge.Goals as goal
 

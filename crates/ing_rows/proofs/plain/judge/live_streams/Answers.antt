@@ -1,4 +1,4 @@
-use Rattle.std.proofs.Common.{◌≡◌, ◌∙◌, take, sym, ap}
+use Rattle.std.proofs.Common.{◌∙◌, sym, ap}
 use Rattle.std.proofs.lemmas.List.{take_all}
 use Rattle.ing_rows.specs.PlainRows.{rows_seen, seen}
 use Rattle.ing_rows.proofs.Live.{firsts, live_count}
