@@ -1,11 +1,11 @@
-# run: the program on standard input.   build: the program, with all that it calls proved.
+# run: the program on standard input, with SETTINGS=FILE by that settings file.   build: the program, with all that it calls proved.
 # test: the whole gate, from nothing.   check: proves what has changed, while editing.
 .PHONY: run build check test
 program = crates/ingestd/out/ingestd
 sources = crates.txt $(shell find crates -name out -prune -o \( -name '*.rt' -o -name '*.antt' \) -print)
 
 run: $(program)
-	@$(program)
+	@$(program) $(SETTINGS)
 
 build: $(program)
 

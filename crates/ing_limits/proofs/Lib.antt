@@ -2,3 +2,5 @@ pub mod Sums
 pub mod Least
 pub mod Numbers
 pub mod Ranges
+mod First
+mod Tenants

@@ -1,5 +1,6 @@
 pub mod Durations
 pub mod Settings
+pub mod First
 pub mod Ranges
 pub mod Faults
 pub mod Held

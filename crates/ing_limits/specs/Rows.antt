@@ -1,7 +1,8 @@
 -- Worked settings.
-use Rattle.std.specs.Prelude.{◌≡◌, codes, [], Some, None, Err}
+use Rattle.std.specs.Prelude.{◌≡◌, codes, [], Some, None, Ok, Err}
 use Rattle.ing_limits.specs.Durations.{duration_of}
-use Rattle.ing_limits.specs.Settings.{settings_of, unknown_setting, bad_setting}
+use Rattle.toml.specs.Data.{no_members}
+use Rattle.ing_limits.specs.Settings.{settings_of, settings_in, unknown_setting, bad_setting}
 
 -- the parts are added up, and a fraction, an empty text and a unit alone are no durations
 pub record WorkedDurations : Type 0 where
@@ -14,8 +15,9 @@ pub record WorkedDurations : Type 0 where
   pub no_digit : duration_of (codes "h") ≡ None
   pub no_unit : duration_of (codes "1h30") ≡ None
 
--- each range ends where it says, unknown names come before bad values, and the first name in byte order before the others
+-- an empty text gives all defaults, each range ends where it says, unknown names come before bad values, and the first name in byte order before the others
 pub record WorkedRefusals : Type 0 where
+  pub empty : settings_of [] ≡ Ok (settings_in no_members)
   pub above : settings_of (codes "shards = 65\n") ≡ Err (bad_setting (codes "shards"))
   pub below : settings_of (codes "shards = 0\n") ≡ Err (bad_setting (codes "shards"))
   pub fraction : settings_of (codes "max_chunk_age = \"1.5h\"\n") ≡ Err (bad_setting (codes "max_chunk_age"))

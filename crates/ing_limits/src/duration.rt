@@ -1,4 +1,4 @@
-// Durations as settings spell them.
+//! Durations as settings spell them.
 ghost use Rattle.std.specs.Prelude.{◌≡◌, ◌+◌, ◌≤◌, ◌<◌, ◌^◌, All, IfSome, MatchOption, length, take, true};
 ghost use Rattle.ing_rows.specs.Texts.{is_digit, digits_value};
 ghost use Rattle.ing_limits.specs.Durations as durations;

@@ -1,3 +1,4 @@
+//! Why a text gives no settings.
 ghost use Rattle.std.specs.Prelude.{◌≡◌};
 ghost use Rattle.ing_limits.specs.Faults.{number_of, name_of};
 

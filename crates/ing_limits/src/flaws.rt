@@ -1,4 +1,4 @@
-// The unknown names and the bad values of a settings file.
+//! The unknown names and the bad values of a settings file.
 ghost use Rattle.std.specs.Prelude.{◌≡◌, ◌++◌, IfOk, MatchOption, codes, option_map};
 ghost use Rattle.std.specs.String.{string_bytes};
 ghost use Rattle.toml.specs.Data.{no_members};

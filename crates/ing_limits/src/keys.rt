@@ -1,4 +1,4 @@
-// The keys of a settings file, and what their values have to be.
+//! The keys of a settings file, and what their values have to be.
 ghost use Rattle.std.specs.Prelude.{◌≡◌};
 ghost use Rattle.toml.specs.View.{view};
 ghost use Rattle.ing_limits.specs.Settings as settings;

@@ -1,4 +1,5 @@
-// Worked values of the definitions, as contracts of functions that do nothing.
+//! Laws and worked values of the definitions, as contracts of functions that do nothing.
+ghost use Rattle.ing_limits.specs.First.{LeastIsFirst};
 ghost use Rattle.ing_limits.specs.Rows.{WorkedDurations, WorkedRefusals};
 
 /// Eight durations, and texts that are none.
@@ -6,7 +7,12 @@ pub fn worked_durations()
     ensures { WorkedDurations }
 {}
 
-/// Seven texts that are refused, with the name that is given.
+/// An empty text, and seven that are refused, with the name that is given.
 pub fn worked_refusals()
     ensures { WorkedRefusals }
+{}
+
+/// Of the names that are refused, the one that is given is the first in byte order.
+pub fn least_name_is_first()
+    ensures { LeastIsFirst }
 {}

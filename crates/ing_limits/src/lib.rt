@@ -9,7 +9,7 @@ mod laws;
 mod settings;
 
 pub use fault::SettingsFault;
-pub use laws::{worked_durations, worked_refusals};
+pub use laws::{least_name_is_first, worked_durations, worked_refusals};
 pub use settings::Settings;
 
 #[cfg(test)]

@@ -1,7 +1,9 @@
-// The settings of a store.
-ghost use Rattle.std.specs.Prelude.{◌≡◌, ◌<◌, IfOk, IfErr, IfSome, Ok, Err, codes};
+//! The settings of a store.
+ghost use Rattle.std.specs.Prelude.{◌≡◌, ◌<◌, ℕ, List, if◌then◌else◌, Some, None, IfOk, IfErr, IfSome, OnOk, Ok, Err, codes, bytes_eq, string_bytes};
+ghost use Rattle.std.specs.BTreeMap.{get_by_text};
+ghost use Rattle.std.specs.Option.{option_or};
 ghost use Rattle.toml.specs.View.{view, table_view};
-ghost use Rattle.ing_limits.specs.Held.{held_tenants};
+ghost use Rattle.ing_limits.specs.Held.{IsTenantRules};
 ghost use Rattle.ing_limits.specs.Settings as settings;
 ghost use Rattle.ing_limits.specs.Small.{IsSmall};
 
@@ -10,15 +12,9 @@ use crate::flaws::{Flaw, first_flawed, tenants_in};
 use crate::keys::{Level, kind_of, number_of};
 use ing_rows::{Rules, Tenant};
 use std::alloc::{AllocError, Global};
+use std::collections::BTreeMap;
 use std::marker::Model;
 use toml::{Table, Value};
-
-/// A tenant and the tenant's rules.
-#[derive(Debug, Drop)]
-pub struct TenantRules {
-    tenant: String,
-    rules: Rules,
-}
 
 /// The settings of a store (Loki documentation: ingester and limits configuration; the names in TOML are own).
 #[derive(Debug, Drop)]
@@ -27,7 +23,7 @@ pub struct Settings {
     flushers: u32,
     flush_queue_length: u32,
     rules: Rules,
-    tenants: Vec<TenantRules>,
+    tenants: BTreeMap<String, Rules>,
 }
 
 impl Model for Settings {
@@ -81,13 +77,14 @@ fn limits_in(given: &Rules, table: &Table) -> Rules
 fn common_rules(table: &Table) -> Rules
     ensures { result ≡ settings.common_rules (table_view table.now) }
 {
-    let limits = limits_in(&Rules::default(), table);
+    let given = Rules::default();
+    let own = |key, default| setting(table, Level::Top, key, default);
     Rules {
-        chunk_block_size: setting(table, Level::Top, "chunk_block_size", 262_144),
-        chunk_target_size: setting(table, Level::Top, "chunk_target_size", 1_572_864),
-        chunk_idle_period: setting(table, Level::Top, "chunk_idle_period", 1_800_000_000_000),
-        max_chunk_age: setting(table, Level::Top, "max_chunk_age", 7_200_000_000_000),
-        ..limits
+        chunk_block_size: own("chunk_block_size", given.chunk_block_size),
+        chunk_target_size: own("chunk_target_size", given.chunk_target_size),
+        chunk_idle_period: own("chunk_idle_period", given.chunk_idle_period),
+        max_chunk_age: own("max_chunk_age", given.max_chunk_age),
+        ..limits_in(&given, table)
     }
 }
 
@@ -104,16 +101,28 @@ fn tenants_of(
     alloc: Global,
     common: &Rules,
     tenants: &Table,
-) -> Result<Vec<TenantRules>, AllocError>
-    ensures { IfOk result (λ held. held_tenants held.items ≡ settings.rules_by_tenant common.now (settings.entries_of (table_view tenants.now))) }
+) -> Result<BTreeMap<String, Rules>, AllocError>
+    ensures { IfOk result (λ held. IsTenantRules (settings.rules_by_tenant common.now (settings.entries_of (table_view tenants.now))) held) }
 {
-    let mut held = Vec::new(alloc);
+    let mut held = BTreeMap::new(alloc);
     for (name, value) in tenants {
         let tenant = String::from_str(alloc, name.as_str())?;
-        let rules = rules_in(common, value);
-        held.push(TenantRules { tenant, rules })?;
+        put_rules(&mut held, tenant, rules_in(common, value))?;
     }
     Ok(held)
+}
+
+/// Gives a tenant its rules, unless it has some; the names in a table differ, so it has none.
+fn put_rules(
+    held: &mut BTreeMap<String, Rules>,
+    tenant: String,
+    rules: Rules,
+) -> Result<(), AllocError>
+    ensures { OnOk result ((name : List ℕ) → get_by_text held.new name
+        ≡ option_or (get_by_text held.old name) (if bytes_eq name (string_bytes tenant) then Some rules else None)) }
+{
+    held.entry(tenant)?.or_insert(rules);
+    Ok(())
 }
 
 /// The rules of a tenant with this table.
@@ -127,12 +136,16 @@ fn rules_in(common: &Rules, value: &Value) -> Rules
 }
 
 /// The rules of all tenants that have a table of their own.
-fn all_tenants(alloc: Global, common: &Rules, table: &Table) -> Result<Vec<TenantRules>, AllocError>
-    ensures { IfOk result (λ held. held_tenants held.items ≡ settings.rules_by_tenant common.now (settings.entries_of (settings.members_at (codes "tenants") (table_view table.now)))) }
+fn all_tenants(
+    alloc: Global,
+    common: &Rules,
+    table: &Table,
+) -> Result<BTreeMap<String, Rules>, AllocError>
+    ensures { IfOk result (λ held. IsTenantRules (settings.rules_by_tenant common.now (settings.entries_of (settings.members_at (codes "tenants") (table_view table.now)))) held) }
 {
     match tenants_in(table) {
         Some(tenants) => tenants_of(alloc, common, tenants),
-        None => Ok(Vec::new(alloc)),
+        None => Ok(BTreeMap::new(alloc)),
     }
 }
 
@@ -206,17 +219,15 @@ impl Settings {
         self.flush_queue_length
     }
 
-    /// The rules of a tenant: the tenant's own, or those of all tenants where it has no table. Takes no memory, and time
-    /// in proportion to the number of tenants with a table.
+    /// The rules of a tenant: the tenant's own, or those of all tenants where it has no table. Takes no memory, and one
+    /// look-up in an ordered map of the tenants with a table.
     pub fn for_tenant(&self, tenant: &Tenant) -> &Rules
         ensures rules { result.now ≡ rules_for self.now tenant.now }
         ensures range { AreRulesInRange result.now }
     {
-        for held in &self.tenants {
-            if tenant.as_str().cmp(held.tenant.as_str()).is_eq() {
-                return &held.rules;
-            }
+        match self.tenants.get(tenant.as_str()) {
+            Some(rules) => rules,
+            None => &self.rules,
         }
-        &self.rules
     }
 }

@@ -1,3 +1,4 @@
+//! Worked settings, the defaults and each refusal.
 use super::{Settings, SettingsFault};
 use ing_rows::{Rules, Tenant};
 use std::alloc::Global;
@@ -145,6 +146,36 @@ fn all_settings(rt: HostRuntime) -> Result<(), Fail> {
         settings.for_tenant(&acme).chunk_idle_period,
         5_400_000_000_000
     );
+    Ok(())
+}
+
+#[test]
+fn each_tenant_has_its_own_limits(rt: HostRuntime) -> Result<(), Fail> {
+    let alloc = rt.alloc();
+    let settings = Settings::from_toml(
+        alloc,
+        "max_line_size = 7\n[tenants.c]\nmax_line_size = 3\n[tenants.a]\nmax_line_size = 1\n[tenants.b]\n[tenants.\"b.c\"]\nmax_line_size = 2\n",
+    )?;
+    for (name, size) in [("a", 1), ("b", 7), ("b.c", 2), ("c", 3), ("d", 7)] {
+        let tenant = Tenant::of_text(alloc, name)?;
+        assert_eq!(rt; settings.for_tenant(&tenant).max_line_size, size, "{name}");
+    }
+    Ok(())
+}
+
+/// One allocation at most is refused in a run of this test: the text is then refused with `NoMemory`, and read the next
+/// time.
+#[test]
+fn a_refused_allocation_and_the_next_reading(rt: HostRuntime) -> Result<(), Fail> {
+    let text = "shards = 2\n[tenants.acme]\nmax_line_size = 4\n";
+    let settings = match Settings::from_toml(rt.alloc(), text) {
+        Ok(settings) => settings,
+        Err(fault) => {
+            assert_eq!(rt; (fault.number(), fault.name()), (0, "NoMemory"));
+            Settings::from_toml(rt.alloc(), text)?
+        }
+    };
+    assert_eq!(rt; settings.shards(), 2);
     Ok(())
 }
 

@@ -2,13 +2,13 @@
 use Rattle.std.specs.Prelude.{ℕ, List, filter, length}
 use Rattle.ing_labels.specs.Labels.{LabelMap}
 use Rattle.ing_labels.specs.Canonical.{canonical_of}
-use Rattle.ing_rows.specs.declared.rules.Rules.{Rules}
 use Rattle.ing_rows.specs.Rows.{StreamKey, Row, is_stored}
 use Rattle.ing_rows.specs.Kept.{Numbered}
+use Rattle.ing_limits.specs.Settings.{StoreSettings}
 
--- its rules, and the accepted entries with their streams and numbers, the newest first
+-- its settings, and the accepted entries with their streams and numbers, the newest first
 pub record Contents : Type 0 where
-  pub rules : Rules
+  pub settings : StoreSettings
   pub entries : List Numbered
 
 -- the stream of a tenant's labels

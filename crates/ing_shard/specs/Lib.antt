@@ -1,3 +1,4 @@
+pub mod Coded
 pub mod Contents
 pub mod Faults
 pub use Rattle.ing_rows.specs.Rows
@@ -8,3 +9,5 @@ pub use Rattle.ing_rows.specs.Gauges
 pub use Rattle.ing_rows.specs.Events
 pub use Rattle.ing_labels.specs.Canonical
 pub use Rattle.ing_labels.specs.Labels
+pub use Rattle.ing_limits.specs.Settings
+pub use Rattle.ing_limits.specs.Ranges

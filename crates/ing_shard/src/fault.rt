@@ -1,3 +1,4 @@
+//! Why a push is refused as a whole.
 ghost use Rattle.std.specs.Prelude.{◌≡◌};
 ghost use Rattle.ing_shard.specs.Faults.{number_of, name_of};
 

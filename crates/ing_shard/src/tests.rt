@@ -1,7 +1,8 @@
 //! The calls that take memory, once each, and what a refusal leaves.
 use super::*;
 use ing_labels::{LabelLimits, Labels};
-use ing_rows::{Entry, Line, Rules, Stamp, Tenant, Verdict};
+use ing_limits::Settings;
+use ing_rows::{Entry, Line, Stamp, Tenant, Verdict};
 use std::alloc::Global;
 use std::test::Fail;
 
@@ -28,12 +29,12 @@ fn two_entries(alloc: Global) -> Result<Vec<Entry>, Fail> {
 
 #[test]
 fn a_push_is_judged_and_counted(rt: HostRuntime) -> Result<(), Fail> {
-    let mut shard = Shard::fresh(rt.alloc(), Rules::default());
+    let mut shard = Shard::fresh(rt.alloc(), Settings::from_toml(rt.alloc(), "")?);
     let tenant = Tenant::of_text(rt.alloc(), "acme")?;
     let labels = Labels::of_pairs(rt.alloc(), &[("app", "web")], &LIMITS)?;
     let entries = two_entries(rt.alloc())?;
     assert_eq!(rt; shard.totals(), (0, 0));
-    assert_eq!(rt; shard.rules().max_line_size, 262_144);
+    assert_eq!(rt; shard.rules(&tenant).max_line_size, 262_144);
     // One allocation at most is refused in a run of this test: a refused push leaves the shard as it was, and the same
     // push then succeeds.
     let pushed = match shard.push(rt.alloc(), &tenant, &labels, &entries, stamp(1)?) {
@@ -59,15 +60,15 @@ fn a_push_is_judged_and_counted(rt: HostRuntime) -> Result<(), Fail> {
 }
 
 #[test]
-fn more_entries_than_one_push_may_have(rt: HostRuntime) -> Result<(), Fail> {
-    let mut rules = Rules::default();
-    rules.max_entries_per_push = 1;
-    let mut shard = Shard::fresh(rt.alloc(), rules);
-    let tenant = Tenant::of_text(rt.alloc(), "acme")?;
+fn more_entries_than_one_push_of_a_tenant_may_have(rt: HostRuntime) -> Result<(), Fail> {
+    let settings = Settings::from_toml(rt.alloc(), "[tenants.acme]\nmax_entries_per_push = 1\n")?;
+    let mut shard = Shard::fresh(rt.alloc(), settings);
+    let acme = Tenant::of_text(rt.alloc(), "acme")?;
+    let other = Tenant::of_text(rt.alloc(), "t")?;
     let labels = Labels::of_pairs(rt.alloc(), &[("app", "web")], &LIMITS)?;
     let entries = two_entries(rt.alloc())?;
     let fault = shard
-        .push(rt.alloc(), &tenant, &labels, &entries, stamp(1)?)
+        .push(rt.alloc(), &acme, &labels, &entries, stamp(1)?)
         .err();
     assert_eq!(rt; fault, Some(PushFault::TooManyEntries));
     assert_eq!(rt;
@@ -75,5 +76,7 @@ fn more_entries_than_one_push_may_have(rt: HostRuntime) -> Result<(), Fail> {
         Some((32, "TooManyEntries"))
     );
     assert_eq!(rt; shard.totals(), (0, 0));
+    shard.push(rt.alloc(), &other, &labels, &entries, stamp(1)?)?;
+    assert_eq!(rt; shard.totals(), (2, 0));
     Ok(())
 }

@@ -9,6 +9,8 @@ use Rattle.ing_labels.specs.Labels.{LabelMap, labels_of}
 use Rattle.ing_labels.specs.Canonical.{canonical_of}
 use Rattle.ing_labels.specs.Faults as label_faults
 use Rattle.ing_rows.specs.declared.rules.Rules.{Rules}
+use Rattle.ing_limits.specs.Settings.{StoreSettings}
+use Rattle.ing_limits.specs.Ranges.{rules_for}
 use Rattle.ing_rows.specs.declared.verdict.Verdict.{Verdict}
 use Rattle.ing_rows.specs.declared.verdict.Verdict.TheVariants.{Accepted, Duplicate, LineTooLong, TooFarBehind, TooManyStreams}
 use Rattle.ing_rows.specs.Rows.{State}
@@ -55,6 +57,6 @@ module _ (rules : Rules) (tenant : List ℕ) (now : ℕ) where
   streams_have_none [] st = refl
   streams_have_none (s ∷ ss) st = neither _ _ (reply_has_none s st (labels_of (limits_of rules) s.labels)) (streams_have_none ss (after_stream rules tenant now s st))
 
-pub command_has_none : (rules : Rules) (command : Result Command LineFault) (st : State) → has_float (command_reply rules command st) ≡ false
-command_has_none rules (Err fault) st = fault_has_none (name_of fault) (number_of fault) None
-command_has_none rules (Ok push) st = neither _ _ (streams_have_none rules push.tenant push.now push.streams st) refl
+pub command_has_none : (settings : StoreSettings) (command : Result Command LineFault) (st : State) → has_float (command_reply settings command st) ≡ false
+command_has_none settings (Err fault) st = fault_has_none (name_of fault) (number_of fault) None
+command_has_none settings (Ok push) st = neither _ _ (streams_have_none (rules_for settings push.tenant) push.tenant push.now push.streams st) refl

@@ -6,5 +6,6 @@ pub mod Parts
 pub mod Replies
 pub mod Session
 pub mod Shapes
+pub mod Starting
 pub mod Unread
 pub mod Views

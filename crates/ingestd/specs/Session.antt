@@ -12,6 +12,8 @@ use Rattle.ing_rows.specs.declared.rules.Rules.{Rules}
 use Rattle.ing_rows.specs.Rows.{State, empty_state}
 use Rattle.ing_rows.specs.Steps.{verdicts_of, after_push}
 use Rattle.ing_rows.specs.Kept.{Numbered, Shows}
+use Rattle.ing_limits.specs.Settings.{StoreSettings}
+use Rattle.ing_limits.specs.Ranges.{rules_for}
 use Rattle.ing_shard.specs.Contents.{stream_of, stored_count}
 use Rattle.ingestd.specs.declared.command.fault.LineFault.{LineFault}
 use Rattle.ingestd.specs.declared.command.fault.LineFault.TheVariants.{BadCommand}
@@ -65,19 +67,19 @@ abbrev pub after_streams : Rules → List ℕ → ℕ → List StreamEntries →
 after_streams rules tenant now [] st = st
 after_streams rules tenant now (s ∷ ss) st = after_streams rules tenant now ss (after_stream rules tenant now s st)
 
--- ---- one line
+-- ---- one line, by the rules of the tenant that it names
 
 abbrev pub line_fault : LineFault → Data
 line_fault fault = fault_data (name_of fault) (number_of fault) None
 
-abbrev pub command_reply : Rules → Result Command LineFault → State → Data
-command_reply rules (Err fault) st = line_fault fault
-command_reply rules (Ok push) st = push_data (stream_replies rules push.tenant push.now push.streams st)
+abbrev pub command_reply : StoreSettings → Result Command LineFault → State → Data
+command_reply settings (Err fault) st = line_fault fault
+command_reply settings (Ok push) st = push_data (stream_replies (rules_for settings push.tenant) push.tenant push.now push.streams st)
 
 -- a refused line changes nothing
-abbrev pub after_command : Rules → Result Command LineFault → State → State
-after_command rules (Err fault) st = st
-after_command rules (Ok push) st = after_streams rules push.tenant push.now push.streams st
+abbrev pub after_command : StoreSettings → Result Command LineFault → State → State
+after_command settings (Err fault) st = st
+after_command settings (Ok push) st = after_streams (rules_for settings push.tenant) push.tenant push.now push.streams st
 
 -- spaces, tabs and carriage returns alone
 abbrev pub is_blank : List ℕ → Bool
@@ -87,14 +89,14 @@ abbrev pub is_long : List ℕ → Bool
 is_long line = nat_lt max_line (length line)
 
 -- a line that is too long is refused unread, a blank one is skipped, and each other is answered
-abbrev pub answer_to : Rules → List ℕ → State → List ℕ
-answer_to rules line st =
+abbrev pub answer_to : StoreSettings → List ℕ → State → List ℕ
+answer_to settings line st =
     if is_long line then line_text (line_fault BadCommand)
     else if is_blank line then []
-    else line_text (command_reply rules (command_of line) st)
+    else line_text (command_reply settings (command_of line) st)
 
-abbrev pub after_line : Rules → List ℕ → State → State
-after_line rules line st = if is_long line then st else if is_blank line then st else after_command rules (command_of line) st
+abbrev pub after_line : StoreSettings → List ℕ → State → State
+after_line settings line st = if is_long line then st else if is_blank line then st else after_command settings (command_of line) st
 
 -- ---- the whole input
 
@@ -102,26 +104,26 @@ after_line rules line st = if is_long line then st else if is_blank line then st
 abbrev pub report_of : State → Data
 report_of st = report_data (length st.rows) (length st.rows - stored_count st.rows) 0 (stored_count st.rows)
 
-abbrev pub output_from : Rules → State → List (List ℕ) → List ℕ
-output_from rules st [] = line_text (report_of st)
-output_from rules st (line ∷ lines) = answer_to rules line st ++ output_from rules (after_line rules line st) lines
+abbrev pub output_from : StoreSettings → State → List (List ℕ) → List ℕ
+output_from settings st [] = line_text (report_of st)
+output_from settings st (line ∷ lines) = answer_to settings line st ++ output_from settings (after_line settings line st) lines
 
 -- an answer for each line, and the report
-abbrev pub output_of : Rules → List ℕ → List ℕ
-output_of rules input = output_from rules empty_state (lines_of input)
+abbrev pub output_of : StoreSettings → List ℕ → List ℕ
+output_of settings input = output_from settings empty_state (lines_of input)
 
 -- ---- for private clauses
 
 -- What was written so far and what is still to be written for the bytes that are left is the whole output. The state of the
 -- model has the shard's entries.
-pub record Owes (rules : Rules) (shard : List Numbered) (first now : Option (List ℕ)) (left : List ℕ) (output : List ℕ) : Type 0 where
+pub record Owes (settings : StoreSettings) (shard : List Numbered) (first now : Option (List ℕ)) (left : List ℕ) (output : List ℕ) : Type 0 where
   pub state : State
   pub shows : Shows shard state
   pub written : List ℕ
   pub appended : Appends first now written
-  pub owed : written ++ output_from rules state (lines_of left) ≡ output
+  pub owed : written ++ output_from settings state (lines_of left) ≡ output
 
 -- the bytes that are left are known
-abbrev pub Serves : Rules → List Numbered → Option (List ℕ) → Option (List ℕ) → Option (List ℕ) → List ℕ → Type 0
-Serves rules shard first now None output = ⊥
-Serves rules shard first now (Some left) output = Owes rules shard first now left output
+abbrev pub Serves : StoreSettings → List Numbered → Option (List ℕ) → Option (List ℕ) → Option (List ℕ) → List ℕ → Type 0
+Serves settings shard first now None output = ⊥
+Serves settings shard first now (Some left) output = Owes settings shard first now left output

@@ -1,11 +1,13 @@
 //! Commands in, replies out.
-ghost use Rattle.std.specs.Prelude.{◌≡◌, ℕ, List, Option, IfOk, OnOk, IsErr, IfSome, MatchBool, map, false};
+ghost use Rattle.std.specs.Prelude.{◌≡◌, ◌⊎◌, ℕ, List, Option, IfOk, IfErr, OnOk, IsErr, IfSome, IsTrue, MatchBool, map, false};
 ghost use Rattle.std.specs.Io.KnownBytes.{Appends};
 ghost use Rattle.serde_json.specs.View.{view};
 ghost use Rattle.serde_json.specs.Written.{has_float};
 ghost use Rattle.ing_rows.specs.Rows.{State};
 ghost use Rattle.ing_rows.specs.Kept.{Shows};
+ghost use Rattle.ing_limits.specs.Ranges.{rules_for};
 ghost use Rattle.ingestd.specs.Commands.{command_of};
+ghost use Rattle.ingestd.specs.Endings.{is_of_run};
 ghost use Rattle.ingestd.specs.Views.{stream_view};
 ghost use Rattle.ingestd.specs.Replies.{line_text};
 ghost use Rattle.ingestd.specs.Session as session;
@@ -16,7 +18,8 @@ use crate::ending::Ending;
 use crate::lines::{Lines, NextLine};
 use crate::reply::{fault_value, judged_value, push_value, report_value};
 use ing_labels::{LabelFault, Labels};
-use ing_rows::{Rules, Stamp, Tenant};
+use ing_limits::Settings;
+use ing_rows::{Stamp, Tenant};
 use ing_shard::{PushFault, Shard};
 use serde_json::Value;
 use std::alloc::Global;
@@ -25,8 +28,8 @@ use std::io::{Read, Write};
 /// What a run works with.
 #[derive(Debug, Drop)]
 pub struct Parts {
-    /// The rules of each tenant.
-    pub rules: Rules,
+    /// The settings, with the rules of each tenant.
+    pub settings: Settings,
 }
 
 /// Reads commands line by line, writes the reply to each before the next is read, and a report at the end of input.
@@ -40,10 +43,11 @@ pub fn run<R: Read, W: Write>(
     parts: Parts,
 ) -> Result<(), Ending>
     // What is written is, line for line, what the model answers to the lines read.
-    ensures { OnOk result (IfSome (R.remaining reader.old) (λ input.
-        Appends (W.contents writer.old) (W.contents writer.new) (session.output_of parts.rules input))) }
+    ensures output { OnOk result (IfSome (R.remaining reader.old) (λ input.
+        Appends (W.contents writer.old) (W.contents writer.new) (session.output_of parts.settings input))) }
+    ensures ending { IfErr result (λ e. IsTrue (is_of_run e)) }
 {
-    let mut shard = Shard::fresh(alloc, parts.rules);
+    let mut shard = Shard::fresh(alloc, parts.settings);
     let mut lines = Lines::new(alloc)?;
     let mut line = Vec::new(alloc);
     for _ in 0..u64::MAX {
@@ -64,11 +68,12 @@ fn serve<R: Read, W: Write>(
     shard: &mut Shard,
 ) -> Result<bool, Ending>
     ensures served { IfOk result (λ more. (first : Option (List ℕ)) (output : List ℕ) →
-        session.Serves shard.old.rules shard.old.entries first (W.contents writer.old) (left lines.old (R.remaining reader.old)) output →
+        session.Serves shard.old.settings shard.old.entries first (W.contents writer.old) (left lines.old (R.remaining reader.old)) output →
         MatchBool more
-        (session.Serves shard.old.rules shard.new.entries first (W.contents writer.new) (left lines.new (R.remaining reader.new)) output)
+        (session.Serves shard.old.settings shard.new.entries first (W.contents writer.new) (left lines.new (R.remaining reader.new)) output)
         (Appends first (W.contents writer.new) output)) }
-    ensures rules { shard.new.rules ≡ shard.old.rules }
+    ensures settings { shard.new.settings ≡ shard.old.settings }
+    ensures ending { IfErr result (λ e. IsTrue (is_of_run e)) }
 {
     match lines.next_line(reader, line)? {
         NextLine::Line => {
@@ -95,10 +100,11 @@ fn answer<W: Write>(
 ) -> Result<(), Ending>
     requires { session.is_long line.now ≡ false }
     ensures text { OnOk result ((old : State) → Shows shard.old.entries old →
-        Appends (W.contents writer.old) (W.contents writer.new) (session.answer_to shard.old.rules line.now old)) }
+        Appends (W.contents writer.old) (W.contents writer.new) (session.answer_to shard.old.settings line.now old)) }
     ensures state { OnOk result ((old : State) → Shows shard.old.entries old →
-        Shows shard.new.entries (session.after_line shard.old.rules line.now old)) }
-    ensures rules { shard.new.rules ≡ shard.old.rules }
+        Shows shard.new.entries (session.after_line shard.old.settings line.now old)) }
+    ensures settings { shard.new.settings ≡ shard.old.settings }
+    ensures ending { IfErr result (λ e. (e ≡ Ending.NoMemory) ⊎ (e ≡ Ending.OutputFault)) }
 {
     if is_blank(line) {
         return Ok(());
@@ -109,8 +115,9 @@ fn answer<W: Write>(
 
 /// Answers a line that is too long.
 fn refuse<W: Write>(alloc: Global, writer: &mut W) -> Result<(), Ending>
-    ensures { OnOk result (Appends (W.contents writer.old) (W.contents writer.new)
+    ensures text { OnOk result (Appends (W.contents writer.old) (W.contents writer.new)
         (line_text (session.line_fault LineFault.BadCommand))) }
+    ensures ending { IfErr result (λ e. (e ≡ Ending.NoMemory) ⊎ (e ≡ Ending.OutputFault)) }
 {
     let reply = line_fault(alloc, LineFault::BadCommand)?;
     write_line(alloc, writer, &reply)
@@ -118,8 +125,9 @@ fn refuse<W: Write>(alloc: Global, writer: &mut W) -> Result<(), Ending>
 
 /// Writes the report.
 fn report<W: Write>(alloc: Global, writer: &mut W, shard: &Shard) -> Result<(), Ending>
-    ensures { OnOk result ((state : State) → Shows shard.now.entries state →
+    ensures text { OnOk result ((state : State) → Shows shard.now.entries state →
         Appends (W.contents writer.old) (W.contents writer.new) (line_text (session.report_of state))) }
+    ensures ending { IfErr result (λ e. (e ≡ Ending.NoMemory) ⊎ (e ≡ Ending.OutputFault)) }
 {
     let (accepted, stored) = shard.totals();
     let reply = report_value(alloc, accepted, stored)?;
@@ -128,8 +136,9 @@ fn report<W: Write>(alloc: Global, writer: &mut W, shard: &Shard) -> Result<(), 
 
 /// Writes a reply as one line, in one call, and flushes it.
 fn write_line<W: Write>(alloc: Global, writer: &mut W, reply: &Value) -> Result<(), Ending>
-    ensures { OnOk result (has_float (view reply.now) ≡ false →
+    ensures text { OnOk result (has_float (view reply.now) ≡ false →
         Appends (W.contents writer.old) (W.contents writer.new) (line_text (view reply.now))) }
+    ensures ending { IfErr result (λ e. (e ≡ Ending.NoMemory) ⊎ (e ≡ Ending.OutputFault)) }
 {
     let mut text = reply.to_string(alloc)?;
     text.push('\n')?;
@@ -149,10 +158,11 @@ fn is_blank(line: &[u8]) -> bool
 /// The reply to a line, and what it does to the shard.
 fn reply_to(alloc: Global, shard: &mut Shard, line: &[u8]) -> Result<Value, Ending>
     ensures reply { IfOk result (λ reply. (old : State) → Shows shard.old.entries old →
-        view reply ≡ session.command_reply shard.old.rules (command_of line.now) old) }
+        view reply ≡ session.command_reply shard.old.settings (command_of line.now) old) }
     ensures state { OnOk result ((old : State) → Shows shard.old.entries old →
-        Shows shard.new.entries (session.after_command shard.old.rules (command_of line.now) old)) }
-    ensures rules { shard.new.rules ≡ shard.old.rules }
+        Shows shard.new.entries (session.after_command shard.old.settings (command_of line.now) old)) }
+    ensures settings { shard.new.settings ≡ shard.old.settings }
+    ensures ending { IfErr result (λ e. e ≡ Ending.NoMemory) }
 {
     let value = match read_value(alloc, line) {
         Ok(value) => value,
@@ -171,6 +181,7 @@ fn reply_to(alloc: Global, shard: &mut Shard, line: &[u8]) -> Result<Value, Endi
 fn line_fault(alloc: Global, fault: LineFault) -> Result<Value, Ending>
     ensures reply { IfOk result (λ reply. view reply ≡ session.line_fault fault) }
     ensures memory { fault ≡ LineFault.NoMemory → IsErr result }
+    ensures ending { IfErr result (λ e. e ≡ Ending.NoMemory) }
 {
     if fault == LineFault::NoMemory {
         return Err(Ending::NoMemory);
@@ -181,10 +192,11 @@ fn line_fault(alloc: Global, fault: LineFault) -> Result<Value, Ending>
 /// Pushes the streams one after another.
 fn push_streams(alloc: Global, shard: &mut Shard, push: &Push<'_>) -> Result<Vec<Value>, Ending>
     ensures replies { IfOk result (λ replies. (old : State) → Shows shard.old.entries old → map view replies.items
-        ≡ session.stream_replies shard.old.rules push.entry.now.tenant push.entry.now.now (map stream_view push.entry.now.streams.items) old) }
+        ≡ session.stream_replies (rules_for shard.old.settings push.entry.now.tenant) push.entry.now.tenant push.entry.now.now (map stream_view push.entry.now.streams.items) old) }
     ensures state { OnOk result ((old : State) → Shows shard.old.entries old → Shows shard.new.entries
-        (session.after_streams shard.old.rules push.entry.now.tenant push.entry.now.now (map stream_view push.entry.now.streams.items) old)) }
-    ensures rules { shard.new.rules ≡ shard.old.rules }
+        (session.after_streams (rules_for shard.old.settings push.entry.now.tenant) push.entry.now.tenant push.entry.now.now (map stream_view push.entry.now.streams.items) old)) }
+    ensures settings { shard.new.settings ≡ shard.old.settings }
+    ensures ending { IfErr result (λ e. e ≡ Ending.NoMemory) }
 {
     let mut replies = Vec::with_capacity(alloc, push.streams.len())?;
     for stream in &push.streams {
@@ -203,12 +215,13 @@ fn push_stream(
     stream: &StreamPush<'_>,
 ) -> Result<Value, Ending>
     ensures reply { IfOk result (λ reply. (old : State) → Shows shard.old.entries old → view reply
-        ≡ session.stream_reply shard.old.rules tenant.now now (stream_view stream.now) old) }
+        ≡ session.stream_reply (rules_for shard.old.settings tenant.now) tenant.now now (stream_view stream.now) old) }
     ensures state { OnOk result ((old : State) → Shows shard.old.entries old → Shows shard.new.entries
-        (session.after_stream shard.old.rules tenant.now now (stream_view stream.now) old)) }
-    ensures rules { shard.new.rules ≡ shard.old.rules }
+        (session.after_stream (rules_for shard.old.settings tenant.now) tenant.now now (stream_view stream.now) old)) }
+    ensures settings { shard.new.settings ≡ shard.old.settings }
+    ensures ending { IfErr result (λ e. e ≡ Ending.NoMemory) }
 {
-    let limits = shard.rules().label_limits();
+    let limits = shard.rules(tenant).label_limits();
     let labels = match Labels::of_pairs(alloc, &stream.labels, &limits) {
         Ok(labels) => labels,
         Err(fault) => return label_fault(alloc, fault),
@@ -225,6 +238,7 @@ fn push_stream(
 fn label_fault(alloc: Global, fault: LabelFault) -> Result<Value, Ending>
     ensures reply { IfOk result (λ reply. view reply ≡ session.label_fault fault) }
     ensures memory { fault ≡ LabelFault.NoMemory → IsErr result }
+    ensures ending { IfErr result (λ e. e ≡ Ending.NoMemory) }
 {
     if fault == LabelFault::NoMemory {
         return Err(Ending::NoMemory);

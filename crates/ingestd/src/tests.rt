@@ -1,26 +1,36 @@
 //! Worked lines, in and out, and what ends a run.
 use crate::ending::Ending;
 use crate::run::{Parts, run};
-use ing_rows::Rules;
+use ing_limits::Settings;
 use std::alloc::AllocError;
 use std::io;
 use std::io::{Error, ErrorKind, Read, Write};
 use std::process::Abort;
 use std::test::Fail;
 
-/// What a run with the default rules writes for the input.
+/// What a run with all defaults writes for the input.
 fn written(rt: &(impl AllocGlobal + Abort), input: &str) -> String {
-    written_under(rt, Rules::default(), input)
+    written_under(rt, "", input)
 }
 
-fn written_under(rt: &(impl AllocGlobal + Abort), rules: Rules, input: &str) -> String {
+/// What a run with these settings writes for the input.
+fn written_under(rt: &(impl AllocGlobal + Abort), settings: &str, input: &str) -> String {
+    let parts = parts(rt, settings);
     let mut reader = input.as_bytes();
     let mut writer = Vec::new(rt.alloc());
-    let ended = run(rt.alloc(), &mut reader, &mut writer, Parts { rules });
+    let ended = run(rt.alloc(), &mut reader, &mut writer, parts);
     assert!(rt; ended.is_ok(), "the run ended on a fault");
     String::from_utf8(writer)
         .ok()
         .expect(rt, "the output is text")
+}
+
+fn parts(rt: &(impl AllocGlobal + Abort), settings: &str) -> Parts {
+    Parts {
+        settings: Settings::from_toml(rt.alloc(), settings)
+            .ok()
+            .expect(rt, "the settings are read"),
+    }
 }
 
 /// A push line of tenant `t` to one stream.
@@ -55,7 +65,7 @@ fn report_line(rt: &impl AllocGlobal, accepted: u64) -> Result<String, AllocErro
 /// What one push of these values to `{a="1"}` is answered, and how many entries are accepted.
 fn judges(
     rt: &(impl AllocGlobal + Abort),
-    rules: Rules,
+    settings: &str,
     values: &str,
     verdicts: &str,
     accepted: u64,
@@ -63,7 +73,7 @@ fn judges(
     let input = push_line(rt, "{\"a\":\"1\"}", values)?;
     let output = reply_line(rt, "{a=\\\"1\\\"}", verdicts, accepted)?;
     assert_eq!(rt;
-        written_under(rt, rules, input.as_str()).as_str(),
+        written_under(rt, settings, input.as_str()).as_str(),
         output.as_str()
     );
     Ok(())
@@ -93,7 +103,7 @@ fn window_moves_with_greatest_stamp(rt: HostRuntime) -> Result<(), Fail> {
         r#"["28800000000000","a"],["25200000000000","b"],["25199999999999","c"],["36000000000000","d"],["32400000000000","e"],["32399999999999","f"]"#;
     let verdicts =
         r#"{"accepted":0},{"accepted":1},{"too_far_behind":"25200000000000"},{"accepted":2},{"accepted":3},{"too_far_behind":"32400000000000"}"#;
-    judges(&rt, Rules::default(), values, verdicts, 4)?;
+    judges(&rt, "", values, verdicts, 4)?;
     Ok(())
 }
 
@@ -101,10 +111,10 @@ fn window_moves_with_greatest_stamp(rt: HostRuntime) -> Result<(), Fail> {
 fn duplicate_of_last_only(rt: HostRuntime) -> Result<(), Fail> {
     let values = r#"["0","p"],["0","q"],["0","q"]"#;
     let verdicts = r#"{"accepted":0},{"accepted":1},"duplicate""#;
-    judges(&rt, Rules::default(), values, verdicts, 2)?;
+    judges(&rt, "", values, verdicts, 2)?;
     let values = r#"["7","A"],["7","B"],["7","A"]"#;
     let verdicts = r#"{"accepted":0},{"accepted":1},{"accepted":2}"#;
-    judges(&rt, Rules::default(), values, verdicts, 3)?;
+    judges(&rt, "", values, verdicts, 3)?;
     Ok(())
 }
 
@@ -136,15 +146,14 @@ fn lines_up_to_the_limit(rt: HostRuntime) -> Result<(), Fail> {
     let longest = "x".repeat(alloc, 262_144)?;
     let values = format!(in alloc; "[\"1\",\"{longest}\"],[\"2\",\"{longest}x\"]")?;
     let verdicts = r#"{"accepted":0},"line_too_long""#;
-    judges(&rt, Rules::default(), values.as_str(), verdicts, 1)?;
+    judges(&rt, "", values.as_str(), verdicts, 1)?;
     Ok(())
 }
 
 #[test]
 fn live_streams_up_to_the_limit(rt: HostRuntime) -> Result<(), Fail> {
     let alloc = rt.alloc();
-    let mut rules = Rules::default();
-    rules.max_streams_per_tenant = 1;
+    let settings = "max_streams_per_tenant = 1\n";
     let mut input = push_line(&rt, r#"{"a":"1"}"#, r#"["1","x"]"#)?;
     input.push_str(push_line(&rt, r#"{"a":"2"}"#, r#"["1","x"]"#)?.as_str())?;
     input.push_str(push_line(&rt, r#"{"a":"1"}"#, r#"["2","y"]"#)?.as_str())?;
@@ -153,7 +162,7 @@ fn live_streams_up_to_the_limit(rt: HostRuntime) -> Result<(), Fail> {
         "{{\"push\":[{{\"durable\":false,\"stream\":\"{{a=\\\"1\\\"}}\",\"verdicts\":[{{\"accepted\":0}}]}}]}}\n{{\"push\":[{{\"durable\":false,\"stream\":\"{{a=\\\"2\\\"}}\",\"verdicts\":[{{\"too_many_streams\":1}}]}}]}}\n{{\"push\":[{{\"durable\":false,\"stream\":\"{{a=\\\"1\\\"}}\",\"verdicts\":[{{\"accepted\":1}}]}}]}}\n{report}"
     )?;
     assert_eq!(rt;
-        written_under(&rt, rules, input.as_str()).as_str(),
+        written_under(&rt, settings, input.as_str()).as_str(),
         output.as_str()
     );
     Ok(())
@@ -161,8 +170,7 @@ fn live_streams_up_to_the_limit(rt: HostRuntime) -> Result<(), Fail> {
 
 #[test]
 fn entries_up_to_the_limit(rt: HostRuntime) -> Result<(), Fail> {
-    let mut rules = Rules::default();
-    rules.max_entries_per_push = 1;
+    let settings = "max_entries_per_push = 1\n";
     let mut input = push_line(&rt, r#"{"a":"1"}"#, r#"["1","x"],["2","y"]"#)?;
     input.push_str(push_line(&rt, r#"{"a":"1"}"#, r#"["1","x"]"#)?.as_str())?;
     let mut output = String::from_str(
@@ -171,7 +179,7 @@ fn entries_up_to_the_limit(rt: HostRuntime) -> Result<(), Fail> {
     )?;
     output.push_str(reply_line(&rt, "{a=\\\"1\\\"}", "{\"accepted\":0}", 1)?.as_str())?;
     assert_eq!(rt;
-        written_under(&rt, rules, input.as_str()).as_str(),
+        written_under(&rt, settings, input.as_str()).as_str(),
         output.as_str()
     );
     Ok(())
@@ -261,8 +269,8 @@ fn refused_lines_have_their_fault_and_the_next_is_answered(rt: HostRuntime) -> R
 fn bytes_that_are_no_text_are_a_bad_command(rt: HostRuntime) -> Result<(), Fail> {
     let mut reader = b"{\"cmd\":\"\xff\"}\n".as_slice();
     let mut writer = Vec::new(rt.alloc());
-    let rules = Rules::default();
-    assert!(rt; run(rt.alloc(), &mut reader, &mut writer, Parts { rules }).is_ok());
+    let parts = parts(&rt, "");
+    assert!(rt; run(rt.alloc(), &mut reader, &mut writer, parts).is_ok());
     let mut output = String::from_str(rt.alloc(), "{\"error\":\"BadCommand\",\"number\":33}\n")?;
     output.push_str(report_line(&rt, 0)?.as_str())?;
     assert_eq!(rt; writer.as_slice(), output.as_bytes());
@@ -293,8 +301,8 @@ fn a_failing_read_ends_the_run_without_a_report(rt: HostRuntime) -> Result<(), F
         text: input.as_bytes(),
     };
     let mut writer = Vec::new(rt.alloc());
-    let rules = Rules::default();
-    let ended = run(rt.alloc(), &mut reader, &mut writer, Parts { rules });
+    let parts = parts(&rt, "");
+    let ended = run(rt.alloc(), &mut reader, &mut writer, parts);
     assert_eq!(rt; ended, Err(Ending::InputFault));
     let reply =
         "{\"push\":[{\"durable\":false,\"stream\":\"{a=\\\"1\\\"}\",\"verdicts\":[{\"accepted\":0}]}]}\n";
@@ -332,8 +340,8 @@ fn a_failing_write_ends_the_run(rt: HostRuntime) -> Result<(), Fail> {
     ] {
         let mut reader = input.as_bytes();
         let mut writer = FailingWriter { writes };
-        let rules = Rules::default();
-        let got = run(rt.alloc(), &mut reader, &mut writer, Parts { rules });
+        let parts = parts(&rt, "");
+        let got = run(rt.alloc(), &mut reader, &mut writer, parts);
         assert_eq!(rt; got, ended, "after {writes} writes");
     }
     Ok(())
@@ -350,8 +358,8 @@ fn a_refused_allocation_ends_the_run_and_the_next_is_whole(rt: HostRuntime) -> R
     for _ in 0..2 {
         let mut reader = input.as_bytes();
         let mut writer = room.as_mut_slice();
-        let rules = Rules::default();
-        match run(rt.alloc(), &mut reader, &mut writer, Parts { rules }) {
+        let parts = parts(&rt, "");
+        match run(rt.alloc(), &mut reader, &mut writer, parts) {
             Ok(()) => break,
             Err(ending) => assert_eq!(rt; ending, Ending::NoMemory),
         }
@@ -361,14 +369,26 @@ fn a_refused_allocation_ends_the_run_and_the_next_is_whole(rt: HostRuntime) -> R
 }
 
 #[test]
-fn endings_have_their_names(rt: HostRuntime) {
-    for (ending, number, name, status) in [
+fn endings_have_their_names(rt: HostRuntime) -> Result<(), Fail> {
+    let name = || String::from_str(rt.alloc(), "shards");
+    for (ending, number, text, status) in [
         (Ending::NoMemory, 0, "NoMemory", 3),
+        (Ending::NotToml, 10, "NotToml", 1),
+        (
+            Ending::UnknownSetting { name: name()? },
+            11,
+            "UnknownSetting",
+            1,
+        ),
+        (Ending::BadSetting { name: name()? }, 12, "BadSetting", 1),
         (Ending::InputFault, 36, "InputFault", 2),
         (Ending::OutputFault, 37, "OutputFault", 2),
+        (Ending::BadArguments, 38, "BadArguments", 1),
+        (Ending::NoSettings, 39, "NoSettings", 1),
     ] {
         assert_eq!(rt; ending.number(), number);
-        assert_eq!(rt; ending.name(), name);
+        assert_eq!(rt; ending.name(), text);
         assert_eq!(rt; ending.status(), status);
     }
+    Ok(())
 }

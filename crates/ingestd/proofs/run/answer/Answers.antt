@@ -15,6 +15,6 @@ returns-clause-text g c =
     (λ written old shows.
     let reply = c.in_ok-reply.ensures.reply old shows in
     let blank : session.is_blank c.args.line.now ≡ false = sym c.is_blank.ensures ∙ c.if-is_blank.false in
-    let none : has_float (view c.in_ok-reply.reply) ≡ false = ap has_float reply ∙ command_has_none c.args.shard.now.rules (command_of c.args.line.now) old in
+    let none : has_float (view c.in_ok-reply.reply) ≡ false = ap has_float reply ∙ command_has_none c.args.shard.now.settings (command_of c.args.line.now) old in
     rw (c.requires, blank) (subst (λ d. Appends (g.W.Write.contents c.args.writer.now) (g.W.Write.contents c.write_line.new.writer) (line_text d)) reply (written none)))
-    c.write_line.ensures
+    c.write_line.ensures.text

@@ -1,13 +1,28 @@
-use Rattle.std.proofs.Common.{nat_cmp, ap, sym, ◌∙◌}
-use Rattle.std.specs.Cmp.Lexicographic.{slice_cmp}
-use Rattle.std.specs.FinMap.{get, find, get-from_entries}
-use Rattle.std.proofs.lemmas.Cmp.{nat_list_cmp_total}
-use Rattle.ing_limits.specs.Held.{held_tenants}
-use Rattle.ing_limits.specs.Settings.{StoreSettings}
+use Rattle.std.proofs.Common.{◌∙◌, ap, sym, subst}
+use Rattle.std.specs.Option.{unwrap_or}
+use Rattle.std.specs.BTreeMap.{get_by_text}
+use Rattle.ing_limits.specs.Ranges.{AreRulesInRange, rules_for}
+use Rattle.ing_limits.proofs.Tenants.{held_get}
 use Rattle.ing_limits.proofs.settings.Settings.for_tenant.Goals as goal
 
-pub loop-held-init : goal.loop-held-init
-loop-held-init c =
-    ap (λ ts. find (slice_cmp nat_cmp) c.args.tenant.now (held_tenants ts)) c.deref-held-items.ensures.value
-    ∙ sym (get-from_entries nat_list_cmp_total (held_tenants c.self.inside.tenants.items) c.args.tenant.now)
-    ∙ ap (λ (s : StoreSettings). get s.tenants c.args.tenant.now) c.self.view_is
+pub returns-in-Some-clause-rules : goal.returns-in-Some-clause-rules
+returns-in-Some-clause-rules c =
+    let tenant = c.args.tenant.now in
+    ap (λ o. unwrap_or o c.self.inside.rules) (c.in-Some.ensures.value ∙ ap (get_by_text c.self.inside.tenants) c.as_str.ensures.text ∙ sym (held_get c.self.inside.tenants tenant))
+    ∙ ap (λ s. rules_for s tenant) c.self.view_is
+
+pub returns-in-Some-clause-range : goal.returns-in-Some-clause-range
+returns-in-Some-clause-range c =
+    let tenant = c.args.tenant.now in
+    subst AreRulesInRange (sym (ap (λ o. unwrap_or o c.self.inside.rules) (c.in-Some.ensures.value ∙ ap (get_by_text c.self.inside.tenants) c.as_str.ensures.text ∙ sym (held_get c.self.inside.tenants tenant)))) (c.self.invariant.rules tenant)
+
+pub returns-in-None-clause-rules : goal.returns-in-None-clause-rules
+returns-in-None-clause-rules c =
+    let tenant = c.args.tenant.now in
+    ap (λ o. unwrap_or o c.self.inside.rules) (c.in-None.ensures.value ∙ ap (get_by_text c.self.inside.tenants) c.as_str.ensures.text ∙ sym (held_get c.self.inside.tenants tenant))
+    ∙ ap (λ s. rules_for s tenant) c.self.view_is
+
+pub returns-in-None-clause-range : goal.returns-in-None-clause-range
+returns-in-None-clause-range c =
+    let tenant = c.args.tenant.now in
+    subst AreRulesInRange (sym (ap (λ o. unwrap_or o c.self.inside.rules) (c.in-None.ensures.value ∙ ap (get_by_text c.self.inside.tenants) c.as_str.ensures.text ∙ sym (held_get c.self.inside.tenants tenant)))) (c.self.invariant.rules tenant)
