@@ -1,9 +1,8 @@
 //! The program by its argument words, over settings files in the system's folder for temporary files.
 use super::start;
 use crate::ending::Ending;
-use std::process;
 use std::test::Fail;
-use std::{env, fs};
+use std::{env, fs, process};
 
 /// One entry `hello` for each of two tenants, and one more for the first.
 const PUSHES: &str =
@@ -29,9 +28,17 @@ fn started(rt: &HostRuntime, words: &[&str]) -> Result<(Result<(), Ending>, Stri
 }
 
 /// The same with a settings file of these bytes. No two tests may give it one name.
-fn started_with(rt: &HostRuntime, name: &str, file: &[u8]) -> Result<(Result<(), Ending>, String), Fail> {
+fn started_with(
+    rt: &HostRuntime,
+    name: &str,
+    file: &[u8],
+) -> Result<(Result<(), Ending>, String), Fail> {
     let folder = env::temp_dir(rt)?;
-    let path = format!(in rt.alloc(); "{}/ingestd-{}-{name}.toml", folder.as_str(), process::id(rt.process()))?;
+    let path = format!(in rt.alloc();
+        "{}/ingestd-{}-{name}.toml",
+        folder.as_str(),
+        process::id(rt.process())
+    )?;
     fs::write(rt, path.as_str(), file)?;
     let started = started(rt, &[path.as_str()])?;
     fs::remove_file(rt, path.as_str())?;
