@@ -4,3 +4,4 @@ pub mod Numbers
 pub mod Ranges
 mod First
 mod Tenants
+mod DurationTexts

@@ -1,4 +1,5 @@
 pub mod Durations
+pub mod DurationTexts
 pub mod Settings
 pub mod First
 pub mod Ranges

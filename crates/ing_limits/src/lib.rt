@@ -9,7 +9,9 @@ mod laws;
 mod settings;
 
 pub use fault::SettingsFault;
-pub use laws::{least_name_is_first, worked_durations, worked_refusals};
+pub use laws::{
+    durations_are_sums_of_parts, least_name_is_first, worked_durations, worked_refusals,
+};
 pub use settings::Settings;
 
 #[cfg(test)]

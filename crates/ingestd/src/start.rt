@@ -15,6 +15,9 @@ use std::fs;
 use std::io::{ErrorKind, Read, Write};
 use std::rt::Files;
 
+/// How many shards the program has; settings with another number are refused.
+const SHARDS: u32 = 1;
+
 /// Reads the argument words, `[SETTINGS]`, and runs: with the settings of the TOML file at that path, or without a word
 /// with all defaults.
 ///
@@ -80,7 +83,7 @@ fn settings_of_file(alloc: Global, file: &[u8]) -> Result<Settings, Ending>
         return Err(Ending::NotToml);
     };
     let settings = Settings::from_toml(alloc, text)?;
-    if settings.shards() != 1 {
+    if settings.shards() != SHARDS {
         let name = String::from_str(alloc, "shards")?;
         return Err(Ending::BadSetting { name });
     }

@@ -16,11 +16,11 @@ returns-in_err-settings-clause-refused c =
     let refused = subst (λ text. IfSome (refusal_of fault) (λ refusal. settings_of text ≡ Err refusal)) c.in-Ok.ensures.cases.0 c.in_err-settings.ensures.refused in
     refused_text file fault c.from_residual.result c.in-Ok.ensures.cases.1 refused c.from_residual.ensures.1
 
-pub returns-then-shards-ne1-clause-refused : goal.returns-then-shards-ne1-clause-refused
-returns-then-shards-ne1-clause-refused c =
+pub returns-then-shards-ne-SHARDS-clause-refused : goal.returns-then-shards-ne-SHARDS-clause-refused
+returns-then-shards-ne-SHARDS-clause-refused c =
     let file = c.args.file.now in
     let settings = c.in_ok-settings.settings in
-    let other : (settings.shards == 1) ≡ false = grind (arith, nat_tests, c.if-shards-ne1.true, c.shards.ensures.value) in
+    let other : (settings.shards == 1) ≡ false = grind (arith, nat_tests, c.if-shards-ne-SHARDS.true, c.shards.ensures.value) in
     started_text file (Ok settings) c.in-Ok.ensures.cases.1 (ap settings_of (sym c.in-Ok.ensures.cases.0) ∙ c.in_ok-settings.ensures.settings)
     ∙ other_shards settings other
     ∙ ap (λ name. Err (bad_setting name)) (sym c.in_ok-name.ensures.ok)
@@ -29,6 +29,6 @@ pub returns-clause-settings : goal.returns-clause-settings
 returns-clause-settings c =
     let file = c.args.file.now in
     let settings = c.in_ok-settings.settings in
-    let one : (settings.shards == 1) ≡ true = grind (arith, nat_tests, c.if-shards-ne1.false, c.shards.ensures.value) in
+    let one : (settings.shards == 1) ≡ true = grind (arith, nat_tests, c.if-shards-ne-SHARDS.false, c.shards.ensures.value) in
     started_text file (Ok settings) c.in-Ok.ensures.cases.1 (ap settings_of (sym c.in-Ok.ensures.cases.0) ∙ c.in_ok-settings.ensures.settings)
     ∙ one_shard settings one
