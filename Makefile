@@ -1,7 +1,9 @@
 # run: the program on standard input, with SETTINGS=FILE by that settings file.   build: the program, with all that it calls proved.
 # test: the whole gate, from nothing.   check: proves what has changed, while editing.
-.PHONY: run build check test
+# bench: figures of time, to be read (bench/README.md).
+.PHONY: run build check test bench
 program = crates/ingestd/out/ingestd
+postings_figures = crates/bench_postings/out/bench_postings
 sources = crates.txt $(shell find crates -name out -prune -o \( -name '*.rt' -o -name '*.antt' \) -print)
 
 run: $(program)
@@ -19,3 +21,10 @@ check:
 
 test:
 	rt ci
+
+bench: $(postings_figures)
+	@$(postings_figures) times 10000 30000 100000
+
+$(postings_figures): $(sources)
+	@cd crates/bench_postings && rt run -- counts 100 >&2
+	@touch $@

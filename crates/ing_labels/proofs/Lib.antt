@@ -15,3 +15,4 @@ pub mod CanonicalSpelt
 pub mod CanonicalWhole
 pub mod CanonicalChars
 pub mod CanonicalEnds
+pub mod Copied

@@ -9,6 +9,7 @@ use crate::checks::{
     values_by_name,
 };
 use crate::fault::{LabelFault, LabelLimits};
+use crate::pairs::Pairs;
 use crate::text_fault::TextFault;
 use std::alloc::{AllocError, Global};
 use std::collections::BTreeMap;
@@ -44,6 +45,7 @@ impl Labels {
     ghost use Rattle.ing_labels.specs.Canonical.{canonical_of};
     ghost use Rattle.ing_labels.specs.CanonicalTexts.{IsCanonicalFault};
     ghost use Rattle.ing_labels.specs.LabelValues.{label_value};
+    ghost use Rattle.std.specs.FinMap.{entries};
 
     /// The labels of a list of pairs of a name and a value. A label with an empty value is the same as
     /// an absent one. `at` counts the pairs as given, also those with an empty value.
@@ -118,6 +120,17 @@ impl Labels {
         }
     }
 
+    /// The names and values, in byte order of the names. Takes no memory; the walk takes time in proportion
+    /// to the labels.
+    pub fn pairs(&self) -> Pairs<'_>
+        ensures pairs { result ≡ entries self.now }
+        ensures label_set { IsLabelSet self.now }
+    {
+        Pairs {
+            left: self.values.iter(),
+        }
+    }
+
     /// The canonical name, as `{a="x", b="y"}`: names in byte order, `, ` between pairs, and in a value a
     /// backslash, a quote and a line feed are written `\\`, `\"` and `\n` (Loki documentation: label sets
     /// as Prometheus writes them; the three escapes are this crate's own profile).
@@ -128,5 +141,15 @@ impl Labels {
         ensures label_set { IsLabelSet self.now }
     {
         canonical_text(alloc, &self.values)
+    }
+}
+
+/// A copy has the same labels. The time and the memory are in proportion to their texts.
+impl Clone for Labels {
+    ghost is_clone = { λ labels copy. copy ≡ labels };
+
+    fn clone(&self) -> Result<Labels, AllocError> {
+        let values = self.values.clone()?;
+        Ok(Labels { values })
     }
 }

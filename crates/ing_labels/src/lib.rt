@@ -9,6 +9,7 @@ mod label_set;
 mod laws;
 mod matcher;
 mod names;
+mod pairs;
 mod selector;
 mod selector_reader;
 mod text_fault;
@@ -19,6 +20,7 @@ pub use laws::{
     canonical_names_are_exact, selector_texts_are_exact, worked_canonical_names, worked_refusals,
 };
 pub use matcher::{MatchOp, Matcher};
+pub use pairs::Pairs;
 pub use selector::Selector;
 pub use text_fault::TextFault;
 

@@ -198,3 +198,14 @@ fn other_texts_are_not_canonical(rt: HostRuntime) {
         Some(TextFault::NotCanonical { at: 7 })
     );
 }
+
+#[test]
+fn a_copy_has_the_same_pairs(rt: HostRuntime) -> Result<(), Fail> {
+    let labels = Labels::of_pairs(rt.alloc(), &[("b", "2"), ("a", "1"), ("c", "")], &WIDE)?;
+    let copy = labels.clone()?;
+    let mut pairs = copy.pairs();
+    assert_eq!(rt; pairs.next(), Some(("a", "1")));
+    assert_eq!(rt; pairs.next(), Some(("b", "2")));
+    assert_eq!(rt; pairs.next(), None);
+    Ok(())
+}
