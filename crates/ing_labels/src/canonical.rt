@@ -1,4 +1,4 @@
-// The canonical name of labels.
+//! The canonical name of labels.
 ghost use Rattle.std.specs.Prelude.{◌≡◌, ◌++◌, IfOk, OnOk, codes};
 ghost use Rattle.std.specs.List.{join_by, list_any};
 ghost use Rattle.std.specs.String.{string_bytes};

@@ -1,4 +1,4 @@
-// The tests of a list of label pairs, and the labels that it holds.
+//! The tests of a list of label pairs, and the labels that it holds.
 ghost use Rattle.std.specs.Prelude.{◌≡◌, IfOk, length, None};
 ghost use Rattle.std.specs.FinMap.{entries, from_entries};
 ghost use Rattle.ing_labels.specs.Labels as labels;

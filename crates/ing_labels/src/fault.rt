@@ -1,4 +1,4 @@
-// The limits on labels, and why a list of label pairs is refused.
+//! The limits on labels, and why a list of label pairs is refused.
 ghost use Rattle.std.specs.Prelude.{◌≡◌};
 ghost use Rattle.ing_labels.specs.Faults.{fault_number, fault_name, fault_place};
 

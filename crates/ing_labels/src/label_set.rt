@@ -1,4 +1,4 @@
-// The labels of one stream.
+//! The labels of one stream.
 ghost use Rattle.std.specs.Prelude.{◌≡◌, ◌≢◌, IfOk, IfErr};
 ghost use Rattle.std.specs.String.{string_bytes};
 

@@ -1,4 +1,4 @@
-// What the definitions say, as contracts of functions that do nothing.
+//! What the definitions say, as contracts of functions that do nothing.
 ghost use Rattle.ing_labels.specs.Canonical.{CanonicalNamesAreExact};
 ghost use Rattle.ing_labels.specs.Selectors.{SelectorTextsAreExact};
 ghost use Rattle.ing_labels.specs.Rows.{EmptyValuesAreAbsent, CanonicalEscapes, BadNameComesFirst, EmptyValueRepeats, NoValueNoLabels};

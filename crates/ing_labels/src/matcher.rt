@@ -1,4 +1,4 @@
-// Matchers, the parts of a selector.
+//! Matchers, the parts of a selector.
 
 /// What a matcher asks of the value of its label.
 #[derive(Clone, Copy, Debug, PartialEq, Eq)]

@@ -1,4 +1,4 @@
-// What a label name is.
+//! What a label name is.
 ghost use Rattle.std.specs.Prelude.{◌≡◌};
 ghost use Rattle.std.specs.List.{list_all};
 ghost use Rattle.ing_labels.specs.Names as names;

@@ -1,4 +1,4 @@
-// The labels of a stream, one after another.
+//! The labels of a stream, one after another.
 ghost use Rattle.std.specs.Iterator.{YieldsFirstBy, item_count};
 
 use std::collections::btree_map::Iter;

@@ -1,4 +1,4 @@
-// Selectors.
+//! Selectors.
 ghost use Rattle.std.specs.Prelude.{◌≡◌, IfOk, IfErr, IsTrue};
 ghost use Rattle.std.specs.List.{list_all, list_any};
 ghost use Rattle.ing_labels.specs.Selectors.{match_text, match_texts, match_holds, selects, asks_for_value, is_narrow, IsSelectorText};

@@ -1,4 +1,4 @@
-// Worked lists of pairs, and worked texts.
+//! Worked lists of pairs, and worked texts.
 use crate::{LabelFault, LabelLimits, Labels, Selector, TextFault};
 use std::test::Fail;
 

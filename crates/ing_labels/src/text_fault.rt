@@ -1,4 +1,4 @@
-// Why a text is refused.
+//! Why a text is refused.
 ghost use Rattle.std.specs.Prelude.{◌≡◌};
 ghost use Rattle.ing_labels.specs.TextFaults.{text_fault_number, text_fault_name, text_fault_place};
 
@@ -9,12 +9,16 @@ use thiserror::Error;
 /// the longest front of the text with which some text of the kind begins.
 #[derive(Clone, Copy, Debug, PartialEq, Eq, Error)]
 pub enum TextFault {
+    /// Memory ran out.
     #[error("out of memory")]
     NoMemory,
+    /// The text is no canonical name.
     #[error("no canonical name, from byte {at} on")]
     NotCanonical { at: usize },
+    /// The text is no selector.
     #[error("no selector, from byte {at} on")]
     BadSelector { at: usize },
+    /// The text is a selector that picks all streams, or all but a few.
     #[error("no matcher asks for one value that is not empty")]
     TooWide,
 }

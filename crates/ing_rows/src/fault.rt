@@ -1,3 +1,4 @@
+//! Why a text is no tenant id, or no stamp.
 ghost use Rattle.std.specs.Prelude.{◌≡◌};
 ghost use Rattle.ing_rows.specs.Faults.{number_of, name_of};
 

@@ -1,3 +1,5 @@
+//! Where an entry is kept.
+
 /// Where an accepted entry is kept (own; after the Loki documentation: architecture, chunks).
 #[derive(Clone, Copy, Debug, PartialEq, Eq)]
 pub enum Place {

@@ -1,3 +1,4 @@
+//! The rules of a tenant.
 ghost use Rattle.std.specs.Prelude.{◌≡◌};
 
 use ing_labels::LabelLimits;

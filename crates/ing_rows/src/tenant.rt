@@ -1,3 +1,4 @@
+//! Tenants.
 ghost use Rattle.std.specs.Prelude.{◌≡◌, ◌≢◌, ◌==◌, ◌&&◌, ◌||◌, IfOk, IfErr, List, ℕ, IsTrue, length, string_bytes, true, false};
 ghost use Rattle.std.specs.List.{list_all};
 ghost use Rattle.ing_rows.specs.Texts.{is_tenant, is_tenant_byte};

@@ -1,3 +1,5 @@
+//! What becomes of a pushed entry.
+
 /// What becomes of a pushed entry (Loki documentation: accepting out-of-order writes; the order of the cases is own).
 #[derive(Clone, Copy, Debug, PartialEq, Eq)]
 pub enum Verdict {

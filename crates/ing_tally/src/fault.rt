@@ -1,4 +1,4 @@
-// Why a share is not issued, or not raised.
+//! Why a share is not issued, or not raised.
 ghost use Rattle.std.specs.Prelude.{◌≡◌, codes};
 
 use thiserror::Error;

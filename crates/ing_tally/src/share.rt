@@ -1,4 +1,4 @@
-// A share of a book.
+//! A share of a book.
 ghost use Rattle.std.specs.Prelude.{◌≡◌};
 
 use crate::rule::Seat;

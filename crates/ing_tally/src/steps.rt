@@ -1,4 +1,4 @@
-// The steps of a book and of its shares, over their seats. The first seat is the book's.
+//! The steps of a book and of its shares, over their seats. The first seat is the book's.
 ghost use Rattle.std.specs.Prelude.{◌≡◌, ◌+◌, ◌≤◌, ◌^◌, [], vec_len};
 ghost use Rattle.ing_tally.specs.Books.{AreOf, amount_of, name_of};
 ghost use Rattle.ing_tally.specs.Views.{IsShare, IsFirstOf, IsCovered, Becomes, raised, lowered, retired, emptied, nothing, share_view, one_more_out, together, holding};

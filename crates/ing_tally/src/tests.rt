@@ -1,4 +1,4 @@
-// Worked books, and shares that cross a lock and two threads.
+//! Worked books, and shares that cross a lock and two threads.
 use crate::{Book, CounterFull, StillOut, Whole};
 use std::test::Fail;
 

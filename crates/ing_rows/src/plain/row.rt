@@ -1,3 +1,4 @@
+//! A row of the slow program.
 ghost use Rattle.std.specs.Prelude.{◌≡◌, ◌==◌, ◌&&◌, bytes_eq};
 
 use crate::entry::Entry;

@@ -1,4 +1,4 @@
-// A count under a lock that two threads raise, each by a share of its own.
+//! A count under a lock that two threads raise, each by a share of its own.
 ghost use Rattle.std.specs.Prelude.{◌≡◌, ◌+◌, ◌≤◌, ◌^◌, IfOk, OnOk, OnErr};
 
 use super::walks::strand_each;

@@ -1,4 +1,4 @@
-// Calls that walk over many shares of one book.
+//! Calls that walk over many shares of one book.
 ghost use Rattle.std.specs.Prelude.{◌≡◌, ◌+◌, ◌≤◌, ◌^◌, All, IfOk, OnOk, OnErr, vec_len};
 ghost use Rattle.ing_tally.specs.Books.{AreOf};
 

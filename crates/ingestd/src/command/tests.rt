@@ -1,3 +1,4 @@
+//! Worked lines, and the fault of each refused one.
 use super::*;
 use std::test::Fail;
 

@@ -1,3 +1,4 @@
+//! Inputs in any pieces, and readers that fail.
 use super::*;
 use std::io;
 use std::test::Fail;
