@@ -5,7 +5,9 @@ use Rattle.std.specs.Option.{unwrap_or}
 use Rattle.std.specs.Str.{bytes_eq}
 use Rattle.std.specs.String.{string_bytes}
 use Rattle.std.specs.Ordering.{is_eq}
-use Rattle.std.specs.FinMap.{entries, find, get-entries}
+use lib.Dec.{T}
+use Rattle.std.specs.FinMap.{entries, entries_sorted, find, get-entries}
+use Rattle.std.specs.FinMap.Entries.{is_sorted}
 use Rattle.std.proofs.lemmas.Cmp.{nat_list_eq_equiv}
 use Rattle.std.proofs.lemmas.Map.Text.{is_eq-slice_cmp}
 use Rattle.std.proofs.lemmas.Slice.Eq.{bytes_eq-Decides}
@@ -19,6 +21,7 @@ use Rattle.ing_postings.specs.declared.listed.Listed.{Listed}
 use Rattle.ing_postings.specs.Streams.{is_pair, has_label, places_of, selected}
 use Rattle.ing_postings.specs.Index.{Index, list_at, Narrows}
 use Rattle.ing_postings.proofs.Places.{places_read, places_within}
+use Rattle.ing_postings.proofs.Posted.{once, rest_sorted}
 
 both : (a b : Bool) → a ≡ true → b ≡ true → (a && b) ≡ true
 both a b p q = ap (λ c. c && b) p ∙ q
@@ -78,6 +81,59 @@ walk_finds index ms xs list indexed (k, x, within, is, (asks, named)) =
     ap (λ ps. selected (match_texts ms) (filter_map (slice_get xs) ps)) (named ∙ indexed name value)
     ∙ ap (selected (match_texts ms)) (places_read name value xs)
     ∙ filter_twice (λ s. selects (match_texts ms) s.labels) (λ s. has_label name value s.labels) xs (λ s h. match_has s.labels (match_text x) asks (one_holds ms k x s.labels within is h))
+
+filter_kept : (p q : Listed → Bool) (xs : List Listed) → ((s : Listed) → q s ≡ true → p s ≡ true) → filter p (filter q xs) ≡ filter q xs
+filter_kept p q [] stronger = refl
+filter_kept p q (x ∷ xs) stronger =
+    let rest = filter_kept p q xs stronger in
+    elim (q x) as (λ b. q x ≡ b → filter p (cond b (x ∷ filter q xs) (filter q xs)) ≡ cond b (x ∷ filter q xs) (filter q xs)) [
+      | true ↦ λ h. ap (λ b. cond b (x ∷ filter p (filter q xs)) (filter p (filter q xs))) (stronger x h) ∙ ap (λ ss. x ∷ ss) rest
+      | false ↦ λ h. rest
+    ] refl
+
+left_of : (a b : Bool) → (a || b) ≡ true → b ≡ false → a ≡ true
+left_of true b e h = refl
+left_of false b e h = absurd (cc (sym e ∙ h))
+
+-- an entry is found by its name
+pair_found : (es : List Pair) (name value : List ℕ) → T (is_sorted name_order es) → list_any (is_pair name value) es ≡ true → find name_order name es ≡ Some value
+pair_found [] name value sorted has = absurd (cc)
+pair_found (e ∷ es) name value sorted has =
+    let tied : is_eq (name_order name e.0) ≡ bytes_eq e.0 name = is_eq-slice_cmp name e.0 ∙ nat_list_eq_equiv.symm name e.0 in
+    elim (bytes_eq e.0 name) as (λ b. bytes_eq e.0 name ≡ b → is_eq (name_order name e.0) ≡ b → cond (is_eq (name_order name e.0)) (Some e.1) (find name_order name es) ≡ Some value) [
+      | true ↦ λ g h.
+          let later : list_any (is_pair name value) es ≡ false = once e.0 value name value es sorted (both _ _ g ((bytes_eq-Decides value value).1 refl)) in
+          let here = (both_parts _ _ (left_of (is_pair name value e) _ has later)).1 in
+          ap (λ b. cond b (Some e.1) (find name_order name es)) h ∙ ap Some ((bytes_eq-Decides e.1 value).0 here)
+      | false ↦ λ g h.
+          let later : list_any (is_pair name value) es ≡ true = sym (ap (λ b. b && bytes_eq e.1 value || list_any (is_pair name value) es) g) ∙ has in
+          ap (λ b. cond b (Some e.1) (find name_order name es)) h ∙ pair_found es name value (rest_sorted e es sorted) later
+    ] refl tied
+
+has_match : (m : LabelMap) (x : Match) → asks_for_value x ≡ true → has_label x.name x.value m ≡ true → match_holds m x ≡ true
+has_match m x asks has =
+    let is : label_value m x.name ≡ x.value = ap (λ o. unwrap_or o []) (get-entries m x.name ∙ pair_found (entries m) x.name x.value (entries_sorted m) has) in
+    ap (agrees x.op) ((bytes_eq-Decides (label_value m x.name) x.value).1 is) ∙ (both_parts _ _ asks).0
+
+-- where there is no other matcher, all streams in the list are picked
+pub one_picks : (index : Index) (ms : List Matcher) (xs : List Listed) (list : List ℕ) → ((name value : List ℕ) → list_at index name value ≡ places_of name value xs) → Any (Narrows index list) ms → length ms ≡ 1
+    → selected (match_texts ms) (filter_map (slice_get xs) list) ≡ filter_map (slice_get xs) list
+one_picks index [] xs list indexed named one = absurd (no_element named) where
+  no_element : Any (Narrows index list) [] → ⊥
+  no_element (k, x, within, is, h) = omega (arith, within)
+one_picks index (x ∷ y ∷ ms) xs list indexed named one = absurd (omega (arith, one))
+one_picks index (x ∷ []) xs list indexed (k, y, within, is, (asks, named)) one =
+    let same : y ≡ x = first_only k within is in
+    let name = string_bytes y.name in
+    let value = string_bytes y.value in
+    let read : filter_map (slice_get xs) list ≡ filter (λ s. has_label name value s.labels) xs = ap (filter_map (slice_get xs)) (named ∙ indexed name value) ∙ places_read name value xs in
+    ap (selected (match_texts (x ∷ []))) read
+    ∙ filter_kept (λ s. selects (match_texts (x ∷ [])) s.labels) (λ s. has_label name value s.labels) xs
+    (λ s h. both _ true (subst (λ z. match_holds s.labels (match_text z) ≡ true) same (has_match s.labels (match_text y) asks h)) refl)
+    ∙ sym read where
+      first_only : (k : ℕ) → k < length (x ∷ []) → get_or (x ∷ []) k y ≡ y → y ≡ x
+      first_only zero within is = sym is
+      first_only (suc k) within is = absurd (omega (arith, within))
 
 -- each place in such a list is that of a stream
 pub walk_within : (index : Index) (ms : List Matcher) (xs : List Listed) (list : List ℕ) → ((name value : List ℕ) → list_at index name value ≡ places_of name value xs) → Any (Narrows index list) ms → All (λ p. p < length xs) list

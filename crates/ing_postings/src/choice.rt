@@ -39,16 +39,21 @@ pub(crate) fn shortest_list<'a>(index: &'a Index, matchers: &[Matcher]) -> Optio
     shortest
 }
 
-/// The numbers of those streams at these places that a selector picks.
+/// The numbers of those streams at these places that a selector picks. Where it has one matcher, the places are those of
+/// the streams that it picks, and no label is looked at.
 pub(crate) fn selected_at(
     alloc: Global,
     streams: &[Listed],
     places: &[usize],
     selector: &Selector,
 ) -> Result<Vec<StreamNo>, AllocError>
-    requires { All (λ place. place < length streams.now) places.now }
+    requires within { All (λ place. place < length streams.now) places.now }
+    requires one { length selector.now.matchers.items ≡ 1 → selected (match_texts selector.now.matchers.items) (filter_map (slice_get streams.now) places.now) ≡ filter_map (slice_get streams.now) places.now }
     ensures { IfOk result (λ found. found.items ≡ numbers_of (selected (match_texts selector.now.matchers.items) (filter_map (slice_get streams.now) places.now))) }
 {
+    if selector.matchers.len() == 1 {
+        return numbers_at(alloc, streams, places);
+    }
     let mut found = Vec::new(alloc);
     for place in places {
         let stream = &streams[*place];

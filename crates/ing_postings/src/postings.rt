@@ -113,7 +113,8 @@ impl Postings {
     /// memory, and takes none but for the answer.
     ///
     /// The walk goes over the shortest list of streams that an `=` matcher with a value names, and tests
-    /// each of them, so the time is in proportion to that list times the matchers. Only a selector without
+    /// each of them where there are other matchers, so the time is in proportion to that list times the
+    /// matchers. Only a selector without
     /// such a matcher, which `Selector::parse` refuses, is tested on all streams. (Loki documentation: log
     /// stream selector; the walk is own.)
     pub fn select(&self, alloc: Global, selector: &Selector) -> Result<Vec<StreamNo>, AllocError>

@@ -8,7 +8,7 @@ use Rattle.ing_postings.proofs.choice.selected_at.Goals.{then-matches+in_ok-push
 
 pub loop-place-preserved : goal.loop-place-preserved
 loop-place-preserved c =
-    let more = selected_more (match_texts c.args.selector.now.matchers.items) c.args.streams.now c.args.places.now c.loop-place.place-index c.index-streams-place.result c.loop-place-test.true (slice_get_read _ _ _ _ refl (c.requires c.loop-place.place-index 0 c.loop-place-test.true) c.index-streams-place.is) in
+    let more = selected_more (match_texts c.args.selector.now.matchers.items) c.args.streams.now c.args.places.now c.loop-place.place-index c.index-streams-place.result c.loop-place-test.true (slice_get_read _ _ _ _ refl (c.requires.within c.loop-place.place-index 0 c.loop-place-test.true) c.index-streams-place.is) in
     elim c.if-matches.branch [
       | then-matches+in_ok-push w ↦ grind (arith, common_steps, more)
       | else-matches w ↦ grind (arith, common_steps, more, append-nil)

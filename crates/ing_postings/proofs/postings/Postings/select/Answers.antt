@@ -4,12 +4,20 @@ use Rattle.std.specs.List.Sorted.{IsStrictlyIncreasing}
 use Rattle.ing_labels.specs.Selectors.{match_texts, selects}
 use Rattle.ing_postings.specs.Streams.{numbers_of, selected}
 use Rattle.ing_postings.proofs.Numbers.{rising-filter}
-use Rattle.ing_postings.proofs.Narrowed.{walk_finds, walk_within, ok_then}
+use Rattle.ing_postings.proofs.Narrowed.{walk_finds, walk_within, one_picks, ok_then}
 use Rattle.ing_postings.proofs.postings.Postings.select.Goals as goal
 
-pub selected_at-requires : goal.selected_at-requires
-selected_at-requires c =
+pub selected_at-requires-clause-within : goal.selected_at-requires-clause-within
+selected_at-requires-clause-within c =
     subst (λ ys. All (λ p. p < length ys) c.in-Some.places.now) (sym c.deref-in-Some.ensures.value) (walk_within c.self.inside.index c.deref.result.now c.self.inside.streams.items c.in-Some.places.now c.self.invariant.index c.in-Some.ensures.named)
+
+pub selected_at-requires-clause-one : goal.selected_at-requires-clause-one
+selected_at-requires-clause-one c = λ one.
+    let xs = c.self.inside.streams.items in
+    let places = c.in-Some.places.now in
+    let picks = one_picks c.self.inside.index c.deref.result.now xs places c.self.invariant.index c.in-Some.ensures.named (ap length c.deref.ensures.value ∙ one) in
+    subst (λ ys. selected (match_texts c.args.selector.now.matchers.items) (filter_map (slice_get ys) places) ≡ filter_map (slice_get ys) places) (sym c.deref-in-Some.ensures.value)
+    (subst (λ items. selected (match_texts items) (filter_map (slice_get xs) places) ≡ filter_map (slice_get xs) places) c.deref.ensures.value picks)
 
 found : (c : goal.After-selected_at) → IfOk c.selected_at.result (λ found. found.items ≡ numbers_of (selected (match_texts c.args.selector.now.matchers.items) c.self.inside.streams.items))
 found c =
