@@ -1,8 +1,4 @@
 //! The rules of a tenant.
-ghost use Rattle.std.specs.Prelude.{◌≡◌};
-
-use ing_labels::LabelLimits;
-
 /// The numbers by which a tenant's entries are judged and its chunks cut and sealed (Loki documentation: ingester and
 /// limits configuration). Sizes in bytes, durations in nanoseconds.
 #[derive(Clone, Copy, Debug, PartialEq, Eq)]
@@ -49,23 +45,6 @@ impl Default for Rules {
             max_line_size: 262_144,
             max_streams_per_tenant: 1000,
             max_entries_per_push: 10_000,
-        }
-    }
-}
-
-impl Rules {
-    /// The limits on the labels of a stream.
-    pub fn label_limits(&self) -> LabelLimits
-        ensures { result ≡ record {
-          names = self.now.max_label_names;
-          name_bytes = self.now.max_label_name_length;
-          value_bytes = self.now.max_label_value_length;
-        } }
-    {
-        LabelLimits {
-            names: self.max_label_names as usize,
-            name_bytes: self.max_label_name_length as usize,
-            value_bytes: self.max_label_value_length as usize,
         }
     }
 }

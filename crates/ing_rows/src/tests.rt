@@ -178,11 +178,8 @@ fn half_the_age_behind_the_greatest_stamp(rt: HostRuntime) {
     for (highest, age, limit) in [(10, 4, 8), (10, 5, 8), (1, 4, 0), (0, 0, 0), (9, 1, 9)] {
         assert_eq!(rt; window_limit(highest, age), limit);
     }
-    let limits = Rules::default().label_limits();
-    assert_eq!(rt;
-        (limits.names, limits.name_bytes, limits.value_bytes),
-        (15, 1024, 2048)
-    );
+    let rules = Rules::default();
+    assert_eq!(rt; (rules.max_label_names, rules.max_line_size), (15, 262_144));
     worked_rows();
     each_push_is_a_run_of_entries();
     a_push_adds_what_it_accepts();

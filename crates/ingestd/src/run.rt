@@ -17,9 +17,9 @@ use crate::command::{LineFault, Push, StreamPush, push_of, read_value};
 use crate::ending::Ending;
 use crate::lines::{Lines, NextLine};
 use crate::reply::{fault_value, judged_value, push_value, report_value};
-use ing_labels::{LabelFault, Labels};
+use ing_labels::{LabelFault, LabelLimits, Labels};
 use ing_limits::Settings;
-use ing_rows::{Stamp, Tenant};
+use ing_rows::{Rules, Stamp, Tenant};
 use ing_shard::{PushFault, Shard};
 use serde_json::Value;
 use std::alloc::Global;
@@ -206,6 +206,17 @@ fn push_streams(alloc: Global, shard: &mut Shard, push: &Push<'_>) -> Result<Vec
     Ok(replies)
 }
 
+/// The limits on labels among a tenant's rules.
+fn label_limits(rules: &Rules) -> LabelLimits
+    ensures { result ≡ session.limits_of rules.now }
+{
+    LabelLimits {
+        names: rules.max_label_names as usize,
+        name_bytes: rules.max_label_name_length as usize,
+        value_bytes: rules.max_label_value_length as usize,
+    }
+}
+
 /// Pushes the entries of one stream.
 fn push_stream(
     alloc: Global,
@@ -221,7 +232,7 @@ fn push_stream(
     ensures settings { shard.new.settings ≡ shard.old.settings }
     ensures ending { IfErr result (λ e. e ≡ Ending.NoMemory) }
 {
-    let limits = shard.rules(tenant).label_limits();
+    let limits = label_limits(shard.rules(tenant));
     let labels = match Labels::of_pairs(alloc, &stream.labels, &limits) {
         Ok(labels) => labels,
         Err(fault) => return label_fault(alloc, fault),

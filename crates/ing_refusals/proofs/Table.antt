@@ -1,0 +1,116 @@
+-- The refusal that a number or a name stands for.
+use Rattle.std.proofs.Common.{◌≡◌, ℕ, List, cond, refl, sym, ap, ◌∙◌, nat_eq, bytes_eq}
+use Rattle.std.specs.Prelude.{codes}
+use Rattle.ing_refusals.specs.declared.refusal.Refusal.{Refusal}
+use Rattle.ing_refusals.specs.declared.refusal.Refusal.TheVariants.{NoMemory, BadName, TwiceNamed, NoLabels, TooMany, NameTooLong, ValueTooLong, NotCanonical, BadSelector, TooWide, NotToml, UnknownSetting, BadSetting, CounterFull, BadTenant, BadStamp, TooManyEntries, BadCommand, Metadata, InputFault, OutputFault, BadArguments, NoSettings}
+use Rattle.ing_refusals.specs.Refusals.{refusal_number, refusal_name}
+
+of_number : ℕ → Refusal
+of_number n =
+    cond (nat_eq n 0) NoMemory (
+    cond (nat_eq n 1) BadName (
+    cond (nat_eq n 2) TwiceNamed (
+    cond (nat_eq n 3) NoLabels (
+    cond (nat_eq n 4) TooMany (
+    cond (nat_eq n 5) NameTooLong (
+    cond (nat_eq n 6) ValueTooLong (
+    cond (nat_eq n 7) NotCanonical (
+    cond (nat_eq n 8) BadSelector (
+    cond (nat_eq n 9) TooWide (
+    cond (nat_eq n 10) NotToml (
+    cond (nat_eq n 11) UnknownSetting (
+    cond (nat_eq n 12) BadSetting (
+    cond (nat_eq n 19) CounterFull (
+    cond (nat_eq n 30) BadTenant (
+    cond (nat_eq n 31) BadStamp (
+    cond (nat_eq n 32) TooManyEntries (
+    cond (nat_eq n 33) BadCommand (
+    cond (nat_eq n 34) Metadata (
+    cond (nat_eq n 36) InputFault (
+    cond (nat_eq n 37) OutputFault (
+    cond (nat_eq n 38) BadArguments (
+    NoSettings))))))))))))))))))))))
+
+of_name : List ℕ → Refusal
+of_name name =
+    cond (bytes_eq name (codes "NoMemory")) NoMemory (
+    cond (bytes_eq name (codes "BadName")) BadName (
+    cond (bytes_eq name (codes "TwiceNamed")) TwiceNamed (
+    cond (bytes_eq name (codes "NoLabels")) NoLabels (
+    cond (bytes_eq name (codes "TooMany")) TooMany (
+    cond (bytes_eq name (codes "NameTooLong")) NameTooLong (
+    cond (bytes_eq name (codes "ValueTooLong")) ValueTooLong (
+    cond (bytes_eq name (codes "NotCanonical")) NotCanonical (
+    cond (bytes_eq name (codes "BadSelector")) BadSelector (
+    cond (bytes_eq name (codes "TooWide")) TooWide (
+    cond (bytes_eq name (codes "NotToml")) NotToml (
+    cond (bytes_eq name (codes "UnknownSetting")) UnknownSetting (
+    cond (bytes_eq name (codes "BadSetting")) BadSetting (
+    cond (bytes_eq name (codes "CounterFull")) CounterFull (
+    cond (bytes_eq name (codes "BadTenant")) BadTenant (
+    cond (bytes_eq name (codes "BadStamp")) BadStamp (
+    cond (bytes_eq name (codes "TooManyEntries")) TooManyEntries (
+    cond (bytes_eq name (codes "BadCommand")) BadCommand (
+    cond (bytes_eq name (codes "Metadata")) Metadata (
+    cond (bytes_eq name (codes "InputFault")) InputFault (
+    cond (bytes_eq name (codes "OutputFault")) OutputFault (
+    cond (bytes_eq name (codes "BadArguments")) BadArguments (
+    NoSettings))))))))))))))))))))))
+
+numbered : (r : Refusal) → of_number (refusal_number r) ≡ r
+unfolding of_number
+numbered NoMemory = refl
+numbered BadName = refl
+numbered TwiceNamed = refl
+numbered NoLabels = refl
+numbered TooMany = refl
+numbered NameTooLong = refl
+numbered ValueTooLong = refl
+numbered NotCanonical = refl
+numbered BadSelector = refl
+numbered TooWide = refl
+numbered NotToml = refl
+numbered UnknownSetting = refl
+numbered BadSetting = refl
+numbered CounterFull = refl
+numbered BadTenant = refl
+numbered BadStamp = refl
+numbered TooManyEntries = refl
+numbered BadCommand = refl
+numbered Metadata = refl
+numbered InputFault = refl
+numbered OutputFault = refl
+numbered BadArguments = refl
+numbered NoSettings = refl
+
+named : (r : Refusal) → of_name (refusal_name r) ≡ r
+unfolding of_name
+named NoMemory = refl
+named BadName = refl
+named TwiceNamed = refl
+named NoLabels = refl
+named TooMany = refl
+named NameTooLong = refl
+named ValueTooLong = refl
+named NotCanonical = refl
+named BadSelector = refl
+named TooWide = refl
+named NotToml = refl
+named UnknownSetting = refl
+named BadSetting = refl
+named CounterFull = refl
+named BadTenant = refl
+named BadStamp = refl
+named TooManyEntries = refl
+named BadCommand = refl
+named Metadata = refl
+named InputFault = refl
+named OutputFault = refl
+named BadArguments = refl
+named NoSettings = refl
+
+pub same_number : (a b : Refusal) → refusal_number a ≡ refusal_number b → a ≡ b
+same_number a b h = sym (numbered a) ∙ ap of_number h ∙ numbered b
+
+pub same_name : (a b : Refusal) → refusal_name a ≡ refusal_name b → a ≡ b
+same_name a b h = sym (named a) ∙ ap of_name h ∙ named b

@@ -1,0 +1,119 @@
+//! The table of refusals.
+ghost use Rattle.std.specs.Prelude.{◌≡◌};
+ghost use Rattle.ing_refusals.specs.Refusals.{refusal_number, refusal_name};
+
+/// Why something is refused, by the number and the name under which replies and the program's end report it (own).
+/// Each crate's fault has the data that goes with it, and says by a method `refusal` which of these it is.
+#[derive(Clone, Copy, Debug, PartialEq, Eq)]
+pub enum Refusal {
+    /// Memory ran out.
+    NoMemory,
+    /// A label name is none.
+    BadName,
+    /// Two labels have one name.
+    TwiceNamed,
+    /// No label has a value.
+    NoLabels,
+    /// More labels than a stream may have.
+    TooMany,
+    /// A label name is too long.
+    NameTooLong,
+    /// A label value is too long.
+    ValueTooLong,
+    /// A text is no canonical name.
+    NotCanonical,
+    /// A text is no selector.
+    BadSelector,
+    /// A selector asks for no value.
+    TooWide,
+    /// A settings file is no TOML document.
+    NotToml,
+    /// There is no setting of a name.
+    UnknownSetting,
+    /// A setting has a bad value.
+    BadSetting,
+    /// A count would pass its last value.
+    CounterFull,
+    /// A text is no tenant id.
+    BadTenant,
+    /// A text is no stamp.
+    BadStamp,
+    /// More entries than one push of a stream may have.
+    TooManyEntries,
+    /// A line is no command.
+    BadCommand,
+    /// A pushed value has a third element.
+    Metadata,
+    /// The input could not be read.
+    InputFault,
+    /// The output could not be written.
+    OutputFault,
+    /// The argument words are not those of the program.
+    BadArguments,
+    /// The settings file cannot be read.
+    NoSettings,
+}
+
+impl Refusal {
+    /// Its number. Takes no memory.
+    pub fn number(self) -> u32
+        ensures { result ≡ refusal_number self }
+    {
+        match self {
+            Refusal::NoMemory => 0,
+            Refusal::BadName => 1,
+            Refusal::TwiceNamed => 2,
+            Refusal::NoLabels => 3,
+            Refusal::TooMany => 4,
+            Refusal::NameTooLong => 5,
+            Refusal::ValueTooLong => 6,
+            Refusal::NotCanonical => 7,
+            Refusal::BadSelector => 8,
+            Refusal::TooWide => 9,
+            Refusal::NotToml => 10,
+            Refusal::UnknownSetting => 11,
+            Refusal::BadSetting => 12,
+            Refusal::CounterFull => 19,
+            Refusal::BadTenant => 30,
+            Refusal::BadStamp => 31,
+            Refusal::TooManyEntries => 32,
+            Refusal::BadCommand => 33,
+            Refusal::Metadata => 34,
+            Refusal::InputFault => 36,
+            Refusal::OutputFault => 37,
+            Refusal::BadArguments => 38,
+            Refusal::NoSettings => 39,
+        }
+    }
+
+    /// Its name, which is that of the variant. Takes no memory.
+    pub fn name(self) -> &'static str
+        ensures { result.now ≡ refusal_name self }
+    {
+        match self {
+            Refusal::NoMemory => "NoMemory",
+            Refusal::BadName => "BadName",
+            Refusal::TwiceNamed => "TwiceNamed",
+            Refusal::NoLabels => "NoLabels",
+            Refusal::TooMany => "TooMany",
+            Refusal::NameTooLong => "NameTooLong",
+            Refusal::ValueTooLong => "ValueTooLong",
+            Refusal::NotCanonical => "NotCanonical",
+            Refusal::BadSelector => "BadSelector",
+            Refusal::TooWide => "TooWide",
+            Refusal::NotToml => "NotToml",
+            Refusal::UnknownSetting => "UnknownSetting",
+            Refusal::BadSetting => "BadSetting",
+            Refusal::CounterFull => "CounterFull",
+            Refusal::BadTenant => "BadTenant",
+            Refusal::BadStamp => "BadStamp",
+            Refusal::TooManyEntries => "TooManyEntries",
+            Refusal::BadCommand => "BadCommand",
+            Refusal::Metadata => "Metadata",
+            Refusal::InputFault => "InputFault",
+            Refusal::OutputFault => "OutputFault",
+            Refusal::BadArguments => "BadArguments",
+            Refusal::NoSettings => "NoSettings",
+        }
+    }
+}
