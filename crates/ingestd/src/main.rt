@@ -1,17 +1,7 @@
-//! The program: commands in, a line each, a reply a line out, and a report at the end of input.
+//! The program: the argument words and the standard streams, passed to a session.
 #![tactic(auto)]
 
-mod command;
-mod ending;
-mod lines;
-mod reply;
-mod run;
-mod start;
-#[cfg(test)]
-mod tests;
-
-use ending::Ending;
-use start::start;
+use ing_session::{Ending, conclude, start};
 use std::io::ErrorKind;
 use std::process::ExitCode;
 use std::{env, io};
@@ -21,14 +11,8 @@ fn main(rt: HostRuntime) -> ExitCode {
         Ok(words) => start(&rt, &words, &mut rt.reader(), &mut io::writer(&rt)),
         Err(ending) => Err(ending),
     };
-    match ended {
-        Ok(()) => ExitCode::SUCCESS,
-        Err(ending) => {
-            // Where standard error fails too, the status still tells.
-            let _ = rt.eprintln(format_args!("ingestd: {}", ending.name()));
-            ExitCode::from(ending.status())
-        }
-    }
+    let errors = rt.stderr();
+    ExitCode::from(conclude(ended, &mut io::writer(&errors)))
 }
 
 /// The argument words behind the program's name.

@@ -1,0 +1,1 @@
+//! Runs over readers and writers that fail, over inputs that no file should have, and over settings files.

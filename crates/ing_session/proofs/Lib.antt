@@ -1,0 +1,8 @@
+pub mod LinesLaws
+pub mod ShapeLaws
+pub mod CommandLaws
+pub mod StartingLaws
+mod NoFloat
+pub mod RunsLaws
+mod Streams
+mod EndingsLaws

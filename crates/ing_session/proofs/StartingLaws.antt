@@ -1,0 +1,53 @@
+-- What the bytes of a settings file come to.
+use Rattle.std.proofs.Common.{◌≡◌, ℕ, ◌==◌, true, false, List, codes, None, Some, Ok, Err, ap, sym, subst, ◌∙◌}
+use Rattle.std.specs.Prelude.{if◌then◌else◌, Option, Result, IfSome, IfErr, string_bytes}
+use Rattle.std.specs.Result.{IsErrAnd}
+use Rattle.std.specs.Str.{is_utf8, IsUtf8}
+use Rattle.std.proofs.lemmas.Bool.{false_from_ne_true}
+use Rattle.std.proofs.lemmas.Str.{is_utf8-from_IsUtf8, IsUtf8-from_is_utf8}
+use Rattle.ing_limits.specs.Settings.{StoreSettings, Refusal, not_toml, unknown_setting, bad_setting, settings_of}
+use Rattle.ing_limits.specs.Faults as limits
+use Rattle.ing_limits.specs.declared.fault.SettingsFault.{SettingsFault}
+use Rattle.ing_limits.specs.declared.fault.SettingsFault.TheVariants.{NoMemory, NotToml, UnknownSetting, BadSetting}
+use Rattle.ing_session.specs.declared.ending.Ending.{Ending}
+use Rattle.ing_session.specs.Endings.{ending_of_settings, refusal_of}
+use Rattle.ing_session.specs.Starting.{with_one_shard, started_by}
+
+-- bytes that are no UTF-8 are no TOML
+pub started_unread : (file : List ℕ) → (IsUtf8 file → ⊥) → started_by file ≡ Err not_toml
+started_unread file not_text =
+    ap (λ b. with_one_shard (if b then settings_of file else Err not_toml)) (false_from_ne_true (is_utf8 file) (λ is. not_text (IsUtf8-from_is_utf8 file is)))
+
+-- other bytes give what their text gives, with one shard
+pub started_text : (file : List ℕ) (read : Result StoreSettings Refusal) → IsUtf8 file → settings_of file ≡ read → started_by file ≡ with_one_shard read
+started_text file read text is =
+    ap (λ b. with_one_shard (if b then settings_of file else Err not_toml)) (is_utf8-from_IsUtf8 file text) ∙ ap with_one_shard is
+
+pub one_shard : (settings : StoreSettings) → (settings.shards == 1) ≡ true → with_one_shard (Ok settings) ≡ Ok settings
+one_shard settings is = ap (λ b. if b then Ok settings else Err (bad_setting (codes "shards"))) is
+
+pub other_shards : (settings : StoreSettings) → (settings.shards == 1) ≡ false → with_one_shard (Ok settings) ≡ Err (bad_setting (codes "shards"))
+other_shards settings is = ap (λ b. if b then Ok settings else Err (bad_setting (codes "shards"))) is
+
+-- ---- a refused text, passed on as the ending of the program
+
+refused_alike : (fault : SettingsFault) (P Q : Refusal → Type 0) → ((refusal : Refusal) → P refusal → Q refusal) → IfSome (limits.refusal_of fault) P → IfSome (refusal_of (ending_of_settings fault)) Q
+refused_alike NoMemory P Q f refused = tt
+refused_alike NotToml P Q f refused = f not_toml refused
+refused_alike (UnknownSetting name) P Q f refused = f (unknown_setting (string_bytes name)) refused
+refused_alike (BadSetting name) P Q f refused = f (bad_setting (string_bytes name)) refused
+
+pub refused_text : {T : Type 0} (file : List ℕ) (fault : SettingsFault) (r : Result T Ending) → IsUtf8 file
+    → IfSome (limits.refusal_of fault) (λ refusal. settings_of file ≡ Err refusal)
+    → IsErrAnd r (λ e. e ≡ ending_of_settings fault)
+    → IfErr r (λ e. IfSome (refusal_of e) (λ refusal. started_by file ≡ Err refusal))
+refused_text file fault (Ok x) text refused passed = tt
+refused_text file fault (Err e) text refused passed =
+    subst (λ ending. IfSome (refusal_of ending) (λ refusal. started_by file ≡ Err refusal)) (sym passed)
+    (refused_alike fault (λ refusal. settings_of file ≡ Err refusal) (λ refusal. started_by file ≡ Err refusal) (λ refusal is. started_text file (Err refusal) text is) refused)
+
+-- ---- what is known of an input
+
+pub if_some_then : {A : Type 0} (P Q : A → Type 0) (o : Option A) → ((x : A) → P x → Q x) → IfSome o P → IfSome o Q
+if_some_then P Q None f p = tt
+if_some_then P Q (Some x) f p = f x p

@@ -1,0 +1,84 @@
+-- How the program ends on a fault (own).
+use Rattle.std.specs.Prelude.{ℕ, List, [], ◌∷◌, ◌++◌, codes, Result, Ok, Err, Bool, true, false, Option, Some, None, string_bytes}
+use Rattle.ing_limits.specs.Settings.{Refusal, not_toml, unknown_setting, bad_setting}
+use Rattle.ing_limits.specs.declared.fault.SettingsFault.{SettingsFault}
+use Rattle.ing_limits.specs.declared.fault.SettingsFault.TheVariants as settings
+use Rattle.ing_session.specs.declared.lines.LineError.{LineError}
+use Rattle.ing_session.specs.declared.lines.LineError.TheVariants as lines
+use Rattle.ing_session.specs.declared.ending.Ending.{Ending}
+use Rattle.ing_session.specs.declared.ending.Ending.TheVariants.{NoMemory, NotToml, UnknownSetting, BadSetting, InputFault, OutputFault, BadArguments, NoSettings}
+
+abbrev pub ending_number : Ending → ℕ
+ending_number NoMemory = 0
+ending_number NotToml = 10
+ending_number (UnknownSetting _) = 11
+ending_number (BadSetting _) = 12
+ending_number InputFault = 36
+ending_number OutputFault = 37
+ending_number BadArguments = 38
+ending_number NoSettings = 39
+
+abbrev pub ending_name : Ending → List ℕ
+ending_name NoMemory = codes "NoMemory"
+ending_name NotToml = codes "NotToml"
+ending_name (UnknownSetting _) = codes "UnknownSetting"
+ending_name (BadSetting _) = codes "BadSetting"
+ending_name InputFault = codes "InputFault"
+ending_name OutputFault = codes "OutputFault"
+ending_name BadArguments = codes "BadArguments"
+ending_name NoSettings = codes "NoSettings"
+
+-- the exit status: 1 where arguments or settings are refused, 2 where input or output failed, 3 where memory ran out
+abbrev pub ending_status : Ending → ℕ
+ending_status NoMemory = 3
+ending_status NotToml = 1
+ending_status (UnknownSetting _) = 1
+ending_status (BadSetting _) = 1
+ending_status InputFault = 2
+ending_status OutputFault = 2
+ending_status BadArguments = 1
+ending_status NoSettings = 1
+
+-- the exit status of the program
+abbrev pub status_of : Result (Unit {0}) Ending → ℕ
+status_of (Ok done) = 0
+status_of (Err ending) = ending_status ending
+
+-- the line on standard error
+abbrev pub ending_text : Ending → List ℕ
+ending_text ending = codes "ingestd: " ++ ending_name ending ++ 10 ∷ []
+
+-- a run that has begun may end so
+abbrev pub is_of_run : Ending → Bool
+is_of_run NoMemory = true
+is_of_run NotToml = false
+is_of_run (UnknownSetting _) = false
+is_of_run (BadSetting _) = false
+is_of_run InputFault = true
+is_of_run OutputFault = true
+is_of_run BadArguments = false
+is_of_run NoSettings = false
+
+-- what it says of a settings text; the other endings say nothing of it
+abbrev pub refusal_of : Ending → Option Refusal
+refusal_of NoMemory = None
+refusal_of NotToml = Some not_toml
+refusal_of (UnknownSetting name) = Some (unknown_setting (string_bytes name))
+refusal_of (BadSetting name) = Some (bad_setting (string_bytes name))
+refusal_of InputFault = None
+refusal_of OutputFault = None
+refusal_of BadArguments = None
+refusal_of NoSettings = None
+
+-- the ending where a line could not be read
+abbrev pub ending_of_line : LineError → Ending
+ending_of_line lines.ReadFailed = InputFault
+ending_of_line lines.TooManyReads = InputFault
+ending_of_line lines.NoMemory = NoMemory
+
+-- the ending where a settings text is refused
+abbrev pub ending_of_settings : SettingsFault → Ending
+ending_of_settings settings.NoMemory = NoMemory
+ending_of_settings settings.NotToml = NotToml
+ending_of_settings (settings.UnknownSetting name) = UnknownSetting name
+ending_of_settings (settings.BadSetting name) = BadSetting name

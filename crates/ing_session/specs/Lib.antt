@@ -1,0 +1,12 @@
+pub mod Commands
+pub mod Endings
+pub mod Lines
+pub mod Outcome
+pub mod Parts
+pub mod Replies
+pub mod Runs
+pub mod Session
+pub mod Shapes
+pub mod Starting
+pub mod Unread
+pub mod Views

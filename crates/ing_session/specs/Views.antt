@@ -1,0 +1,34 @@
+-- What the code's types hold, without where it lies in memory.
+use Rattle.std.specs.Prelude.{ℕ, List, map}
+use Rattle.std.specs.Borrow.{Bor}
+use Rattle.ing_session.specs.declared.command.Push.{Push}
+use Rattle.ing_session.specs.declared.command.StreamPush.{StreamPush}
+use Rattle.ing_session.specs.declared.command.shape.PushTexts.{PushTexts}
+use Rattle.ing_session.specs.declared.command.shape.StreamTexts.{StreamTexts}
+use Rattle.ing_session.specs.declared.command.shape.ValueTexts.{ValueTexts}
+use Rattle.ing_session.specs.Shapes.{RawValue, RawStream, RawPush}
+use Rattle.ing_session.specs.Commands.{Command, StreamEntries}
+
+-- the bytes of a label and its value
+abbrev pub label_view : Bor (List ℕ) × Bor (List ℕ) → List ℕ × List ℕ
+label_view pair = (pair.0.now, pair.1.now)
+
+-- the texts of a value
+abbrev pub value_view : ValueTexts → RawValue
+value_view v = record { stamp = v.stamp.now; line = v.line.now; has_metadata = v.has_metadata }
+
+-- the texts of a stream
+abbrev pub texts_view : StreamTexts → RawStream
+texts_view s = record { labels = map label_view s.labels.items; values = map value_view s.values.items }
+
+-- the texts of a push
+abbrev pub shape_view : PushTexts → RawPush
+shape_view p = record { tenant = p.tenant.now; now = p.now.now; streams = map texts_view p.streams.items }
+
+-- the entries of a stream
+abbrev pub stream_view : StreamPush → StreamEntries
+stream_view s = record { labels = map label_view s.labels.items; entries = s.entries.items }
+
+-- a push
+abbrev pub push_view : Push → Command
+push_view p = record { tenant = p.tenant; now = p.now; streams = map stream_view p.streams.items }

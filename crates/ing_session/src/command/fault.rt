@@ -1,0 +1,86 @@
+//! Why a line is refused.
+ghost use Rattle.std.specs.Prelude.{◌≡◌};
+ghost use Rattle.ing_session.specs.Outcome.{number_of, name_of};
+
+use ing_rows::RowFault;
+use std::alloc::{AllocError, AllocFailed};
+
+/// Why a whole line is refused.
+#[derive(Clone, Copy, Debug, PartialEq, Eq)]
+pub enum LineFault {
+    /// Memory ran out.
+    NoMemory,
+    /// The line is no JSON object in UTF-8 of a known command with its members.
+    BadCommand,
+    /// A value has a third element.
+    Metadata,
+    /// The tenant is no tenant id.
+    BadTenant,
+    /// The time of the push or that of a value is no stamp.
+    BadStamp,
+}
+
+impl LineFault {
+    /// The number of the refusal (own).
+    pub fn number(&self) -> u32
+        ensures { result ≡ number_of self.now }
+    {
+        match self {
+            LineFault::NoMemory => 0,
+            LineFault::BadCommand => 33,
+            LineFault::Metadata => 34,
+            LineFault::BadTenant => 30,
+            LineFault::BadStamp => 31,
+        }
+    }
+
+    /// The name of the refusal (own).
+    pub fn name(&self) -> &'static str
+        ensures { result.now ≡ name_of self.now }
+    {
+        match self {
+            LineFault::NoMemory => "NoMemory",
+            LineFault::BadCommand => "BadCommand",
+            LineFault::Metadata => "Metadata",
+            LineFault::BadTenant => "BadTenant",
+            LineFault::BadStamp => "BadStamp",
+        }
+    }
+}
+
+impl From<AllocError> for LineFault {
+    ghost use Rattle.std.specs.Prelude.{◌≡◌};
+    ghost use Rattle.ing_session.specs.declared.command.fault.LineFault.TheVariants.{NoMemory};
+
+    ghost from_gives = { λ _ fault. fault ≡ NoMemory };
+
+    fn from(_error: AllocError) -> LineFault {
+        LineFault::NoMemory
+    }
+}
+
+impl<T: Drop> From<AllocFailed<T>> for LineFault {
+    ghost use Rattle.std.specs.Prelude.{◌≡◌};
+    ghost use Rattle.ing_session.specs.declared.command.fault.LineFault.TheVariants.{NoMemory};
+
+    ghost from_gives = { λ _ fault. fault ≡ NoMemory };
+
+    fn from(_error: AllocFailed<T>) -> LineFault {
+        LineFault::NoMemory
+    }
+}
+
+impl From<RowFault> for LineFault {
+    ghost use Rattle.std.specs.Prelude.{◌≡◌};
+    ghost use Rattle.ing_session.specs.Outcome.{fault_of};
+
+    ghost from_gives = { λ part fault. fault ≡ fault_of part };
+
+    fn from(part: RowFault) -> LineFault {
+        match part {
+            RowFault::NoMemory => LineFault::NoMemory,
+            RowFault::BadTenant => LineFault::BadTenant,
+            RowFault::BadStamp => LineFault::BadStamp,
+        }
+    }
+}

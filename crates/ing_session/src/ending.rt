@@ -1,0 +1,130 @@
+//! How the program ends on a fault.
+ghost use Rattle.std.specs.Prelude.{◌≡◌};
+ghost use Rattle.ing_session.specs.Endings.{ending_number, ending_name, ending_status};
+
+use crate::lines::LineError;
+use ing_limits::SettingsFault;
+use std::alloc::{AllocError, AllocFailed};
+
+/// Why the program ended without a report. `name` is the dotted name of the setting, as `tenants.acme.max_line_size`.
+#[derive(Debug, Drop, PartialEq, Eq)]
+pub enum Ending {
+    /// Memory ran out.
+    NoMemory,
+    /// The settings file is no TOML document, or not UTF-8.
+    NotToml,
+    /// There is no setting of this name.
+    UnknownSetting { name: String },
+    /// The value of this setting is bad.
+    BadSetting { name: String },
+    /// The input could not be read, or took more than 2^40 reads.
+    InputFault,
+    /// The output could not be written.
+    OutputFault,
+    /// There are more argument words than one, or one is not UTF-8.
+    BadArguments,
+    /// The settings file cannot be read.
+    NoSettings,
+}
+
+impl Ending {
+    /// The number of the refusal (own). Takes no memory.
+    pub fn number(&self) -> u32
+        ensures { result ≡ ending_number self.now }
+    {
+        match self {
+            Ending::NoMemory => 0,
+            Ending::NotToml => 10,
+            Ending::UnknownSetting { .. } => 11,
+            Ending::BadSetting { .. } => 12,
+            Ending::InputFault => 36,
+            Ending::OutputFault => 37,
+            Ending::BadArguments => 38,
+            Ending::NoSettings => 39,
+        }
+    }
+
+    /// The name of the refusal (own). Takes no memory.
+    pub fn name(&self) -> &'static str
+        ensures { result.now ≡ ending_name self.now }
+    {
+        match self {
+            Ending::NoMemory => "NoMemory",
+            Ending::NotToml => "NotToml",
+            Ending::UnknownSetting { .. } => "UnknownSetting",
+            Ending::BadSetting { .. } => "BadSetting",
+            Ending::InputFault => "InputFault",
+            Ending::OutputFault => "OutputFault",
+            Ending::BadArguments => "BadArguments",
+            Ending::NoSettings => "NoSettings",
+        }
+    }
+
+    /// The exit status of the program: 1 where arguments or settings are refused, 2 where input or output failed, 3 where
+    /// memory ran out (own). Takes no memory.
+    pub fn status(&self) -> u8
+        ensures { result ≡ ending_status self.now }
+    {
+        match self {
+            Ending::NotToml
+            | Ending::UnknownSetting { .. }
+            | Ending::BadSetting { .. }
+            | Ending::BadArguments
+            | Ending::NoSettings => 1,
+            Ending::InputFault | Ending::OutputFault => 2,
+            Ending::NoMemory => 3,
+        }
+    }
+}
+
+impl From<AllocError> for Ending {
+    ghost use Rattle.std.specs.Prelude.{◌≡◌};
+    ghost use Rattle.ing_session.specs.declared.ending.Ending.TheVariants.{NoMemory};
+
+    ghost from_gives = { λ _ ending. ending ≡ NoMemory };
+
+    fn from(_error: AllocError) -> Ending {
+        Ending::NoMemory
+    }
+}
+
+impl<T: Drop> From<AllocFailed<T>> for Ending {
+    ghost use Rattle.std.specs.Prelude.{◌≡◌};
+    ghost use Rattle.ing_session.specs.declared.ending.Ending.TheVariants.{NoMemory};
+
+    ghost from_gives = { λ _ ending. ending ≡ NoMemory };
+
+    fn from(_error: AllocFailed<T>) -> Ending {
+        Ending::NoMemory
+    }
+}
+
+impl From<LineError> for Ending {
+    ghost use Rattle.std.specs.Prelude.{◌≡◌};
+    ghost use Rattle.ing_session.specs.Endings.{ending_of_line};
+
+    ghost from_gives = { λ error ending. ending ≡ ending_of_line error };
+
+    fn from(error: LineError) -> Ending {
+        match error {
+            LineError::ReadFailed | LineError::TooManyReads => Ending::InputFault,
+            LineError::NoMemory => Ending::NoMemory,
+        }
+    }
+}
+
+impl From<SettingsFault> for Ending {
+    ghost use Rattle.std.specs.Prelude.{◌≡◌};
+    ghost use Rattle.ing_session.specs.Endings.{ending_of_settings};
+
+    ghost from_gives = { λ fault ending. ending ≡ ending_of_settings fault };
+
+    fn from(fault: SettingsFault) -> Ending {
+        match fault {
+            SettingsFault::NoMemory => Ending::NoMemory,
+            SettingsFault::NotToml => Ending::NotToml,
+            SettingsFault::UnknownSetting { name } => Ending::UnknownSetting { name },
+            SettingsFault::BadSetting { name } => Ending::BadSetting { name },
+        }
+    }
+}

@@ -1,0 +1,16 @@
+//! The session of the program: lines in, lines out. What a line commands and what is replied, by the settings of a file
+//! and over any reader and writer.
+#![tactic(auto)]
+
+mod command;
+mod ending;
+mod lines;
+mod program;
+mod reply;
+mod session;
+mod transport;
+
+pub use ending::Ending;
+pub use lines::{LineError, Lines, NextLine, lines_end_at_line_feeds};
+pub use program::{conclude, start, start_on};
+pub use transport::run;

@@ -1,0 +1,180 @@
+//! The transport of a session: lines in from a reader, replies out to a writer. What a line says is not looked at here.
+ghost use Rattle.std.specs.Prelude.{◌≡◌, ◌≢◌, ◌<◌, ◌≤◌, [], ℕ, List, Option, IfOk, IfErr, OnOk, IsErrOf, IfSome, IsTrue, MatchBool, true, false, vec_len};
+ghost use Rattle.std.specs.Io.KnownBytes.{Appends, Consumes, Keeps, IsAtEnd};
+ghost use Rattle.ing_limits.specs.Settings.{StoreSettings};
+ghost use Rattle.ing_session.specs.Endings.{is_of_run};
+ghost use Rattle.ing_session.specs.Lines.{TakesLine};
+ghost use Rattle.ing_session.specs.Parts.{HasNoFeed};
+ghost use Rattle.ing_session.specs.Runs.{AnswersWhatWasRead, AnswersFirstLines, with_replies, ServesKnown};
+ghost use Rattle.ing_session.specs.Session.{output_of};
+ghost use Rattle.ing_session.specs.Unread.{left, is_ended, progress};
+
+use crate::ending::Ending;
+use crate::lines::{Lines, MAX_LINE, NextLine, Part, found};
+use crate::session::Session;
+use ing_limits::Settings;
+use std::alloc::Global;
+use std::io::{Read, Write};
+
+/// Reads commands line by line, answers each in a line, and writes a report at the end of input. Replies may be held back
+/// while a whole further line is at hand; they are written out before anything is read, and before the run ends.
+///
+/// `InputFault` where a read failed or the input took more than 2^40 reads, `NoMemory` where memory ran out: then what was
+/// answered before is written, and no report. `OutputFault` where a write failed. (Own.)
+pub fn run<R: Read, W: Write>(
+    alloc: Global,
+    reader: &mut R,
+    writer: &mut W,
+    settings: Settings,
+) -> Result<(), Ending>
+    // What is written is, line for line, what the model answers to the lines read.
+    ensures output { OnOk result (IfSome (R.remaining reader.old) (λ input.
+        Appends (W.contents writer.old) (W.contents writer.new) (output_of settings input))) }
+    ensures input_fault { IsErrOf result Ending.InputFault → IfSome (R.remaining reader.old) (λ input.
+        AnswersWhatWasRead settings input (R.remaining reader.new)
+        (W.contents writer.old) (W.contents writer.new)) }
+    ensures no_memory { IsErrOf result Ending.NoMemory → IfSome (R.remaining reader.old) (λ input.
+        AnswersFirstLines settings input (W.contents writer.old) (W.contents writer.new)) }
+    ensures ending { IfErr result (λ e. IsTrue (is_of_run e)) }
+{
+    let mut replies = Vec::new(alloc);
+    let ended = answer_all(alloc, reader, writer, settings, &mut replies);
+    if let Err(Ending::OutputFault) = ended {
+        return ended;
+    }
+    write_out(writer, &mut replies)?;
+    ended
+}
+
+/// Answers all lines of the input, and makes the report. What it leaves in `replies` is still to be written.
+fn answer_all<R: Read, W: Write>(
+    alloc: Global,
+    reader: &mut R,
+    writer: &mut W,
+    settings: Settings,
+    replies: &mut Vec<u8>,
+) -> Result<(), Ending>
+    requires { replies.old.items ≡ [] }
+    ensures output { OnOk result (IfSome (R.remaining reader.old) (λ input. Appends (W.contents writer.old)
+        (with_replies (W.contents writer.new) replies.new.items) (output_of settings input))) }
+    ensures input_fault { IsErrOf result Ending.InputFault → IfSome (R.remaining reader.old) (λ input.
+        AnswersWhatWasRead settings input (R.remaining reader.new) (W.contents writer.old)
+        (with_replies (W.contents writer.new) replies.new.items)) }
+    ensures no_memory { IsErrOf result Ending.NoMemory → IfSome (R.remaining reader.old) (λ input.
+        AnswersFirstLines settings input (W.contents writer.old)
+        (with_replies (W.contents writer.new) replies.new.items)) }
+    ensures ending { IfErr result (λ e. IsTrue (is_of_run e)) }
+{
+    let mut session = Session::new(alloc, settings);
+    let mut lines = Lines::new(alloc)?;
+    let mut line = Vec::new(alloc);
+    loop {
+        if !serve(reader, writer, &mut lines, &mut line, &mut session, replies)? {
+            return Ok(());
+        }
+    }
+}
+
+/// Answers the next line, or makes the report where there is none. Gives whether there was one.
+fn serve<R: Read, W: Write>(
+    reader: &mut R,
+    writer: &mut W,
+    lines: &mut Lines,
+    line: &mut Vec<u8>,
+    session: &mut Session,
+    replies: &mut Vec<u8>,
+) -> Result<bool, Ending>
+    ensures served { IfOk result (λ more. (first : Option (List ℕ)) (settings : StoreSettings) (input : List ℕ) →
+        ServesKnown settings session.old.shard input first
+        (with_replies (W.contents writer.old) replies.old.items) (is_ended lines.old)
+        (left lines.old (R.remaining reader.old)) →
+        MatchBool more
+        (ServesKnown settings session.new.shard input first
+        (with_replies (W.contents writer.new) replies.new.items) (is_ended lines.new)
+        (left lines.new (R.remaining reader.new)))
+        (Appends first (with_replies (W.contents writer.new) replies.new.items) (output_of settings input))) }
+    ensures input_fault { IsErrOf result Ending.InputFault →
+        (first : Option (List ℕ)) (settings : StoreSettings) (input : List ℕ) →
+        ServesKnown settings session.old.shard input first
+        (with_replies (W.contents writer.old) replies.old.items) (is_ended lines.old)
+        (left lines.old (R.remaining reader.old)) →
+        AnswersWhatWasRead settings input (R.remaining reader.new) first
+        (with_replies (W.contents writer.new) replies.new.items) }
+    ensures no_memory { IsErrOf result Ending.NoMemory →
+        (first : Option (List ℕ)) (settings : StoreSettings) (input : List ℕ) →
+        ServesKnown settings session.old.shard input first
+        (with_replies (W.contents writer.old) replies.old.items) (is_ended lines.old)
+        (left lines.old (R.remaining reader.old)) →
+        AnswersFirstLines settings input first
+        (with_replies (W.contents writer.new) replies.new.items) }
+    ensures progress { IfOk result (λ more. more ≡ true → progress lines.old < progress lines.new) }
+    ensures ending { IfErr result (λ e. IsTrue (is_of_run e)) }
+{
+    match next_line(reader, writer, lines, line, replies)? {
+        NextLine::Line => {
+            session.answer(line, replies)?;
+            Ok(true)
+        }
+        NextLine::TooLong => {
+            session.refuse_long(replies)?;
+            Ok(true)
+        }
+        NextLine::End => {
+            session.report(replies)?;
+            Ok(false)
+        }
+    }
+}
+
+/// The next line. Where it is not at hand whole, the replies that are held back are written out before it is read.
+fn next_line<R: Read, W: Write>(
+    reader: &mut R,
+    writer: &mut W,
+    lines: &mut Lines,
+    line: &mut Vec<u8>,
+    replies: &mut Vec<u8>,
+) -> Result<NextLine, Ending>
+    ensures line { IfOk result (λ next.
+        (is_ended lines.old ≡ true → IsAtEnd (left lines.old (R.remaining reader.old))) →
+        TakesLine (left lines.old (R.remaining reader.old)) (left lines.new (R.remaining reader.new))
+        (is_ended lines.new) next line.new.items) }
+    ensures held { IfOk result (λ _. Keeps (with_replies (W.contents writer.old) replies.old.items)
+        (with_replies (W.contents writer.new) replies.new.items)) }
+    ensures kept { IfErr result (λ e. e ≢ Ending.OutputFault →
+        Keeps (with_replies (W.contents writer.old) replies.old.items)
+        (with_replies (W.contents writer.new) replies.new.items)) }
+    ensures fault { IsErrOf result Ending.InputFault → (is_ended lines.old ≡ false)
+        × (read : List ℕ) × HasNoFeed read
+        × Consumes (left lines.old (R.remaining reader.old)) (R.remaining reader.new) read }
+    ensures short { OnOk result (vec_len line.new ≤ MAX_LINE) }
+    ensures progress { IfOk result (λ next. next ≢ NextLine.End → progress lines.old < progress lines.new) }
+    ensures ending { IfErr result (λ e. IsTrue (is_of_run e)) }
+{
+    if lines.is_ended() {
+        line.clear();
+        return Ok(NextLine::End);
+    }
+    match lines.begin(line)? {
+        Part::Ended(too_long) => Ok(found(too_long)),
+        Part::Open(too_long) => {
+            write_out(writer, replies)?;
+            Ok(lines.read_on(reader, line, too_long)?)
+        }
+    }
+}
+
+/// Writes the replies that are held back, and flushes them. After an error some of them may be written.
+fn write_out<W: Write>(writer: &mut W, replies: &mut Vec<u8>) -> Result<(), Ending>
+    ensures written { OnOk result (Appends (W.contents writer.old) (W.contents writer.new) replies.old.items) }
+    ensures none { OnOk result (replies.new.items ≡ []) }
+    ensures ending { IfErr result (λ e. e ≡ Ending.OutputFault) }
+{
+    if replies.is_empty() {
+        return Ok(());
+    }
+    if writer.write_all(replies).is_err() || writer.flush().is_err() {
+        return Err(Ending::OutputFault);
+    }
+    replies.clear();
+    Ok(())
+}
