@@ -1,14 +1,10 @@
--- The numbers and names of this crate's refusals (own).
-use Rattle.std.specs.Prelude.{ℕ, List, codes}
+-- Which refusal each of this crate's faults is (own).
+use Rattle.ing_refusals.specs.declared.refusal.Refusal.{Refusal}
+use Rattle.ing_refusals.specs.declared.refusal.Refusal.TheVariants as refusal
 use Rattle.ing_rows.specs.declared.fault.RowFault.{RowFault}
 use Rattle.ing_rows.specs.declared.fault.RowFault.TheVariants.{NoMemory, BadTenant, BadStamp}
 
-abbrev pub number_of : RowFault → ℕ
-number_of NoMemory = 0
-number_of BadTenant = 30
-number_of BadStamp = 31
-
-abbrev pub name_of : RowFault → List ℕ
-name_of NoMemory = codes "NoMemory"
-name_of BadTenant = codes "BadTenant"
-name_of BadStamp = codes "BadStamp"
+abbrev pub refusal_of : RowFault → Refusal
+refusal_of NoMemory = refusal.NoMemory
+refusal_of BadTenant = refusal.BadTenant
+refusal_of BadStamp = refusal.BadStamp

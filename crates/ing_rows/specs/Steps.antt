@@ -1,6 +1,6 @@
 -- What the events of a shard do to its state, one case each.
 -- What names no section of the Loki documentation is own.
-use Rattle.std.specs.Prelude.{◌≡◌, ◌≢◌, ℕ, ◌+◌, ◌-◌, ◌≤◌, max, min, Bool, true, false, not, ◌&&◌, List, [], ◌∷◌, map, filter, find, All, Contains, ◌==◌, nat_lt, nat_le, if◌then◌else◌, is_none, is_some, Option, Some, None}
+use Rattle.std.specs.Prelude.{◌≡◌, ◌≢◌, ℕ, ◌+◌, ◌-◌, ◌≤◌, max, min, Bool, true, false, not, ◌&&◌, List, [], ◌∷◌, map, filter, find, All, Any, Contains, ◌==◌, nat_lt, nat_le, if◌then◌else◌, is_none, is_some, Option, Some, None}
 use Rattle.ing_rows.specs.declared.entry.Entry.{Entry}
 use Rattle.ing_rows.specs.declared.place.Place.{Place}
 use Rattle.ing_rows.specs.declared.place.Place.TheVariants.{Head, Block, Flight, Stored}
@@ -187,6 +187,7 @@ pub record Finishes (s : StreamKey) (chunk f : ℕ) (key : List ℕ) (old new : 
   pub some : rows_of_chunk s chunk old.rows ≢ []
   pub stores : IsSame new (record { rows = moved (λ r. is_flight f r.place) (Stored key) old.rows; marks = filter (λ m. not (is_mark_of s chunk m)) old.marks })
 
--- the chunk in flight waits in its blocks again (own)
-abbrev pub GivesBack : ℕ → State → State → Type 0
-GivesBack f old new = IsSame new (record old { rows = moved (λ r. is_flight f r.place) Block old.rows })
+-- a chunk that is in flight waits in its blocks again (own)
+pub record GivesBack (f : ℕ) (old new : State) : Type 0 where
+  pub flies : Any (λ r. is_flight f r.place ≡ true) old.rows
+  pub waits : IsSame new (record old { rows = moved (λ r. is_flight f r.place) Block old.rows })

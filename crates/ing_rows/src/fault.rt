@@ -1,7 +1,8 @@
 //! Why a text is no tenant id, or no stamp.
 ghost use Rattle.std.specs.Prelude.{◌≡◌};
-ghost use Rattle.ing_rows.specs.Faults.{number_of, name_of};
+ghost use Rattle.ing_rows.specs.Faults.{refusal_of};
 
+use ing_refusals::Refusal;
 use std::alloc::AllocError;
 use thiserror::Error;
 
@@ -20,25 +21,14 @@ pub enum RowFault {
 }
 
 impl RowFault {
-    /// The number of the refusal (own).
-    pub fn number(&self) -> u32
-        ensures { result ≡ number_of self.now }
+    /// Which refusal it is. Takes no memory.
+    pub fn refusal(&self) -> Refusal
+        ensures { result ≡ refusal_of self.now }
     {
         match self {
-            RowFault::NoMemory => 0,
-            RowFault::BadTenant => 30,
-            RowFault::BadStamp => 31,
-        }
-    }
-
-    /// The name of the refusal (own).
-    pub fn name(&self) -> &'static str
-        ensures { result.now ≡ name_of self.now }
-    {
-        match self {
-            RowFault::NoMemory => "NoMemory",
-            RowFault::BadTenant => "BadTenant",
-            RowFault::BadStamp => "BadStamp",
+            RowFault::NoMemory => Refusal::NoMemory,
+            RowFault::BadTenant => Refusal::BadTenant,
+            RowFault::BadStamp => Refusal::BadStamp,
         }
     }
 }

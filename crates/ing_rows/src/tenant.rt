@@ -1,5 +1,5 @@
 //! Tenants.
-ghost use Rattle.std.specs.Prelude.{◌≡◌, ◌≢◌, ◌==◌, ◌&&◌, ◌||◌, IfOk, IfErr, List, ℕ, IsTrue, length, string_bytes, true, false};
+ghost use Rattle.std.specs.Prelude.{◌≡◌, ◌≢◌, ◌↔◌, ◌==◌, ◌&&◌, ◌||◌, IfOk, IfErr, IsErrOf, List, ℕ, IsTrue, length, string_bytes, true, false};
 ghost use Rattle.std.specs.List.{list_all};
 ghost use Rattle.ing_rows.specs.Texts.{is_tenant, is_tenant_byte};
 
@@ -26,11 +26,12 @@ impl Model for Tenant {
 }
 
 impl Tenant {
-    /// The tenant of this text. `BadTenant` exactly where the text is no tenant id.
+    /// The tenant of this text. `BadTenant` exactly where the text is no tenant id; else nothing but want of memory
+    /// refuses it.
     pub fn of_text(alloc: Global, text: &str) -> Result<Tenant, RowFault>
-        ensures tenant { IfOk result (λ tenant. tenant ≡ text.now) }
-        ensures valid { IfOk result (λ _. is_tenant text.now ≡ true) }
-        ensures refused { IfErr result (λ fault. fault ≢ RowFault.NoMemory → (fault ≡ RowFault.BadTenant) × (is_tenant text.now ≡ false)) }
+        ensures tenant { IfOk result (λ tenant. (tenant ≡ text.now) × (is_tenant text.now ≡ true)) }
+        ensures refused { IsErrOf result RowFault.BadTenant ↔ (is_tenant text.now ≡ false) }
+        ensures others { IfErr result (λ fault. fault ≢ RowFault.NoMemory → fault ≡ RowFault.BadTenant) }
     {
         if !is_tenant_id(text) {
             return Err(RowFault::BadTenant);

@@ -1,5 +1,6 @@
 //! Worked values, and each call that takes memory once.
 use super::*;
+use ing_refusals::Refusal;
 use std::alloc::Global;
 use std::process::Abort;
 use std::test::Fail;
@@ -146,7 +147,7 @@ fn tenant_ids_are_names_of_up_to_150_bytes(rt: HostRuntime) -> Result<(), Fail> 
             }
             Err(fault) => {
                 assert!(rt; !valid, "{text}");
-                assert_eq!(rt; (fault.number(), fault.name()), (30, "BadTenant"));
+                assert_eq!(rt; fault.refusal(), Refusal::BadTenant);
             }
         }
     }

@@ -1,14 +1,10 @@
--- The numbers and names of this crate's refusals (own).
-use Rattle.std.specs.Prelude.{ℕ, List, codes}
+-- Which refusal each of this crate's faults is (own).
+use Rattle.ing_refusals.specs.declared.refusal.Refusal.{Refusal}
+use Rattle.ing_refusals.specs.declared.refusal.Refusal.TheVariants as refusal
 use Rattle.ing_shard.specs.declared.fault.PushFault.{PushFault}
 use Rattle.ing_shard.specs.declared.fault.PushFault.TheVariants.{NoMemory, CounterFull, TooManyEntries}
 
-abbrev pub number_of : PushFault → ℕ
-number_of NoMemory = 0
-number_of CounterFull = 19
-number_of TooManyEntries = 32
-
-abbrev pub name_of : PushFault → List ℕ
-name_of NoMemory = codes "NoMemory"
-name_of CounterFull = codes "CounterFull"
-name_of TooManyEntries = codes "TooManyEntries"
+abbrev pub refusal_of : PushFault → Refusal
+refusal_of NoMemory = refusal.NoMemory
+refusal_of CounterFull = refusal.CounterFull
+refusal_of TooManyEntries = refusal.TooManyEntries

@@ -1,7 +1,8 @@
 //! Why a push is refused as a whole.
 ghost use Rattle.std.specs.Prelude.{◌≡◌};
-ghost use Rattle.ing_shard.specs.Faults.{number_of, name_of};
+ghost use Rattle.ing_shard.specs.Faults.{refusal_of};
 
+use ing_refusals::Refusal;
 use std::alloc::AllocError;
 use thiserror::Error;
 
@@ -20,25 +21,14 @@ pub enum PushFault {
 }
 
 impl PushFault {
-    /// The number of the refusal (own).
-    pub fn number(&self) -> u32
-        ensures { result ≡ number_of self.now }
+    /// Which refusal it is. Takes no memory.
+    pub fn refusal(&self) -> Refusal
+        ensures { result ≡ refusal_of self.now }
     {
         match self {
-            PushFault::NoMemory => 0,
-            PushFault::CounterFull => 19,
-            PushFault::TooManyEntries => 32,
-        }
-    }
-
-    /// The name of the refusal (own).
-    pub fn name(&self) -> &'static str
-        ensures { result.now ≡ name_of self.now }
-    {
-        match self {
-            PushFault::NoMemory => "NoMemory",
-            PushFault::CounterFull => "CounterFull",
-            PushFault::TooManyEntries => "TooManyEntries",
+            PushFault::NoMemory => Refusal::NoMemory,
+            PushFault::CounterFull => Refusal::CounterFull,
+            PushFault::TooManyEntries => Refusal::TooManyEntries,
         }
     }
 }

@@ -2,6 +2,7 @@
 use super::*;
 use ing_labels::{LabelLimits, Labels};
 use ing_limits::Settings;
+use ing_refusals::Refusal;
 use ing_rows::{Entry, Line, Stamp, Tenant, Verdict};
 use std::alloc::Global;
 use std::test::Fail;
@@ -40,7 +41,7 @@ fn a_push_is_judged_and_counted(rt: HostRuntime) -> Result<(), Fail> {
     let pushed = match shard.push(rt.alloc(), &tenant, &labels, &entries, stamp(1)?) {
         Ok(pushed) => pushed,
         Err(fault) => {
-            assert_eq!(rt; (fault.number(), fault.name()), (0, "NoMemory"));
+            assert_eq!(rt; fault.refusal(), Refusal::NoMemory);
             assert_eq!(rt; shard.totals(), (0, 0));
             shard.push(rt.alloc(), &tenant, &labels, &entries, stamp(1)?)?
         }
@@ -72,8 +73,8 @@ fn more_entries_than_one_push_of_a_tenant_may_have(rt: HostRuntime) -> Result<()
         .err();
     assert_eq!(rt; fault, Some(PushFault::TooManyEntries));
     assert_eq!(rt;
-        fault.map(|fault| (fault.number(), fault.name())),
-        Some((32, "TooManyEntries"))
+        fault.map(|fault| fault.refusal()),
+        Some(Refusal::TooManyEntries)
     );
     assert_eq!(rt; shard.totals(), (0, 0));
     shard.push(rt.alloc(), &other, &labels, &entries, stamp(1)?)?;
