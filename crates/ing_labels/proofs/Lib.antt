@@ -8,7 +8,6 @@ pub mod Spelt
 pub mod Complete
 pub mod Chars
 pub mod Ends
-pub mod Mapped
 pub mod Looked
 pub mod Rising
 pub mod CanonicalSpelt

@@ -81,10 +81,9 @@ fn refusals_come_in_order(rt: HostRuntime) {
 }
 
 #[test]
-fn faults_have_numbers_and_names(rt: HostRuntime) -> Result<(), Fail> {
+fn faults_say_what_and_where(rt: HostRuntime) -> Result<(), Fail> {
     let fault = LabelFault::TwiceNamed { at: 1 };
-    assert_eq!(rt; fault.number(), 2);
-    assert_eq!(rt; fault.name(), "TwiceNamed");
+    assert_eq!(rt; fault.refusal().name(), "TwiceNamed");
     assert_eq!(rt; fault.at(), Some(1));
     assert_eq!(rt;
         format!(in rt.alloc(); "{fault}")?.as_str(),
@@ -140,10 +139,9 @@ fn selectors_are_refused(rt: HostRuntime) {
 }
 
 #[test]
-fn text_faults_have_numbers_and_names(rt: HostRuntime) -> Result<(), Fail> {
+fn text_faults_say_what_and_where(rt: HostRuntime) -> Result<(), Fail> {
     let fault = TextFault::BadSelector { at: 3 };
-    assert_eq!(rt; fault.number(), 8);
-    assert_eq!(rt; fault.name(), "BadSelector");
+    assert_eq!(rt; fault.refusal().name(), "BadSelector");
     assert_eq!(rt; fault.at(), Some(3));
     assert_eq!(rt;
         format!(in rt.alloc(); "{fault}")?.as_str(),
