@@ -1,1 +1,269 @@
-//! Runs over readers and writers that fail, over inputs that no file should have, and over settings files.
+//! What no file can say: readers and writers that fail or watch one another, settings files, lines of 16 MiB, and a
+//! refused allocation.
+mod settings;
+
+use ing_limits::Settings;
+use ing_session::{Ending, conclude, run, start};
+use std::cell::Cell;
+use std::io::{Error, ErrorKind, Read, Write};
+use std::test::Fail;
+use std::{env, fs, io, process};
+
+/// One entry `hello` for each of two tenants.
+const PUSHES: &str =
+    "{\"cmd\":\"push\",\"tenant\":\"acme\",\"now\":\"1\",\"streams\":[{\"stream\":{\"a\":\"1\"},\"values\":[[\"1\",\"hello\"]]}]}\n{\"cmd\":\"push\",\"tenant\":\"t\",\"now\":\"1\",\"streams\":[{\"stream\":{\"a\":\"1\"},\"values\":[[\"1\",\"hello\"]]}]}\n";
+
+const REPLY: &str =
+    "{\"push\":[{\"durable\":false,\"stream\":\"{a=\\\"1\\\"}\",\"verdicts\":[{\"accepted\":0}]}]}\n";
+
+const REPORT: &str = "{\"report\":[{\"accepted\":2,\"kept\":2,\"recovered\":0,\"stored\":0}]}\n";
+
+const BAD_COMMAND: &str = "{\"error\":\"BadCommand\",\"number\":33}\n";
+
+fn defaults(rt: &HostRuntime) -> Result<Settings, Fail> {
+    Ok(Settings::from_toml(rt.alloc(), "")?)
+}
+
+/// How the program ends with these words on `PUSHES`, and what it has written by then.
+fn started(rt: &HostRuntime, words: &[&str]) -> Result<(Result<(), Ending>, String), Fail> {
+    let mut owned = Vec::new(rt.alloc());
+    for word in words {
+        owned.push(String::from_str(rt.alloc(), word)?)?;
+    }
+    let mut reader = PUSHES.as_bytes();
+    let mut writer = Vec::new(rt.alloc());
+    let ended = start(rt, &owned, &mut reader, &mut writer);
+    let written = String::from_utf8(writer).ok().ok_or("the output is text")?;
+    Ok((ended, written))
+}
+
+#[test]
+fn settings_from_a_file(rt: HostRuntime) -> Result<(), Fail> {
+    let folder = env::temp_dir(&rt)?;
+    let path = format!(in rt.alloc();
+        "{}/sarymbeu-{}.toml",
+        folder.as_str(),
+        process::id(rt.process())
+    )?;
+    // What counts stands behind the first 64 KiB of the file.
+    let mut file = "#\n".repeat(rt.alloc(), 40_000)?;
+    file.push_str("[tenants.acme]\nmax_line_size = 4\n")?;
+    fs::write(&rt, path.as_str(), file.as_bytes())?;
+    let (ended, written) = started(&rt, &[path.as_str()])?;
+    fs::remove_file(&rt, path.as_str())?;
+    assert_eq!(rt; ended, Ok(()));
+    assert!(rt; written.as_str().contains("\"line_too_long\""));
+    let (ended, written) = started(&rt, &[])?;
+    assert_eq!(rt; ended, Ok(()));
+    let both = format!(in rt.alloc(); "{REPLY}{REPLY}{REPORT}")?;
+    assert_eq!(rt; written.as_str(), both.as_str());
+    Ok(())
+}
+
+#[test]
+fn words_that_name_no_file(rt: HostRuntime) -> Result<(), Fail> {
+    let folder = env::temp_dir(&rt)?;
+    let missing = format!(in rt.alloc(); "{}/sarymbeu-no-such-file.toml", folder.as_str())?;
+    for path in [missing.as_str(), folder.as_str(), ""] {
+        let (ended, written) = started(&rt, &[path])?;
+        let mut errors = Vec::new(rt.alloc());
+        assert_eq!(rt; conclude(ended, &mut errors), 1);
+        assert_eq!(rt; errors.as_slice(), b"ingestd: NoSettings\n".as_slice());
+        assert_eq!(rt; written.as_str(), "");
+    }
+    let (ended, written) = started(&rt, &[missing.as_str(), folder.as_str()])?;
+    assert_eq!(rt; ended, Err(Ending::BadArguments));
+    assert_eq!(rt; written.as_str(), "");
+    Ok(())
+}
+
+/// Gives its text a few bytes at a time, with an interruption before each piece, and then fails or ends.
+#[derive(Drop)]
+struct Pieces<'a> {
+    text: &'a [u8],
+    piece: usize,
+    interrupts: bool,
+    fails: bool,
+}
+
+impl Read for Pieces<'_> {
+    fn read(&mut self, buf: &mut [u8]) -> io::Result<usize> {
+        self.interrupts = !self.interrupts;
+        if !self.interrupts {
+            return Err(Error::from(ErrorKind::Interrupted));
+        }
+        if self.text.is_empty() && self.fails {
+            return Err(Error::from(ErrorKind::ConnectionReset));
+        }
+        let count = self.piece.min(self.text.len()).min(buf.len());
+        let (piece, rest) = self.text.split_at(count);
+        buf[..count].copy_from_slice(piece);
+        self.text = rest;
+        Ok(count)
+    }
+}
+
+#[test]
+fn input_in_pieces_and_a_failed_read(rt: HostRuntime) -> Result<(), Fail> {
+    let whole = format!(in rt.alloc(); "{REPLY}{REPLY}{REPORT}")?;
+    let answered = format!(in rt.alloc(); "{REPLY}{REPLY}")?;
+    for piece in [1, 2, 3, 7, 1000] {
+        for (fails, ended, output) in [
+            (false, Ok(()), whole.as_str()),
+            (true, Err(Ending::InputFault), answered.as_str()),
+        ] {
+            let mut reader = Pieces {
+                text: PUSHES.as_bytes(),
+                piece,
+                interrupts: false,
+                fails,
+            };
+            let mut writer = Vec::new(rt.alloc());
+            let got = run(rt.alloc(), &mut reader, &mut writer, defaults(&rt)?);
+            assert_eq!(rt; got, ended, "in pieces of {piece}");
+            assert_eq!(rt;
+                writer.as_slice(),
+                output.as_bytes(),
+                "in pieces of {piece}"
+            );
+        }
+    }
+    Ok(())
+}
+
+/// Gives a line at each read, and counts the bytes that were flushed to the other side before it.
+#[derive(Drop)]
+struct Asking<'a> {
+    lines: &'a [&'a str],
+    flushed: &'a Cell<usize>,
+    seen: &'a Cell<usize>,
+}
+
+impl Read for Asking<'_> {
+    fn read(&mut self, buf: &mut [u8]) -> io::Result<usize> {
+        self.seen.set(self.flushed.get());
+        let Some((line, others)) = self.lines.split_first() else {
+            return Ok(0);
+        };
+        let count = line.len().min(buf.len());
+        buf[..count].copy_from_slice(&line.as_bytes()[..count]);
+        self.lines = others;
+        Ok(count)
+    }
+}
+
+/// Shows what is written once it is flushed.
+#[derive(Drop)]
+struct Buffered<'a> {
+    held: usize,
+    flushed: &'a Cell<usize>,
+}
+
+impl Write for Buffered<'_> {
+    fn write(&mut self, buf: &[u8]) -> io::Result<usize> {
+        self.held = self.held.saturating_add(buf.len());
+        Ok(buf.len())
+    }
+
+    fn flush(&mut self) -> io::Result<()> {
+        self.flushed
+            .set(self.flushed.get().saturating_add(self.held));
+        self.held = 0;
+        Ok(())
+    }
+}
+
+#[test]
+fn replies_are_flushed_before_the_next_read(rt: HostRuntime) -> Result<(), Fail> {
+    let flushed = Cell::new(0usize);
+    let seen = Cell::new(0usize);
+    let mut reader = Asking {
+        lines: &["x\nx\n", "x\n"],
+        flushed: &flushed,
+        seen: &seen,
+    };
+    let mut writer = Buffered {
+        held: 0,
+        flushed: &flushed,
+    };
+    let ended = run(rt.alloc(), &mut reader, &mut writer, defaults(&rt)?);
+    assert_eq!(rt; ended, Ok(()));
+    // Before the last read, which finds the end, all three replies were flushed.
+    assert_eq!(rt; seen.get(), BAD_COMMAND.len().saturating_mul(3));
+    Ok(())
+}
+
+/// Takes so many writes, and then fails.
+#[derive(Drop)]
+struct FailingWriter {
+    writes: u32,
+}
+
+impl Write for FailingWriter {
+    fn write(&mut self, buf: &[u8]) -> io::Result<usize> {
+        if self.writes == 0 {
+            return Err(Error::from(ErrorKind::Other));
+        }
+        self.writes -= 1;
+        Ok(buf.len())
+    }
+
+    fn flush(&mut self) -> io::Result<()> {
+        Ok(())
+    }
+}
+
+#[test]
+fn a_failed_write_ends_the_run(rt: HostRuntime) -> Result<(), Fail> {
+    for (writes, ended) in [
+        (0, Err(Ending::OutputFault)),
+        (1, Err(Ending::OutputFault)),
+        (2, Ok(())),
+    ] {
+        let mut reader = PUSHES.as_bytes();
+        let mut writer = FailingWriter { writes };
+        let got = run(rt.alloc(), &mut reader, &mut writer, defaults(&rt)?);
+        assert_eq!(rt; got, ended, "after {writes} writes");
+    }
+    Ok(())
+}
+
+#[test]
+fn longest_line_and_one_byte_more(rt: HostRuntime) -> Result<(), Fail> {
+    // A line of blanks is skipped, and one that is too long is refused; the next is read.
+    for (length, replies) in [(16_777_216, 1), (16_777_217, 2)] {
+        let mut reader = io::repeat(b' ').take(length).chain(b"\nx\n".as_slice());
+        let mut writer = Vec::new(rt.alloc());
+        let ended = run(rt.alloc(), &mut reader, &mut writer, defaults(&rt)?);
+        assert_eq!(rt; ended, Ok(()));
+        let refused = BAD_COMMAND.repeat(rt.alloc(), replies)?;
+        assert!(rt; writer.as_slice().starts_with(refused.as_bytes()));
+        assert!(rt; writer.as_slice()[refused.len()..].starts_with(b"{\"report\""));
+    }
+    Ok(())
+}
+
+/// One allocation at most is refused in a run of this test, and none of them is the test's own: the run ends on
+/// `NoMemory` with whole replies, and the same run then gives the whole output.
+#[test]
+fn a_refused_allocation_ends_the_run_and_the_next_is_whole(rt: HostRuntime) -> Result<(), Fail> {
+    let mut room = [0u8; 512];
+    for _ in 0..2 {
+        let settings = match Settings::from_toml(rt.alloc(), "") {
+            Ok(settings) => settings,
+            Err(_) => defaults(&rt)?,
+        };
+        let mut reader = PUSHES.as_bytes();
+        let mut writer = room.as_mut_slice();
+        match run(rt.alloc(), &mut reader, &mut writer, settings) {
+            Ok(()) => break,
+            Err(ending) => assert_eq!(rt; ending, Ending::NoMemory),
+        }
+    }
+    let (first, others) = room.split_at(REPLY.len());
+    assert_eq!(rt; first, REPLY.as_bytes());
+    let (second, others) = others.split_at(REPLY.len());
+    assert_eq!(rt; second, REPLY.as_bytes());
+    assert!(rt; others.starts_with(REPORT.as_bytes()));
+    Ok(())
+}

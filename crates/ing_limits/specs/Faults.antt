@@ -1,20 +1,16 @@
--- The numbers and names of the refusals, and which refusal of a text each is (own).
-use Rattle.std.specs.Prelude.{ℕ, List, codes, Option, Some, None, string_bytes}
+-- Which row of the table of refusals a fault is, and which refusal of a text (own).
+use Rattle.std.specs.Prelude.{Option, Some, None, string_bytes}
+use Rattle.ing_refusals.specs.declared.refusal.Refusal as table
+use Rattle.ing_refusals.specs.declared.refusal.Refusal.TheVariants as rows
 use Rattle.ing_limits.specs.Settings.{Refusal, not_toml, unknown_setting, bad_setting}
 use Rattle.ing_limits.specs.declared.fault.SettingsFault.{SettingsFault}
 use Rattle.ing_limits.specs.declared.fault.SettingsFault.TheVariants.{NoMemory, NotToml, UnknownSetting, BadSetting}
 
-abbrev pub number_of : SettingsFault → ℕ
-number_of NoMemory = 0
-number_of NotToml = 10
-number_of (UnknownSetting _) = 11
-number_of (BadSetting _) = 12
-
-abbrev pub name_of : SettingsFault → List ℕ
-name_of NoMemory = codes "NoMemory"
-name_of NotToml = codes "NotToml"
-name_of (UnknownSetting _) = codes "UnknownSetting"
-name_of (BadSetting _) = codes "BadSetting"
+abbrev pub fault_refusal : SettingsFault → table.Refusal
+fault_refusal NoMemory = rows.NoMemory
+fault_refusal NotToml = rows.NotToml
+fault_refusal (UnknownSetting _) = rows.UnknownSetting
+fault_refusal (BadSetting _) = rows.BadSetting
 
 -- what it says of the text; want of memory says nothing
 abbrev pub refusal_of : SettingsFault → Option Refusal

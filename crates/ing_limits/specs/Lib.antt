@@ -4,6 +4,7 @@ pub mod Settings
 pub mod First
 pub mod Ranges
 pub mod Faults
+pub mod Greatest
 pub mod Held
 pub mod Small
 pub mod Coded

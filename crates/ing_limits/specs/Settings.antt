@@ -12,6 +12,7 @@ use Rattle.ing_rows.specs.declared.rules.Rules.{Rules}
 use Rattle.toml.specs.Data.{Data, string, integer, table, Members, no_members, member, get_member}
 use Rattle.toml.specs.Parse.{parse_document}
 use Rattle.ing_limits.specs.Durations.{duration_of}
+use Rattle.ing_limits.specs.Greatest.{most_shards, most_flushers, most_queued, most_bytes, most_label_names, most_name_bytes, most_value_bytes, most_line_bytes, most_streams, most_entries}
 use Rattle.ing_limits.specs.declared.keys.Kind.{Kind}
 use Rattle.ing_limits.specs.declared.keys.Kind.TheVariants.{Whole, Duration, Table, Nothing}
 use Rattle.ing_limits.specs.declared.keys.Level.{Level}
@@ -22,11 +23,11 @@ use Rattle.ing_limits.specs.declared.flaws.Flaw.TheVariants.{Unknown, Bad}
 -- the keys of the whole store
 abbrev pub store_keys : List (List ℕ × Kind)
 store_keys =
-    (codes "shards", Whole 64)
-    ∷ (codes "flushers", Whole 32)
-    ∷ (codes "flush_queue_length", Whole 65536)
-    ∷ (codes "chunk_block_size", Whole 1073741824)
-    ∷ (codes "chunk_target_size", Whole 1073741824)
+    (codes "shards", Whole most_shards)
+    ∷ (codes "flushers", Whole most_flushers)
+    ∷ (codes "flush_queue_length", Whole most_queued)
+    ∷ (codes "chunk_block_size", Whole most_bytes)
+    ∷ (codes "chunk_target_size", Whole most_bytes)
     ∷ (codes "chunk_idle_period", Duration)
     ∷ (codes "max_chunk_age", Duration)
     ∷ (codes "tenants", Table)
@@ -35,12 +36,12 @@ store_keys =
 -- the limits, which stand for all tenants, and may stand again for one
 abbrev pub limit_keys : List (List ℕ × Kind)
 limit_keys =
-    (codes "max_label_names", Whole 64)
-    ∷ (codes "max_label_name_length", Whole 1024)
-    ∷ (codes "max_label_value_length", Whole 2048)
-    ∷ (codes "max_line_size", Whole 262144)
-    ∷ (codes "max_streams_per_tenant", Whole 4294967295)
-    ∷ (codes "max_entries_per_push", Whole 10000)
+    (codes "max_label_names", Whole most_label_names)
+    ∷ (codes "max_label_name_length", Whole most_name_bytes)
+    ∷ (codes "max_label_value_length", Whole most_value_bytes)
+    ∷ (codes "max_line_size", Whole most_line_bytes)
+    ∷ (codes "max_streams_per_tenant", Whole most_streams)
+    ∷ (codes "max_entries_per_push", Whole most_entries)
     ∷ []
 
 -- the kind beside a key
@@ -128,9 +129,13 @@ abbrev pub setting : Level → List ℕ → ℕ → Members → ℕ
 setting level key default ms =
     unwrap_or (option_and_then (λ d. option_and_then (λ kind. number_of kind d) (kind_of level key)) (get_member key ms)) default
 
--- the limits in a table, and the given ones where it has none
+-- the limits in a table, and the given ones where it has none; every field is named, so that none can be forgotten
 abbrev pub limits_in : Rules → Members → Rules
-limits_in given ms = record given {
+limits_in given ms = record {
+  chunk_block_size = given.chunk_block_size;
+  chunk_target_size = given.chunk_target_size;
+  chunk_idle_period = given.chunk_idle_period;
+  max_chunk_age = given.max_chunk_age;
   max_label_names = setting Tenant (codes "max_label_names") given.max_label_names ms;
   max_label_name_length = setting Tenant (codes "max_label_name_length") given.max_label_name_length ms;
   max_label_value_length = setting Tenant (codes "max_label_value_length") given.max_label_value_length ms;
@@ -139,14 +144,24 @@ limits_in given ms = record given {
   max_entries_per_push = setting Tenant (codes "max_entries_per_push") given.max_entries_per_push ms;
 }
 
+-- what a table says of chunks, with the default limits
+abbrev pub chunk_rules : Members → Rules
+chunk_rules ms = record {
+  chunk_block_size = setting Top (codes "chunk_block_size") defaults.chunk_block_size ms;
+  chunk_target_size = setting Top (codes "chunk_target_size") defaults.chunk_target_size ms;
+  chunk_idle_period = setting Top (codes "chunk_idle_period") defaults.chunk_idle_period ms;
+  max_chunk_age = setting Top (codes "max_chunk_age") defaults.max_chunk_age ms;
+  max_label_names = defaults.max_label_names;
+  max_label_name_length = defaults.max_label_name_length;
+  max_label_value_length = defaults.max_label_value_length;
+  max_line_size = defaults.max_line_size;
+  max_streams_per_tenant = defaults.max_streams_per_tenant;
+  max_entries_per_push = defaults.max_entries_per_push;
+}
+
 -- the rules of the tenants that have no table
 abbrev pub common_rules : Members → Rules
-common_rules ms = record (limits_in defaults ms) {
-  chunk_block_size = setting Top (codes "chunk_block_size") 262144 ms;
-  chunk_target_size = setting Top (codes "chunk_target_size") 1572864 ms;
-  chunk_idle_period = setting Top (codes "chunk_idle_period") 1800000000000 ms;
-  max_chunk_age = setting Top (codes "max_chunk_age") 7200000000000 ms;
-}
+common_rules ms = limits_in (chunk_rules ms) ms
 
 -- from the bytes of a tenant id to the tenant's rules
 abbrev pub TenantRules : Type 0

@@ -1,7 +1,8 @@
 //! Why a text gives no settings.
 ghost use Rattle.std.specs.Prelude.{◌≡◌};
-ghost use Rattle.ing_limits.specs.Faults.{number_of, name_of};
+ghost use Rattle.ing_limits.specs.Faults.{fault_refusal};
 
+use ing_refusals::Refusal;
 use std::alloc::AllocError;
 use thiserror::Error;
 
@@ -23,27 +24,15 @@ pub enum SettingsFault {
 }
 
 impl SettingsFault {
-    /// The number of the refusal (own): 0, 10, 11 or 12.
-    pub fn number(&self) -> u32
-        ensures { result ≡ number_of self.now }
+    /// Which refusal it is. Takes no memory.
+    pub fn refusal(&self) -> Refusal
+        ensures { result ≡ fault_refusal self.now }
     {
         match self {
-            SettingsFault::NoMemory => 0,
-            SettingsFault::NotToml => 10,
-            SettingsFault::UnknownSetting { .. } => 11,
-            SettingsFault::BadSetting { .. } => 12,
-        }
-    }
-
-    /// The name of the refusal (own).
-    pub fn name(&self) -> &'static str
-        ensures { result.now ≡ name_of self.now }
-    {
-        match self {
-            SettingsFault::NoMemory => "NoMemory",
-            SettingsFault::NotToml => "NotToml",
-            SettingsFault::UnknownSetting { .. } => "UnknownSetting",
-            SettingsFault::BadSetting { .. } => "BadSetting",
+            SettingsFault::NoMemory => Refusal::NoMemory,
+            SettingsFault::NotToml => Refusal::NotToml,
+            SettingsFault::UnknownSetting { .. } => Refusal::UnknownSetting,
+            SettingsFault::BadSetting { .. } => Refusal::BadSetting,
         }
     }
 }

@@ -13,6 +13,3 @@ pub use laws::{
     durations_are_sums_of_parts, least_name_is_first, worked_durations, worked_refusals,
 };
 pub use settings::Settings;
-
-#[cfg(test)]
-mod tests;

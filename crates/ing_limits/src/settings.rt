@@ -57,19 +57,22 @@ fn setting(table: &Table, level: Level, key: &str, default: u64) -> u64
     }
 }
 
-/// The limits in a table, and the given ones where it has none.
+/// The limits in a table, and the given ones where it has none. Every field is named, so that none can be forgotten.
 fn limits_in(given: &Rules, table: &Table) -> Rules
     ensures { result ≡ settings.limits_in given.now (table_view table.now) }
 {
     let limit = |key, default| setting(table, Level::Tenant, key, default);
     Rules {
+        chunk_block_size: given.chunk_block_size,
+        chunk_target_size: given.chunk_target_size,
+        chunk_idle_period: given.chunk_idle_period,
+        max_chunk_age: given.max_chunk_age,
         max_label_names: limit("max_label_names", given.max_label_names),
         max_label_name_length: limit("max_label_name_length", given.max_label_name_length),
         max_label_value_length: limit("max_label_value_length", given.max_label_value_length),
         max_line_size: limit("max_line_size", given.max_line_size),
         max_streams_per_tenant: limit("max_streams_per_tenant", given.max_streams_per_tenant),
         max_entries_per_push: limit("max_entries_per_push", given.max_entries_per_push),
-        ..*given
     }
 }
 
@@ -79,13 +82,19 @@ fn common_rules(table: &Table) -> Rules
 {
     let given = Rules::default();
     let own = |key, default| setting(table, Level::Top, key, default);
-    Rules {
+    let stored = Rules {
         chunk_block_size: own("chunk_block_size", given.chunk_block_size),
         chunk_target_size: own("chunk_target_size", given.chunk_target_size),
         chunk_idle_period: own("chunk_idle_period", given.chunk_idle_period),
         max_chunk_age: own("max_chunk_age", given.max_chunk_age),
-        ..limits_in(&given, table)
-    }
+        max_label_names: given.max_label_names,
+        max_label_name_length: given.max_label_name_length,
+        max_label_value_length: given.max_label_value_length,
+        max_line_size: given.max_line_size,
+        max_streams_per_tenant: given.max_streams_per_tenant,
+        max_entries_per_push: given.max_entries_per_push,
+    };
+    limits_in(&stored, table)
 }
 
 /// A whole number at the top of the file, or the default.
@@ -152,6 +161,7 @@ fn all_tenants(
 impl Settings {
     ghost use Rattle.ing_limits.specs.Settings.{settings_of, settings_in};
     ghost use Rattle.ing_limits.specs.Faults.{refusal_of};
+    ghost use Rattle.ing_limits.specs.Greatest.{most_shards, most_flushers, most_queued};
     ghost use Rattle.ing_limits.specs.Ranges.{IsUpTo, AreRulesInRange, rules_for};
 
     /// The settings that a TOML text gives. The text is tested in this order:
@@ -198,7 +208,7 @@ impl Settings {
     /// How many shards there are.
     pub fn shards(&self) -> u32
         ensures value { result ≡ self.now.shards }
-        ensures range { IsUpTo 64 result }
+        ensures range { IsUpTo most_shards result }
     {
         self.shards
     }
@@ -206,7 +216,7 @@ impl Settings {
     /// How many flushers there are.
     pub fn flushers(&self) -> u32
         ensures value { result ≡ self.now.flushers }
-        ensures range { IsUpTo 32 result }
+        ensures range { IsUpTo most_flushers result }
     {
         self.flushers
     }
@@ -214,7 +224,7 @@ impl Settings {
     /// How many operations the flush queue holds at most.
     pub fn flush_queue_length(&self) -> u32
         ensures value { result ≡ self.now.flush_queue_length }
-        ensures range { IsUpTo 65536 result }
+        ensures range { IsUpTo most_queued result }
     {
         self.flush_queue_length
     }

@@ -18,13 +18,14 @@ use Rattle.ing_rows.specs.Steps.{verdicts_of}
 use Rattle.ing_shard.specs.Contents.{stream_of}
 use Rattle.ing_session.specs.declared.command.fault.LineFault.{LineFault}
 use Rattle.ing_session.specs.Commands.{Command, StreamEntries}
-use Rattle.ing_session.specs.Outcome.{number_of, name_of}
+use Rattle.ing_session.specs.Faults.{refusal_of}
+use Rattle.ing_refusals.specs.declared.refusal.Refusal.{Refusal}
 use Rattle.ing_session.specs.Replies.{verdict_data, fault_data, judged_data}
 use Rattle.ing_session.specs.Session.{limits_of, is_too_many, is_too_much, reply_for, after_stream, stream_replies, command_reply}
 
-fault_has_none : (name : List ℕ) (n : ℕ) (at : Option ℕ) → has_float (fault_data name n at) ≡ false
-fault_has_none name n None = refl
-fault_has_none name n (Some at) = refl
+fault_has_none : (refusal : Refusal) (at : Option ℕ) → has_float (fault_data refusal at) ≡ false
+fault_has_none refusal None = refl
+fault_has_none refusal (Some at) = refl
 
 verdict_has_none : (v : Verdict) → has_float (verdict_data v) ≡ false
 verdict_has_none (Accepted n) = refl
@@ -50,7 +51,7 @@ module _ (rules : Rules) (tenant : List ℕ) (now : ℕ) where
   chosen false x y h k = k
 
   reply_has_none : (s : StreamEntries) (st : State) (labels : Result LabelMap LabelFault) → has_float (reply_for rules tenant now s st labels) ≡ false
-  reply_has_none s st (Err fault) = fault_has_none (label_faults.fault_name fault) (label_faults.fault_number fault) (label_faults.fault_place fault)
+  reply_has_none s st (Err fault) = fault_has_none (label_faults.refusal_of fault) (label_faults.fault_place fault)
   reply_has_none s st (Ok labels) = chosen (is_too_many rules s) _ _ refl (chosen (is_too_much st s) _ _ refl (judged_has_none (canonical_of labels) false (verdicts_of rules (stream_of tenant labels) now s.entries st)))
 
   streams_have_none : (ss : List StreamEntries) (st : State) → items_have_float (items_of (stream_replies rules tenant now ss st)) ≡ false
@@ -58,5 +59,5 @@ module _ (rules : Rules) (tenant : List ℕ) (now : ℕ) where
   streams_have_none (s ∷ ss) st = neither _ _ (reply_has_none s st (labels_of (limits_of rules) s.labels)) (streams_have_none ss (after_stream rules tenant now s st))
 
 pub command_has_none : (settings : StoreSettings) (command : Result Command LineFault) (st : State) → has_float (command_reply settings command st) ≡ false
-command_has_none settings (Err fault) st = fault_has_none (name_of fault) (number_of fault) None
+command_has_none settings (Err fault) st = fault_has_none (refusal_of fault) None
 command_has_none settings (Ok push) st = neither _ _ (streams_have_none (rules_for settings push.tenant) push.tenant push.now push.streams st) refl

@@ -4,7 +4,7 @@ use Rattle.serde_json.specs.declared.value.Value.{Value}
 use Rattle.serde_json.specs.View.{view, items_view}
 use Rattle.ing_session.specs.declared.command.fault.LineFault.{LineFault}
 use Rattle.ing_session.specs.declared.command.fault.LineFault.TheVariants.{BadCommand}
-use Rattle.ing_session.specs.Outcome.{◌>>=◌}
+use Rattle.ing_refusals.specs.Results.{◌>>=◌}
 use Rattle.ing_session.specs.Shapes.{raw_texts, raw_elements}
 
 -- what was read before, and what is still read

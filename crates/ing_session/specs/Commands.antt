@@ -9,7 +9,7 @@ use Rattle.ing_rows.specs.declared.entry.Entry.{Entry}
 use Rattle.ing_rows.specs.Texts.{is_tenant, stamp_of}
 use Rattle.ing_session.specs.declared.command.fault.LineFault.{LineFault}
 use Rattle.ing_session.specs.declared.command.fault.LineFault.TheVariants.{BadCommand, Metadata, BadTenant, BadStamp}
-use Rattle.ing_session.specs.Outcome.{◌>>=◌}
+use Rattle.ing_refusals.specs.Results.{◌>>=◌}
 use Rattle.ing_session.specs.Shapes.{RawValue, RawStream, RawPush, raw_push}
 
 -- the entries that one stream is to take

@@ -1,5 +1,8 @@
 -- How the program ends on a fault (own).
 use Rattle.std.specs.Prelude.{ℕ, List, [], ◌∷◌, ◌++◌, codes, Result, Ok, Err, Bool, true, false, Option, Some, None, string_bytes}
+use Rattle.ing_refusals.specs.declared.refusal.Refusal as table
+use Rattle.ing_refusals.specs.declared.refusal.Refusal.TheVariants as refusals
+use Rattle.ing_refusals.specs.Refusals.{refusal_name}
 use Rattle.ing_limits.specs.Settings.{Refusal, not_toml, unknown_setting, bad_setting}
 use Rattle.ing_limits.specs.declared.fault.SettingsFault.{SettingsFault}
 use Rattle.ing_limits.specs.declared.fault.SettingsFault.TheVariants as settings
@@ -8,25 +11,15 @@ use Rattle.ing_session.specs.declared.lines.LineError.TheVariants as lines
 use Rattle.ing_session.specs.declared.ending.Ending.{Ending}
 use Rattle.ing_session.specs.declared.ending.Ending.TheVariants.{NoMemory, NotToml, UnknownSetting, BadSetting, InputFault, OutputFault, BadArguments, NoSettings}
 
-abbrev pub ending_number : Ending → ℕ
-ending_number NoMemory = 0
-ending_number NotToml = 10
-ending_number (UnknownSetting _) = 11
-ending_number (BadSetting _) = 12
-ending_number InputFault = 36
-ending_number OutputFault = 37
-ending_number BadArguments = 38
-ending_number NoSettings = 39
-
-abbrev pub ending_name : Ending → List ℕ
-ending_name NoMemory = codes "NoMemory"
-ending_name NotToml = codes "NotToml"
-ending_name (UnknownSetting _) = codes "UnknownSetting"
-ending_name (BadSetting _) = codes "BadSetting"
-ending_name InputFault = codes "InputFault"
-ending_name OutputFault = codes "OutputFault"
-ending_name BadArguments = codes "BadArguments"
-ending_name NoSettings = codes "NoSettings"
+abbrev pub ending_refusal : Ending → table.Refusal
+ending_refusal NoMemory = refusals.NoMemory
+ending_refusal NotToml = refusals.NotToml
+ending_refusal (UnknownSetting _) = refusals.UnknownSetting
+ending_refusal (BadSetting _) = refusals.BadSetting
+ending_refusal InputFault = refusals.InputFault
+ending_refusal OutputFault = refusals.OutputFault
+ending_refusal BadArguments = refusals.BadArguments
+ending_refusal NoSettings = refusals.NoSettings
 
 -- the exit status: 1 where arguments or settings are refused, 2 where input or output failed, 3 where memory ran out
 abbrev pub ending_status : Ending → ℕ
@@ -46,7 +39,7 @@ status_of (Err ending) = ending_status ending
 
 -- the line on standard error
 abbrev pub ending_text : Ending → List ℕ
-ending_text ending = codes "ingestd: " ++ ending_name ending ++ 10 ∷ []
+ending_text ending = codes "ingestd: " ++ refusal_name (ending_refusal ending) ++ 10 ∷ []
 
 -- a run that has begun may end so
 abbrev pub is_of_run : Ending → Bool

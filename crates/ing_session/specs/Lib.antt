@@ -1,7 +1,7 @@
 pub mod Commands
 pub mod Endings
+pub mod Faults
 pub mod Lines
-pub mod Outcome
 pub mod Parts
 pub mod Replies
 pub mod Runs

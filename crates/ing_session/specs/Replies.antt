@@ -3,6 +3,8 @@ use Rattle.std.specs.Prelude.{ℕ, List, [], ◌∷◌, ◌++◌, map, codes, de
 use Rattle.serde_json.specs.Data.{Data, boolean, number, unsigned, string, array, object, no_members, member}
 use Rattle.serde_json.specs.View.{items_of}
 use Rattle.serde_json.specs.Written.{compact_text}
+use Rattle.ing_refusals.specs.declared.refusal.Refusal.{Refusal}
+use Rattle.ing_refusals.specs.Refusals.{refusal_number, refusal_name}
 use Rattle.ing_rows.specs.declared.verdict.Verdict.{Verdict}
 use Rattle.ing_rows.specs.declared.verdict.Verdict.TheVariants.{Accepted, Duplicate, LineTooLong, TooFarBehind, TooManyStreams}
 
@@ -18,9 +20,14 @@ verdict_data (TooFarBehind limit) = object (member (codes "too_far_behind") (str
 verdict_data (TooManyStreams live) = object (member (codes "too_many_streams") (count live) no_members)
 
 -- a refusal: its name, its number, and the place at fault in front where it has one
-abbrev pub fault_data : List ℕ → ℕ → Option ℕ → Data
-fault_data name n None = object (member (codes "error") (string name) (member (codes "number") (count n) no_members))
-fault_data name n (Some at) = object (member (codes "at") (count at) (member (codes "error") (string name) (member (codes "number") (count n) no_members)))
+abbrev pub fault_data : Refusal → Option ℕ → Data
+fault_data refusal None =
+    object (member (codes "error") (string (refusal_name refusal)) (
+    member (codes "number") (count (refusal_number refusal)) no_members))
+fault_data refusal (Some at) =
+    object (member (codes "at") (count at) (
+    member (codes "error") (string (refusal_name refusal)) (
+    member (codes "number") (count (refusal_number refusal)) no_members)))
 
 -- the stream by its canonical name, and the verdict of each entry
 abbrev pub judged_data : List ℕ → Bool → List Verdict → Data

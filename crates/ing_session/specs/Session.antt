@@ -17,7 +17,8 @@ use Rattle.ing_limits.specs.Ranges.{rules_for}
 use Rattle.ing_shard.specs.Contents.{stream_of, stored_count}
 use Rattle.ing_session.specs.declared.command.fault.LineFault.{LineFault}
 use Rattle.ing_session.specs.declared.command.fault.LineFault.TheVariants.{BadCommand}
-use Rattle.ing_session.specs.Outcome.{number_of, name_of}
+use Rattle.ing_session.specs.Faults.{refusal_of}
+use Rattle.ing_refusals.specs.declared.refusal.Refusal.TheVariants.{TooManyEntries, CounterFull}
 use Rattle.ing_session.specs.Commands.{Command, StreamEntries, command_of}
 use Rattle.ing_session.specs.Lines.{lines_of}
 use Rattle.ing_session.specs.Parts.{max_line}
@@ -37,14 +38,14 @@ is_too_much st s = nat_lt (2 ^ 62) (length st.rows + length s.entries)
 -- ---- one stream of a push
 
 abbrev pub label_fault : LabelFault → Data
-label_fault fault = fault_data (label_faults.fault_name fault) (label_faults.fault_number fault) (label_faults.fault_place fault)
+label_fault fault = fault_data (label_faults.refusal_of fault) (label_faults.fault_place fault)
 
 -- by what its labels are found to be
 abbrev pub reply_for : Rules → List ℕ → ℕ → StreamEntries → State → Result LabelMap LabelFault → Data
 reply_for rules tenant now s st (Err fault) = label_fault fault
 reply_for rules tenant now s st (Ok labels) =
-    if is_too_many rules s then fault_data (codes "TooManyEntries") 32 None
-    else if is_too_much st s then fault_data (codes "CounterFull") 19 None
+    if is_too_many rules s then fault_data TooManyEntries None
+    else if is_too_much st s then fault_data CounterFull None
     else judged_data (canonical_of labels) false (verdicts_of rules (stream_of tenant labels) now s.entries st)
 
 abbrev pub stream_reply : Rules → List ℕ → ℕ → StreamEntries → State → Data
@@ -71,7 +72,7 @@ after_streams rules tenant now (s ∷ ss) st = after_streams rules tenant now ss
 -- ---- one line, by the rules of the tenant that it names
 
 abbrev pub line_fault : LineFault → Data
-line_fault fault = fault_data (name_of fault) (number_of fault) None
+line_fault fault = fault_data (refusal_of fault) None
 
 abbrev pub command_reply : StoreSettings → Result Command LineFault → State → Data
 command_reply settings (Err fault) st = line_fault fault

@@ -5,7 +5,7 @@ use Rattle.serde_json.specs.Data.{Data, Items, no_items, item, Members, no_membe
 use Rattle.serde_json.specs.Find.{get, as_str, as_array, as_object}
 use Rattle.ing_session.specs.declared.command.fault.LineFault.{LineFault}
 use Rattle.ing_session.specs.declared.command.fault.LineFault.TheVariants.{BadCommand}
-use Rattle.ing_session.specs.Outcome.{◌>>=◌}
+use Rattle.ing_refusals.specs.Results.{◌>>=◌}
 
 -- the texts of a value, and whether a third element stands behind them
 pub record RawValue : Type 0 where

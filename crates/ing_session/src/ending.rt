@@ -1,9 +1,10 @@
 //! How the program ends on a fault.
 ghost use Rattle.std.specs.Prelude.{◌≡◌};
-ghost use Rattle.ing_session.specs.Endings.{ending_number, ending_name, ending_status};
+ghost use Rattle.ing_session.specs.Endings.{ending_refusal, ending_status};
 
 use crate::lines::LineError;
 use ing_limits::SettingsFault;
+use ing_refusals::Refusal;
 use std::alloc::{AllocError, AllocFailed};
 
 /// Why the program ended without a report. `name` is the dotted name of the setting, as `tenants.acme.max_line_size`.
@@ -28,35 +29,19 @@ pub enum Ending {
 }
 
 impl Ending {
-    /// The number of the refusal (own). Takes no memory.
-    pub fn number(&self) -> u32
-        ensures { result ≡ ending_number self.now }
+    /// Which refusal it is. Takes no memory.
+    pub fn refusal(&self) -> Refusal
+        ensures { result ≡ ending_refusal self.now }
     {
         match self {
-            Ending::NoMemory => 0,
-            Ending::NotToml => 10,
-            Ending::UnknownSetting { .. } => 11,
-            Ending::BadSetting { .. } => 12,
-            Ending::InputFault => 36,
-            Ending::OutputFault => 37,
-            Ending::BadArguments => 38,
-            Ending::NoSettings => 39,
-        }
-    }
-
-    /// The name of the refusal (own). Takes no memory.
-    pub fn name(&self) -> &'static str
-        ensures { result.now ≡ ending_name self.now }
-    {
-        match self {
-            Ending::NoMemory => "NoMemory",
-            Ending::NotToml => "NotToml",
-            Ending::UnknownSetting { .. } => "UnknownSetting",
-            Ending::BadSetting { .. } => "BadSetting",
-            Ending::InputFault => "InputFault",
-            Ending::OutputFault => "OutputFault",
-            Ending::BadArguments => "BadArguments",
-            Ending::NoSettings => "NoSettings",
+            Ending::NoMemory => Refusal::NoMemory,
+            Ending::NotToml => Refusal::NotToml,
+            Ending::UnknownSetting { .. } => Refusal::UnknownSetting,
+            Ending::BadSetting { .. } => Refusal::BadSetting,
+            Ending::InputFault => Refusal::InputFault,
+            Ending::OutputFault => Refusal::OutputFault,
+            Ending::BadArguments => Refusal::BadArguments,
+            Ending::NoSettings => Refusal::NoSettings,
         }
     }
 

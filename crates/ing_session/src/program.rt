@@ -138,7 +138,7 @@ fn write_ending<E: Write>(ending: &Ending, errors: &mut E) -> io::Result<()>
     ensures { OnOk result (Appends (E.contents errors.old) (E.contents errors.new) (ending_text ending.now)) }
 {
     errors.write_all(b"ingestd: ")?;
-    errors.write_all(ending.name().as_bytes())?;
+    errors.write_all(ending.refusal().name().as_bytes())?;
     errors.write_all(b"\n")?;
     errors.flush()
 }

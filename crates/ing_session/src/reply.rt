@@ -3,19 +3,16 @@ ghost use Rattle.std.specs.Prelude.{◌≡◌, ◌≤◌, ◌-◌, IfOk, map};
 ghost use Rattle.serde_json.specs.View.{view};
 ghost use Rattle.ing_session.specs.Replies.{verdict_data, fault_data, judged_data, push_data, report_data};
 
+use ing_refusals::Refusal;
 use ing_rows::Verdict;
 use serde_json::{Value, json};
 use std::alloc::{AllocError, Global};
 
 /// A refusal with its name, its number, and the place at fault where it has one.
-pub fn fault_value(
-    alloc: Global,
-    name: &str,
-    number: u32,
-    at: Option<usize>,
-) -> Result<Value, AllocError>
-    ensures { IfOk result (λ value. view value ≡ fault_data name.now number at) }
+pub fn fault_value(alloc: Global, refusal: Refusal, at: Option<usize>) -> Result<Value, AllocError>
+    ensures { IfOk result (λ value. view value ≡ fault_data refusal at) }
 {
+    let (name, number) = (refusal.name(), refusal.number());
     match at {
         Some(at) => json!(in alloc; {"at": at, "error": name, "number": number}),
         None => json!(in alloc; {"error": name, "number": number}),

@@ -6,8 +6,8 @@ use std::marker::Model;
 
 /// A part of a book's number. Contracts see the name of its book and its amount.
 ///
-/// It can't be dropped: a function that takes one spends it or gives it back. It has no bytes at run
-/// time, and it may cross threads.
+/// It can't be dropped, since it derives no `Drop`: a function that takes one spends it or gives it back. It has no bytes
+/// at run time, and it may cross threads.
 pub struct Share {
     pub(crate) seat: Seat,
 }
@@ -47,3 +47,11 @@ impl Model for Stranded {
 
     ghost view = { λ s. record { book = name_of s.seat.table_id; amount = s.seat.me.0.amount } };
 }
+
+/// What may be dropped, and a share beside it. The two impls would overlap if a share could be dropped, which the check
+/// refuses: so it notices where `Share` or its seat comes to derive `Drop`.
+trait IsDroppedOrSpent {}
+
+impl<T: Drop> IsDroppedOrSpent for T {}
+
+impl IsDroppedOrSpent for Share {}

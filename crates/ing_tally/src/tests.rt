@@ -129,6 +129,6 @@ fn a_number_is_full_at_the_limit(rt: HostRuntime) -> Result<(), Fail> {
 
 #[test]
 fn the_fault_has_a_number_and_a_name(rt: HostRuntime) {
-    assert_eq!(rt; CounterFull.number(), 19);
-    assert_eq!(rt; CounterFull.name(), "CounterFull");
+    assert_eq!(rt; CounterFull.refusal().number(), 19);
+    assert_eq!(rt; CounterFull.refusal().name(), "CounterFull");
 }

