@@ -17,7 +17,8 @@ use Rattle.ing_rows.specs.Rows.{State}
 use Rattle.ing_rows.specs.Steps.{verdicts_of}
 use Rattle.ing_shard.specs.Contents.{stream_of}
 use Rattle.ing_session.specs.declared.command.fault.LineFault.{LineFault}
-use Rattle.ing_session.specs.Commands.{Command, StreamEntries}
+use Rattle.ing_session.specs.Commands.{Command, Push}
+use Rattle.ing_session.specs.PushCommands.{StreamEntries}
 use Rattle.ing_session.specs.Faults.{refusal_of}
 use Rattle.ing_refusals.specs.declared.refusal.Refusal.{Refusal}
 use Rattle.ing_session.specs.Replies.{verdict_data, fault_data, judged_data}
@@ -60,4 +61,4 @@ module _ (rules : Rules) (tenant : List ℕ) (now : ℕ) where
 
 pub command_has_none : (settings : StoreSettings) (command : Result Command LineFault) (st : State) → has_float (command_reply settings command st) ≡ false
 command_has_none settings (Err fault) st = fault_has_none (refusal_of fault) None
-command_has_none settings (Ok push) st = neither _ _ (streams_have_none (rules_for settings push.tenant) push.tenant push.now push.streams st) refl
+command_has_none settings (Ok (Push push)) st = neither _ _ (streams_have_none (rules_for settings push.tenant) push.tenant push.now push.streams st) refl

@@ -5,7 +5,7 @@ use Rattle.serde_json.specs.View.{view, items_view}
 use Rattle.ing_session.specs.declared.command.fault.LineFault.{LineFault}
 use Rattle.ing_session.specs.declared.command.fault.LineFault.TheVariants.{BadCommand}
 use Rattle.ing_refusals.specs.Results.{◌>>=◌}
-use Rattle.ing_session.specs.Shapes.{raw_texts, raw_elements}
+use Rattle.ing_session.specs.PushCommands.{raw_texts, raw_elements}
 
 -- what was read before, and what is still read
 abbrev pub with_front : {A : Type 0} → List A → Result (List A) LineFault → Result (List A) LineFault

@@ -2,7 +2,7 @@
 use Rattle.std.proofs.Common.{◌≡◌, ℕ, List, [], ◌∷◌, ◌++◌, refl, ap}
 use Rattle.ing_rows.specs.declared.rules.Rules.{Rules}
 use Rattle.ing_rows.specs.Rows.{State}
-use Rattle.ing_session.specs.Commands.{StreamEntries}
+use Rattle.ing_session.specs.PushCommands.{StreamEntries}
 use Rattle.ing_session.specs.Session.{stream_reply, after_stream, stream_replies, after_streams}
 
 module _ (rules : Rules) (tenant : List ℕ) (now : ℕ) where

@@ -3,6 +3,7 @@ pub mod Endings
 pub mod Faults
 pub mod Lines
 pub mod Parts
+pub mod PushCommands
 pub mod Replies
 pub mod Runs
 pub mod Session

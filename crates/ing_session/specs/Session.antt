@@ -19,7 +19,8 @@ use Rattle.ing_session.specs.declared.command.fault.LineFault.{LineFault}
 use Rattle.ing_session.specs.declared.command.fault.LineFault.TheVariants.{BadCommand}
 use Rattle.ing_session.specs.Faults.{refusal_of}
 use Rattle.ing_refusals.specs.declared.refusal.Refusal.TheVariants.{TooManyEntries, CounterFull}
-use Rattle.ing_session.specs.Commands.{Command, StreamEntries, command_of}
+use Rattle.ing_session.specs.Commands.{Command, Push, command_of}
+use Rattle.ing_session.specs.PushCommands.{PushCommand, StreamEntries}
 use Rattle.ing_session.specs.Lines.{lines_of}
 use Rattle.ing_session.specs.Parts.{max_line}
 use Rattle.ing_session.specs.Replies.{fault_data, judged_data, push_data, report_data, line_text}
@@ -76,12 +77,12 @@ line_fault fault = fault_data (refusal_of fault) None
 
 abbrev pub command_reply : StoreSettings → Result Command LineFault → State → Data
 command_reply settings (Err fault) st = line_fault fault
-command_reply settings (Ok push) st = push_data (stream_replies (rules_for settings push.tenant) push.tenant push.now push.streams st)
+command_reply settings (Ok (Push push)) st = push_data (stream_replies (rules_for settings push.tenant) push.tenant push.now push.streams st)
 
 -- a refused line changes nothing
 abbrev pub after_command : StoreSettings → Result Command LineFault → State → State
 after_command settings (Err fault) st = st
-after_command settings (Ok push) st = after_streams (rules_for settings push.tenant) push.tenant push.now push.streams st
+after_command settings (Ok (Push push)) st = after_streams (rules_for settings push.tenant) push.tenant push.now push.streams st
 
 -- spaces, tabs and carriage returns alone
 abbrev pub is_blank : List ℕ → Bool

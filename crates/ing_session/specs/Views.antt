@@ -1,13 +1,15 @@
 -- What the code's types hold, without where it lies in memory.
 use Rattle.std.specs.Prelude.{ℕ, List, map}
 use Rattle.std.specs.Borrow.{Bor}
-use Rattle.ing_session.specs.declared.command.Push.{Push}
-use Rattle.ing_session.specs.declared.command.StreamPush.{StreamPush}
-use Rattle.ing_session.specs.declared.command.shape.PushTexts.{PushTexts}
-use Rattle.ing_session.specs.declared.command.shape.StreamTexts.{StreamTexts}
-use Rattle.ing_session.specs.declared.command.shape.ValueTexts.{ValueTexts}
-use Rattle.ing_session.specs.Shapes.{RawValue, RawStream, RawPush}
-use Rattle.ing_session.specs.Commands.{Command, StreamEntries}
+use Rattle.ing_session.specs.declared.command.push.Push as push
+use Rattle.ing_session.specs.declared.command.push.StreamPush.{StreamPush}
+use Rattle.ing_session.specs.declared.command.push.texts.PushTexts.{PushTexts}
+use Rattle.ing_session.specs.declared.command.push.texts.StreamTexts.{StreamTexts}
+use Rattle.ing_session.specs.declared.command.push.texts.ValueTexts.{ValueTexts}
+use Rattle.ing_session.specs.declared.command.Command as code
+use Rattle.ing_session.specs.declared.command.Command.TheVariants as variants
+use Rattle.ing_session.specs.PushCommands.{RawValue, RawStream, RawPush, PushCommand, StreamEntries}
+use Rattle.ing_session.specs.Commands.{Command, Push}
 
 -- the bytes of a label and its value
 abbrev pub label_view : Bor (List ℕ) × Bor (List ℕ) → List ℕ × List ℕ
@@ -30,5 +32,9 @@ abbrev pub stream_view : StreamPush → StreamEntries
 stream_view s = record { labels = map label_view s.labels.items; entries = s.entries.items }
 
 -- a push
-abbrev pub push_view : Push → Command
+abbrev pub push_view : push.Push → PushCommand
 push_view p = record { tenant = p.tenant; now = p.now; streams = map stream_view p.streams.items }
+
+-- a command
+abbrev pub command_view : code.Command → Command
+command_view (variants.Push p) = Push (push_view p)
