@@ -3,6 +3,7 @@ use Rattle.std.specs.Prelude.{ℕ, List, [], ◌∷◌, ◌++◌, map, codes, de
 use Rattle.serde_json.specs.Data.{Data, boolean, number, unsigned, string, array, object, no_members, member}
 use Rattle.serde_json.specs.View.{items_of}
 use Rattle.serde_json.specs.Written.{compact_text}
+use Rattle.ing_session.specs.declared.reply.ShardReport.{ShardReport}
 use Rattle.ing_refusals.specs.declared.refusal.Refusal.{Refusal}
 use Rattle.ing_refusals.specs.Refusals.{refusal_number, refusal_name}
 use Rattle.ing_rows.specs.declared.verdict.Verdict.{Verdict}
@@ -38,12 +39,17 @@ judged_data name durable verdicts =
 abbrev pub push_data : List Data → Data
 push_data replies = object (member (codes "push") (array (items_of replies)) no_members)
 
--- of the one shard: entries accepted in this run, kept in memory, recovered from an earlier run, and stored
-abbrev pub report_data : ℕ → ℕ → ℕ → ℕ → Data
-report_data accepted kept recovered stored =
-    object (member (codes "report") (array (items_of (
-    object (member (codes "accepted") (count accepted) (member (codes "kept") (count kept) (member (codes "recovered") (count recovered) (member (codes "stored") (count stored) no_members)))) ∷ []
-    ))) no_members)
+-- of a shard: entries accepted in this run, kept in memory, recovered from an earlier run, and stored
+abbrev pub shard_data : ShardReport → Data
+shard_data shard =
+    object (member (codes "accepted") (count shard.accepted) (
+    member (codes "kept") (count shard.kept) (
+    member (codes "recovered") (count shard.recovered) (
+    member (codes "stored") (count shard.stored) no_members))))
+
+-- one for each shard
+abbrev pub report_data : List ShardReport → Data
+report_data shards = object (member (codes "report") (array (items_of (map shard_data shards))) no_members)
 
 -- a reply is one line
 abbrev pub line_text : Data → List ℕ

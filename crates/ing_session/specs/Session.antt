@@ -15,6 +15,7 @@ use Rattle.ing_rows.specs.Kept.{Numbered, Shows}
 use Rattle.ing_limits.specs.Settings.{StoreSettings}
 use Rattle.ing_limits.specs.Ranges.{rules_for}
 use Rattle.ing_shard.specs.Contents.{stream_of, stored_count}
+use Rattle.ing_session.specs.declared.reply.ShardReport.{ShardReport}
 use Rattle.ing_session.specs.declared.command.fault.LineFault.{LineFault}
 use Rattle.ing_session.specs.declared.command.fault.LineFault.TheVariants.{BadCommand}
 use Rattle.ing_session.specs.Faults.{refusal_of}
@@ -103,9 +104,18 @@ after_line settings line st = if is_long line then st else if is_blank line then
 
 -- ---- the whole input
 
--- what stands at the end: nothing is recovered, and what is not stored is kept
+-- what is reported of the shard at the end: nothing is recovered, and what is not stored is kept
+abbrev pub shard_report : State → ShardReport
+shard_report st = record {
+  accepted = length st.rows;
+  kept = length st.rows - stored_count st.rows;
+  recovered = 0;
+  stored = stored_count st.rows;
+}
+
+-- there is one shard
 abbrev pub report_of : State → Data
-report_of st = report_data (length st.rows) (length st.rows - stored_count st.rows) 0 (stored_count st.rows)
+report_of st = report_data (shard_report st ∷ [])
 
 -- the answers to lines, one after another, from a state on
 abbrev pub answers_from : StoreSettings → State → List (List ℕ) → List ℕ

@@ -1,7 +1,7 @@
 //! The replies as JSON values.
-ghost use Rattle.std.specs.Prelude.{◌≡◌, ◌≤◌, ◌-◌, IfOk, map};
+ghost use Rattle.std.specs.Prelude.{◌≡◌, IfOk, map};
 ghost use Rattle.serde_json.specs.View.{view};
-ghost use Rattle.ing_session.specs.Replies.{verdict_data, fault_data, judged_data, push_data, report_data};
+ghost use Rattle.ing_session.specs.Replies.{verdict_data, fault_data, judged_data, push_data, shard_data, report_data};
 
 use ing_refusals::Refusal;
 use ing_rows::Verdict;
@@ -65,14 +65,47 @@ pub fn push_value(alloc: Global, replies: Vec<Value>) -> Result<Value, AllocErro
     json!(in alloc; {"push": replies})
 }
 
-/// The report of a shard that recovered nothing.
-pub fn report_value(alloc: Global, accepted: u64, stored: u64) -> Result<Value, AllocError>
-    requires { stored ≤ accepted }
-    ensures { IfOk result (λ value. view value ≡ report_data accepted (accepted - stored) 0 stored) }
+/// What is reported of a shard, in counts of entries.
+#[derive(Clone, Copy, Debug)]
+pub struct ShardReport {
+    /// Accepted in this run.
+    pub accepted: u64,
+    /// Kept in memory.
+    pub kept: u64,
+    /// Recovered from an earlier run.
+    pub recovered: u64,
+    /// Stored.
+    pub stored: u64,
+}
+
+/// The report: one for each shard.
+pub fn report_value(alloc: Global, shards: &[ShardReport]) -> Result<Value, AllocError>
+    ensures { IfOk result (λ value. view value ≡ report_data shards.now) }
 {
-    let kept = accepted - stored;
-    let recovered: u64 = 0;
-    json!(in alloc; {"report": [
-        {"accepted": accepted, "kept": kept, "recovered": recovered, "stored": stored}
-    ]})
+    let shards = Value::Array(shard_values(alloc, shards)?);
+    json!(in alloc; {"report": shards})
+}
+
+fn shard_values(alloc: Global, shards: &[ShardReport]) -> Result<Vec<Value>, AllocError>
+    ensures { IfOk result (λ values. map view values.items ≡ map shard_data shards.now) }
+{
+    let mut values = Vec::with_capacity(alloc, shards.len())?;
+    for shard in shards {
+        values.push(shard_value(alloc, *shard)?)?;
+    }
+    Ok(values)
+}
+
+fn shard_value(alloc: Global, shard: ShardReport) -> Result<Value, AllocError>
+    ensures { IfOk result (λ value. view value ≡ shard_data shard) }
+{
+    let ShardReport {
+        accepted,
+        kept,
+        recovered,
+        stored,
+    } = shard;
+    json!(in alloc; {
+        "accepted": accepted, "kept": kept, "recovered": recovered, "stored": stored
+    })
 }
