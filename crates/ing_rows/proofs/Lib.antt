@@ -1,5 +1,7 @@
-mod Accepted
 mod Digits
-mod Live
-mod Once
-mod Pushed
+mod Keys
+mod PlainLaws
+mod PushLaws
+mod Reordered
+mod SameLaws
+mod SoundLaws

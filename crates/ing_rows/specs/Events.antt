@@ -1,13 +1,13 @@
 -- The events of a shard and its replies, which steps they allow, and whole runs.
 -- What names no section of the Loki documentation is own.
-use Rattle.std.specs.Prelude.{◌≡◌, ℕ, ◌+◌, ◌-◌, ◌^◌, ◌<◌, ◌≤◌, Bool, true, false, ◌&&◌, ◌||◌, List, [], ◌∷◌, ◌++◌, filter, length, ◌==◌, nat_lt, nat_le, is_some, Some}
+use Rattle.std.specs.Prelude.{◌≡◌, ℕ, ◌+◌, ◌-◌, ◌^◌, ◌<◌, ◌≤◌, Bool, true, false, ◌&&◌, ◌||◌, List, [], ◌∷◌, ◌++◌, filter, length, ◌==◌, nat_lt, nat_le, is_some, Option, Some, None}
 use Rattle.ing_rows.specs.declared.entry.Entry.{Entry}
 use Rattle.ing_rows.specs.declared.place.SealReason.TheVariants.{Forced}
 use Rattle.ing_rows.specs.declared.rules.Rules.{Rules}
 use Rattle.ing_rows.specs.declared.verdict.Verdict.{Verdict}
-use Rattle.ing_rows.specs.declared.verdict.Verdict.TheVariants.{Accepted, Duplicate, LineTooLong, TooFarBehind, TooManyStreams}
 use Rattle.ing_rows.specs.Rows.{StreamKey, Mark, State, IsSame, count_of, streams_of, chunk_starts}
 use Rattle.ing_rows.specs.Steps.{Pushes, due_of, seal_of, Sweeps, SealsAll, Claims, ClaimsNone, Finishes, GivesBack}
+use Rattle.ing_rows.specs.Verdicts.{accepted_number}
 use Rattle.ing_rows.specs.Kept.{Numbered}
 
 -- times in nanoseconds; a flight by its number, a key by its bytes
@@ -65,19 +65,16 @@ Run rules old (step ∷ steps) new = (mid : State) × Step rules old step.0 step
 
 -- ---- what was accepted
 
--- the entry in front, where it was answered accepted
-abbrev pub with_accepted : StreamKey → Entry → Verdict → List Numbered → List Numbered
-with_accepted s e (Accepted n) rest = record { stream = s; number = n; entry = e } ∷ rest
-with_accepted s e Duplicate rest = rest
-with_accepted s e LineTooLong rest = rest
-with_accepted s e (TooFarBehind limit) rest = rest
-with_accepted s e (TooManyStreams live) rest = rest
+-- the entry in front under its number, where it has one
+abbrev pub with_accepted : StreamKey → Entry → Option ℕ → List Numbered → List Numbered
+with_accepted s e None rest = rest
+with_accepted s e (Some n) rest = record { stream = s; number = n; entry = e } ∷ rest
 
 -- the entries of a push that were answered accepted, with their numbers
 abbrev pub accepted_entries : StreamKey → List Entry → List Verdict → List Numbered
 accepted_entries s [] vs = []
 accepted_entries s (e ∷ es) [] = []
-accepted_entries s (e ∷ es) (v ∷ vs) = with_accepted s e v (accepted_entries s es vs)
+accepted_entries s (e ∷ es) (v ∷ vs) = with_accepted s e (accepted_number v) (accepted_entries s es vs)
 
 abbrev pub accepted_by : Event → Reply → List Numbered
 accepted_by (Push s now es) (Judged vs) = accepted_entries s es vs

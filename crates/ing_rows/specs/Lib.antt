@@ -1,11 +1,13 @@
 pub mod Defaults
 pub mod Events
+pub mod Facts
 pub mod Faults
 pub mod Gauges
 pub mod Kept
 pub mod Placement
-pub mod PlainRows
+pub mod Plain
 pub mod Rows
+pub mod Sound
 pub mod Steps
 pub mod Texts
 pub mod Verdicts

@@ -1,6 +1,8 @@
 -- What the events of a shard do to its state, one case each.
 -- What names no section of the Loki documentation is own.
 use Rattle.std.specs.Prelude.{◌≡◌, ◌≢◌, ℕ, ◌+◌, ◌-◌, ◌≤◌, max, min, Bool, true, false, not, ◌&&◌, List, [], ◌∷◌, map, filter, find, All, Any, Contains, ◌==◌, nat_lt, nat_le, if◌then◌else◌, is_none, is_some, Option, Some, None}
+use Rattle.std.specs.List.{list_any}
+use Rattle.std.specs.Option.{option_map, unwrap_or}
 use Rattle.ing_rows.specs.declared.entry.Entry.{Entry}
 use Rattle.ing_rows.specs.declared.place.Place.{Place}
 use Rattle.ing_rows.specs.declared.place.Place.TheVariants.{Head, Block, Flight, Stored}
@@ -8,9 +10,8 @@ use Rattle.ing_rows.specs.declared.place.SealReason.{SealReason}
 use Rattle.ing_rows.specs.declared.place.SealReason.TheVariants.{Full, Idle, MaxAge, Forced}
 use Rattle.ing_rows.specs.declared.rules.Rules.{Rules}
 use Rattle.ing_rows.specs.declared.verdict.Verdict.{Verdict}
-use Rattle.ing_rows.specs.declared.verdict.Verdict.TheVariants.{Accepted, Duplicate, LineTooLong, TooFarBehind, TooManyStreams}
 use Rattle.ing_rows.specs.Rows.{StreamKey, Row, Mark, State, IsSame, same_stream, is_head, is_block, is_flight, is_of_chunk, rows_of_chunk, size_of_rows, greatest_stamp, count_of}
-use Rattle.ing_rows.specs.Verdicts.{verdict_of}
+use Rattle.ing_rows.specs.Verdicts.{verdict_of, accepted_number}
 
 -- the rows that pass the test go to the place, and no others
 abbrev pub moved : (Row → Bool) → Place → List Row → List Row
@@ -33,17 +34,13 @@ blocks_of (r ∷ rows) = if is_block r.place then max (r.block + 1) (blocks_of r
 
 -- where the next accepted entry of the stream goes: the growing chunk, or a new one that begins with it
 abbrev pub chunk_for : State → StreamKey → ℕ
-chunk_for old s = chosen (find (is_growing s) old.marks) where
-  chosen : Option Mark → ℕ
-  chosen (Some m) = m.chunk
-  chosen None = count_of old.rows s
+chunk_for old s = unwrap_or (option_map (λ m. m.chunk) (find (is_growing s) old.marks)) (count_of old.rows s)
 
 -- the growing chunk is updated now, or a new one grows
 abbrev pub marks_for : State → StreamKey → ℕ → List Mark
-marks_for old s now = chosen (find (is_growing s) old.marks) where
-  chosen : Option Mark → List Mark
-  chosen (Some found) = map (λ m. if is_growing s m then record m { last_update = now } else m) old.marks
-  chosen None = record { stream = s; chunk = count_of old.rows s; last_update = now; reason = None } ∷ old.marks
+marks_for old s now =
+    if list_any (is_growing s) old.marks then map (λ m. if is_growing s m then record m { last_update = now } else m) old.marks
+    else record { stream = s; chunk = count_of old.rows s; last_update = now; reason = None } ∷ old.marks
 
 -- one more entry, in the head
 abbrev pub added : State → StreamKey → Entry → ℕ → State
@@ -82,11 +79,7 @@ accepted rules s e now old = let chunk = chunk_for old s in filled rules s chunk
 
 -- the state after an entry with this verdict
 abbrev pub after_entry : Rules → StreamKey → Entry → ℕ → Verdict → State → State
-after_entry rules s e now (Accepted n) old = accepted rules s e now old
-after_entry rules s e now Duplicate old = old
-after_entry rules s e now LineTooLong old = old
-after_entry rules s e now (TooFarBehind limit) old = old
-after_entry rules s e now (TooManyStreams live) old = old
+after_entry rules s e now v old = if is_some (accepted_number v) then accepted rules s e now old else old
 
 -- one entry of a push is judged and placed
 pub record PushesEntry (rules : Rules) (s : StreamKey) (now : ℕ) (e : Entry) (v : Verdict) (old new : State) : Type 0 where

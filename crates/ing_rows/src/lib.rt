@@ -15,7 +15,10 @@ mod verdict;
 
 pub use entry::Entry;
 pub use fault::RowFault;
-pub use laws::{a_push_adds_what_it_accepts, each_push_is_a_run_of_entries, worked_rows};
+pub use laws::{
+    a_push_adds_what_it_accepts, each_push_is_a_run_of_entries, order_does_not_count,
+    pushes_keep_states_sound, worked_rows,
+};
 pub use line::Line;
 pub use place::{Place, SealReason};
 pub use placement::shard_of;

@@ -23,7 +23,7 @@ fn pushes(
     for (nanoseconds, text, verdict) in cases {
         let mut entries = Vec::new(rt.alloc());
         entries.push(entry(rt.alloc(), *nanoseconds, text)?)?;
-        let verdicts = plain.push(rt.alloc(), &Rules::default(), &tenant, name, &entries, 0)?;
+        let verdicts = plain.push(rt.alloc(), &Rules::default(), &tenant, name, entries, 0)?;
         assert_eq!(rt;
             verdicts.as_slice(),
             [*verdict].as_slice(),
@@ -78,20 +78,28 @@ fn duplicate_of_last_only(rt: HostRuntime) -> Result<(), Fail> {
     pushes(&rt, &mut plain, "{a=\"2\"}", &other)
 }
 
+fn entries_at(alloc: Global, stamps: &[u64]) -> Result<Vec<Entry>, Fail> {
+    let mut entries = Vec::new(alloc);
+    for nanoseconds in stamps {
+        entries.push(entry(alloc, *nanoseconds, "abcd")?)?;
+    }
+    Ok(entries)
+}
+
 #[test]
 fn a_refused_allocation_leaves_the_rows(rt: HostRuntime) -> Result<(), Fail> {
     let mut plain = Plain::new(rt.alloc());
     let tenant = Tenant::of_text(rt.alloc(), "t")?;
-    let mut entries = Vec::new(rt.alloc());
-    entries.push(entry(rt.alloc(), 1, "x")?)?;
-    entries.push(entry(rt.alloc(), 2, "y")?)?;
     let rules = Rules::default();
+    let name = "{a=\"1\"}";
+    let entries = entries_at(rt.alloc(), &[1, 2])?;
     // One allocation at most is refused in a run of this test: whichever it is, the second try finds what was there.
-    let verdicts = match plain.push(rt.alloc(), &rules, &tenant, "{a=\"1\"}", &entries, 0) {
+    let verdicts = match plain.push(rt.alloc(), &rules, &tenant, name, entries, 0) {
         Ok(verdicts) => verdicts,
         Err(_) => {
             assert!(rt; plain.is_empty());
-            plain.push(rt.alloc(), &rules, &tenant, "{a=\"1\"}", &entries, 0)?
+            let again = entries_at(rt.alloc(), &[1, 2])?;
+            plain.push(rt.alloc(), &rules, &tenant, name, again, 0)?
         }
     };
     let all = [
@@ -100,6 +108,30 @@ fn a_refused_allocation_leaves_the_rows(rt: HostRuntime) -> Result<(), Fail> {
     ];
     assert_eq!(rt; verdicts.as_slice(), all.as_slice());
     assert_eq!(rt; plain.len(), 2);
+    Ok(())
+}
+
+#[test]
+fn a_full_chunk_is_followed_by_another(rt: HostRuntime) -> Result<(), Fail> {
+    let mut plain = Plain::new(rt.alloc());
+    let tenant = Tenant::of_text(rt.alloc(), "t")?;
+    let rules = Rules {
+        chunk_block_size: 40,
+        chunk_target_size: 80,
+        ..Rules::default()
+    };
+    // Two entries of 20 bytes fill a block, and two blocks a chunk.
+    for (name, stamps, chunks) in [
+        ("{a=\"1\"}", [1, 2, 3, 4].as_slice(), 1),
+        ("{a=\"1\"}", [5].as_slice(), 2),
+        ("{a=\"2\"}", [1].as_slice(), 1),
+    ] {
+        let entries = entries_at(rt.alloc(), stamps)?;
+        plain.push(rt.alloc(), &rules, &tenant, name, entries, 0)?;
+        assert_eq!(rt; plain.chunks_of(&tenant, name), chunks, "{name}");
+    }
+    assert_eq!(rt; plain.streams(), 2);
+    assert_eq!(rt; plain.count_of(&tenant, "{a=\"1\"}"), 5);
     Ok(())
 }
 
@@ -184,6 +216,8 @@ fn half_the_age_behind_the_greatest_stamp(rt: HostRuntime) {
     worked_rows();
     each_push_is_a_run_of_entries();
     a_push_adds_what_it_accepts();
+    pushes_keep_states_sound();
+    order_does_not_count();
 }
 
 #[test]

@@ -1,1 +1,1 @@
-mod Stored
+mod ShardLaws

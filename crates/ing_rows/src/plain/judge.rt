@@ -1,21 +1,28 @@
 //! How the slow program judges an entry: by looking through all rows.
-ghost use Rattle.std.specs.Prelude.{◌≡◌, ◌+◌, ◌&&◌, ◌==◌, List, length, count_by, bytes_eq};
+ghost use Rattle.std.specs.Prelude.{◌≡◌, ◌+◌, ◌&&◌, ◌==◌, All, List, length, reverse, false};
 ghost use Rattle.std.specs.Option.{option_map};
 ghost use Rattle.ing_rows.specs.Rows as model;
 ghost use Rattle.ing_rows.specs.Verdicts.{verdict_of, is_entry};
-ghost use Rattle.ing_rows.specs.Kept.{as_row, AreCounted};
-ghost use Rattle.ing_rows.specs.PlainRows.{row_seen, rows_seen, seen, stream};
+ghost use Rattle.ing_rows.specs.Plain.{stream, AreCounted};
 
 use super::row::PlainRow;
 use crate::entry::Entry;
 use crate::rules::Rules;
 use crate::stamp::window_limit;
+use crate::tenant::Tenant;
 use crate::verdict::Verdict;
 
 /// The verdict of the model for an entry after these rows.
-pub fn judge(rows: &[PlainRow], rules: &Rules, tenant: &str, name: &str, entry: &Entry) -> Verdict
-    requires { AreCounted (seen rows.now) }
-    ensures { result ≡ verdict_of (rows_seen rows.now) rules.now (stream tenant.now name.now) entry.now }
+pub fn judge(
+    rows: &[PlainRow],
+    rules: &Rules,
+    tenant: &Tenant,
+    name: &str,
+    entry: &Entry,
+) -> Verdict
+    requires counted { AreCounted (reverse rows.now) }
+    requires unstored { All (λ r. model.is_stored r.place ≡ false) (reverse rows.now) }
+    ensures { result ≡ verdict_of (reverse rows.now) rules.now (stream tenant.now name.now) entry.now }
 {
     if entry.line.len() as u64 > rules.max_line_size {
         return Verdict::LineTooLong;
@@ -28,17 +35,18 @@ pub fn judge(rows: &[PlainRow], rules: &Rules, tenant: &str, name: &str, entry: 
     if is_last(rows, tenant, name, entry) {
         return Verdict::Duplicate;
     }
-    let live = live_streams(rows, tenant);
-    if count == 0 && live as u64 >= rules.max_streams_per_tenant {
-        return Verdict::TooManyStreams { live: live as u64 };
+    let live = live_streams(rows, tenant) as u64;
+    if count == 0 && live >= rules.max_streams_per_tenant {
+        return Verdict::TooManyStreams { live };
     }
     Verdict::Accepted {
         number: count as u64,
     }
 }
 
-fn count_of(rows: &[PlainRow], tenant: &str, name: &str) -> usize
-    ensures { result ≡ model.count_of (rows_seen rows.now) (stream tenant.now name.now) }
+/// How many entries a stream has had accepted.
+pub fn count_of(rows: &[PlainRow], tenant: &Tenant, name: &str) -> usize
+    ensures count { result ≡ model.count_of (reverse rows.now) (stream tenant.now name.now) }
 {
     let mut count: usize = 0;
     for row in rows {
@@ -49,8 +57,8 @@ fn count_of(rows: &[PlainRow], tenant: &str, name: &str) -> usize
     count
 }
 
-fn highest_of(rows: &[PlainRow], tenant: &str, name: &str) -> u64
-    ensures { result ≡ model.highest_of (rows_seen rows.now) (stream tenant.now name.now) }
+fn highest_of(rows: &[PlainRow], tenant: &Tenant, name: &str) -> u64
+    ensures { result ≡ model.highest_of (reverse rows.now) (stream tenant.now name.now) }
 {
     let mut highest: u64 = 0;
     for row in rows {
@@ -61,9 +69,8 @@ fn highest_of(rows: &[PlainRow], tenant: &str, name: &str) -> u64
     highest
 }
 
-fn last_of<'a>(rows: &'a [PlainRow], tenant: &str, name: &str) -> Option<&'a PlainRow>
-    ensures { option_map (λ r. as_row (row_seen r.now)) result
-        ≡ model.last_of (rows_seen rows.now) (stream tenant.now name.now) }
+fn last_of<'a>(rows: &'a [PlainRow], tenant: &Tenant, name: &str) -> Option<&'a PlainRow>
+    ensures { option_map (λ r. r.now) result ≡ model.last_of (reverse rows.now) (stream tenant.now name.now) }
 {
     let mut last: Option<&PlainRow> = None;
     for row in rows {
@@ -75,8 +82,7 @@ fn last_of<'a>(rows: &'a [PlainRow], tenant: &str, name: &str) -> Option<&'a Pla
 }
 
 fn later<'a>(row: &'a PlainRow, last: Option<&'a PlainRow>) -> Option<&'a PlainRow>
-    ensures { option_map (λ r. as_row (row_seen r.now)) result
-        ≡ model.later (as_row (row_seen row.now)) (option_map (λ r. as_row (row_seen r.now)) last.entry) }
+    ensures { option_map (λ r. r.now) result ≡ model.later row.now (option_map (λ r. r.now) last.entry) }
 {
     match last {
         Some(other) if other.number >= row.number => last,
@@ -84,8 +90,9 @@ fn later<'a>(row: &'a PlainRow, last: Option<&'a PlainRow>) -> Option<&'a PlainR
     }
 }
 
-fn is_last(rows: &[PlainRow], tenant: &str, name: &str, entry: &Entry) -> bool
-    ensures { result ≡ is_entry entry.now (model.last_of (rows_seen rows.now) (stream tenant.now name.now)) }
+fn is_last(rows: &[PlainRow], tenant: &Tenant, name: &str, entry: &Entry) -> bool
+    ensures { result ≡ is_entry entry.now
+        (option_map (λ r. r.entry) (model.last_of (reverse rows.now) (stream tenant.now name.now))) }
 {
     match last_of(rows, tenant, name) {
         Some(last) => {
@@ -96,9 +103,10 @@ fn is_last(rows: &[PlainRow], tenant: &str, name: &str, entry: &Entry) -> bool
 }
 
 /// Each stream of the tenant has one entry of number 0.
-fn live_streams(rows: &[PlainRow], tenant: &str) -> usize
-    requires { AreCounted (seen rows.now) }
-    ensures { result ≡ length (model.live_streams (rows_seen rows.now) tenant.now) }
+fn live_streams(rows: &[PlainRow], tenant: &Tenant) -> usize
+    requires counted { AreCounted (reverse rows.now) }
+    requires unstored { All (λ r. model.is_stored r.place ≡ false) (reverse rows.now) }
+    ensures { result ≡ length (model.live_streams (reverse rows.now) tenant.now) }
 {
     let mut live: usize = 0;
     for row in rows {
@@ -107,4 +115,31 @@ fn live_streams(rows: &[PlainRow], tenant: &str) -> usize
         }
     }
     live
+}
+
+/// How many streams have a row: each has one entry of number 0.
+pub fn streams(rows: &[PlainRow]) -> usize
+    requires { AreCounted (reverse rows.now) }
+    ensures { result ≡ length (model.streams_of (reverse rows.now)) }
+{
+    let mut streams: usize = 0;
+    for row in rows {
+        if row.is_first() {
+            streams += 1;
+        }
+    }
+    streams
+}
+
+/// How many chunks a stream has.
+pub fn chunks_of(rows: &[PlainRow], tenant: &Tenant, name: &str) -> usize
+    ensures { result ≡ length (model.chunk_starts (stream tenant.now name.now) (reverse rows.now)) }
+{
+    let mut chunks: usize = 0;
+    for row in rows {
+        if row.is_chunk_start(tenant, name) {
+            chunks += 1;
+        }
+    }
+    chunks
 }
