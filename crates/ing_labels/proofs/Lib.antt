@@ -1,3 +1,4 @@
+pub mod PiecesLaws
 pub mod Places
 pub mod Spelling
 pub mod Joined
@@ -10,6 +11,8 @@ pub mod Chars
 pub mod Ends
 pub mod Looked
 pub mod Rising
+pub mod Tested
+pub mod HeldLaws
 pub mod CanonicalSpelt
 pub mod CanonicalWhole
 pub mod CanonicalChars
