@@ -4,5 +4,5 @@ pub mod CommandLaws
 pub mod StartingLaws
 mod NoFloat
 pub mod RunsLaws
-mod Streams
+mod StreamsLaws
 mod EndingsLaws

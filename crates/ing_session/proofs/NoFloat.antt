@@ -1,5 +1,5 @@
 -- No reply has a float, so the text of each is stated.
-use Rattle.std.proofs.Common.{◌≡◌, ℕ, Bool, true, false, cond, ◌||◌, List, [], ◌∷◌, map, refl, None, Some, Ok, Err}
+use Rattle.std.proofs.Common.{◌≡◌, ℕ, Bool, true, false, cond, ◌||◌, List, [], ◌∷◌, length, map, refl, None, Some, Ok, Err}
 use Rattle.std.specs.Prelude.{Option, Result}
 use Rattle.serde_json.specs.Data.{Data}
 use Rattle.serde_json.specs.View.{items_of}
@@ -14,6 +14,7 @@ use Rattle.ing_limits.specs.Ranges.{rules_for}
 use Rattle.ing_rows.specs.declared.verdict.Verdict.{Verdict}
 use Rattle.ing_rows.specs.declared.verdict.Verdict.TheVariants.{Accepted, Duplicate, LineTooLong, TooFarBehind, TooManyStreams}
 use Rattle.ing_rows.specs.Rows.{State}
+use Rattle.ing_rows.specs.Events.{is_full}
 use Rattle.ing_rows.specs.Steps.{verdicts_of}
 use Rattle.ing_shard.specs.Contents.{stream_of}
 use Rattle.ing_session.specs.declared.command.fault.LineFault.{LineFault}
@@ -22,7 +23,7 @@ use Rattle.ing_session.specs.PushCommands.{StreamEntries}
 use Rattle.ing_session.specs.Faults.{refusal_of}
 use Rattle.ing_refusals.specs.declared.refusal.Refusal.{Refusal}
 use Rattle.ing_session.specs.Replies.{verdict_data, fault_data, judged_data}
-use Rattle.ing_session.specs.Session.{limits_of, is_too_many, is_too_much, reply_for, after_stream, stream_replies, command_reply}
+use Rattle.ing_session.specs.Session.{limits_of, is_too_many, reply_for, after_stream, stream_replies, command_reply}
 
 fault_has_none : (refusal : Refusal) (at : Option ℕ) → has_float (fault_data refusal at) ≡ false
 fault_has_none refusal None = refl
@@ -53,7 +54,7 @@ module _ (rules : Rules) (tenant : List ℕ) (now : ℕ) where
 
   reply_has_none : (s : StreamEntries) (st : State) (labels : Result LabelMap LabelFault) → has_float (reply_for rules tenant now s st labels) ≡ false
   reply_has_none s st (Err fault) = fault_has_none (label_faults.refusal_of fault) (label_faults.fault_place fault)
-  reply_has_none s st (Ok labels) = chosen (is_too_many rules s) _ _ refl (chosen (is_too_much st s) _ _ refl (judged_has_none (canonical_of labels) false (verdicts_of rules (stream_of tenant labels) now s.entries st)))
+  reply_has_none s st (Ok labels) = chosen (is_too_many rules s) _ _ refl (chosen (is_full st (stream_of tenant labels) (length s.entries)) _ _ refl (judged_has_none (canonical_of labels) false (verdicts_of rules (stream_of tenant labels) now s.entries st)))
 
   streams_have_none : (ss : List StreamEntries) (st : State) → items_have_float (items_of (stream_replies rules tenant now ss st)) ≡ false
   streams_have_none [] st = refl

@@ -7,8 +7,7 @@ use Rattle.std.proofs.lemmas.List.Concat.{flat_map-cons}
 use Rattle.std.proofs.lemmas.Bool.Decides.{nat_tests}
 use Rattle.ing_limits.specs.Settings.{StoreSettings}
 use Rattle.ing_rows.specs.Rows.{State, empty_state}
-use Rattle.ing_rows.specs.Kept.{Shows}
-use Rattle.ing_shard.specs.Contents.{Contents}
+use Rattle.ing_shard.specs.Contents.{Contents, Stands}
 use Rattle.ing_session.specs.declared.command.fault.LineFault.TheVariants.{BadCommand}
 use Rattle.ing_session.specs.declared.lines.NextLine.TheVariants.{Line, TooLong, End}
 use Rattle.ing_session.specs.Lines.{lines_of, with_feed, EndsLine, TakesFirst, TakesLine}
@@ -92,7 +91,7 @@ module _ (settings : StoreSettings) (shard after : Contents) (input : List ℕ) 
   -- a line is taken and answered
   one_line : (was now : Bool) (left rest : List ℕ) → (serves : Serves settings shard input first (with_replies c r) was left) → HasNoFeed line → EndsLine left rest now line
       → Keeps (with_replies c r) (with_replies k q) → s ≡ q ++ answer_to settings line (state_after settings empty_state serves.lines)
-      → after.settings ≡ settings → Shows after.entries (after_line settings line (state_after settings empty_state serves.lines))
+      → after.settings ≡ settings → Stands after (after_line settings line (state_after settings empty_state serves.lines))
       → Serves settings after input first (with_replies k s) now rest
   one_line true now left rest serves clean ends keeps text same shows = absurd (none_left left rest line now (serves.read refl).1 ends)
   one_line false now left rest serves clean ends keeps text same shows =
@@ -128,7 +127,7 @@ long_state settings line st long = let is : is_long line ≡ true = grind (arith
 module _ (settings : StoreSettings) (shard after : Contents) (input : List ℕ) (first c k : Option (List ℕ)) (r q s line : List ℕ) (was now : Bool) where
   pub serves_line : (left rest : Option (List ℕ)) → ServesKnown settings shard input first (with_replies c r) was left → ((was ≡ true → IsAtEnd left) → TakesLine left rest now Line line)
       → Keeps (with_replies c r) (with_replies k q)
-      → ((st : State) → Shows shard.entries st → s ≡ q ++ answer_to shard.settings line st) → ((st : State) → Shows shard.entries st → Shows after.entries (after_line shard.settings line st))
+      → ((st : State) → Stands shard st → s ≡ q ++ answer_to shard.settings line st) → ((st : State) → Stands shard st → Stands after (after_line shard.settings line st))
       → after.settings ≡ shard.settings
       → ServesKnown settings after input first (with_replies k s) now rest
   serves_line None rest serves takes keeps answered shows same = absurd serves
@@ -139,7 +138,7 @@ module _ (settings : StoreSettings) (shard after : Contents) (input : List ℕ) 
       one_line settings shard after input first c k r q s line was now left rest serves taken.0 taken.1 keeps
       (subst (λ t. s ≡ q ++ answer_to t line st) serves.settings_are (answered st serves.shows))
       (same ∙ serves.settings_are)
-      (subst (λ t. Shows after.entries (after_line t line st)) serves.settings_are (shows st serves.shows))
+      (subst (λ t. Stands after (after_line t line st)) serves.settings_are (shows st serves.shows))
 
   pub serves_long : (left rest : Option (List ℕ)) → ServesKnown settings shard input first (with_replies c r) was left → ((was ≡ true → IsAtEnd left) → TakesLine left rest now TooLong line)
       → Keeps (with_replies c r) (with_replies k q) → s ≡ q ++ line_text (line_fault BadCommand)
@@ -161,7 +160,7 @@ module _ (settings : StoreSettings) (shard after : Contents) (input : List ℕ) 
       ap lines_of (serves.taken is ∙ ap (λ (l : List ℕ). flat_map with_feed serves.lines ++ l) empty ∙ append-nil (flat_map with_feed serves.lines)) ∙ lines_of-ended serves.lines serves.no_feeds
 
   pub serves_end : (left rest : Option (List ℕ)) → ServesKnown settings shard input first (with_replies c r) was left → ((was ≡ true → IsAtEnd left) → TakesLine left rest now End line)
-      → Keeps (with_replies c r) (with_replies k q) → ((st : State) → Shows shard.entries st → s ≡ q ++ line_text (report_of st))
+      → Keeps (with_replies c r) (with_replies k q) → ((st : State) → Stands shard st → s ≡ q ++ line_text (report_of st))
       → Appends first (with_replies k s) (output_of settings input)
   serves_end None rest serves takes keeps reported = absurd serves
   serves_end (Some left) None serves takes keeps reported = absurd (takes (λ e. (serves.read e).1))

@@ -3,9 +3,8 @@ use Rattle.std.specs.Prelude.{◌≡◌, ℕ, false, true, Bool, List, [], ◌++
 use Rattle.std.specs.List.{AllByRecursion, flat_map}
 use Rattle.std.specs.Io.KnownBytes.{Appends, Consumes, append_known}
 use Rattle.ing_rows.specs.Rows.{empty_state}
-use Rattle.ing_rows.specs.Kept.{Shows}
 use Rattle.ing_limits.specs.Settings.{StoreSettings}
-use Rattle.ing_shard.specs.Contents.{Contents}
+use Rattle.ing_shard.specs.Contents.{Contents, Stands}
 use Rattle.ing_session.specs.Lines.{lines_of, with_feed}
 use Rattle.ing_session.specs.Parts.{HasNoFeed}
 use Rattle.ing_session.specs.Session.{answers_of, state_after, output_of}
@@ -40,7 +39,7 @@ pub record Serves (settings : StoreSettings) (shard : Contents) (input : List �
   pub taken : at_end ≡ false → input ≡ flat_map with_feed lines ++ left
   pub read : at_end ≡ true → (lines_of input ≡ lines) × (left ≡ [])
   pub settings_are : shard.settings ≡ settings
-  pub shows : Shows shard.entries (state_after settings empty_state lines)
+  pub shows : Stands shard (state_after settings empty_state lines)
   pub answered : Appends old new (answers_of settings lines)
 
 -- the same where the bytes that are left are known

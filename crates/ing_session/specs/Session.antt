@@ -10,8 +10,9 @@ use Rattle.ing_labels.specs.Faults as label_faults
 use Rattle.ing_labels.specs.Canonical.{canonical_of}
 use Rattle.ing_rows.specs.declared.rules.Rules.{Rules}
 use Rattle.ing_rows.specs.Rows.{State, empty_state}
+use Rattle.ing_rows.specs.Events.{is_full}
 use Rattle.ing_rows.specs.Steps.{verdicts_of, after_push}
-use Rattle.ing_rows.specs.Kept.{Numbered, Shows}
+use Rattle.ing_shard.specs.Contents.{Stands}
 use Rattle.ing_limits.specs.Settings.{StoreSettings}
 use Rattle.ing_limits.specs.Ranges.{rules_for}
 use Rattle.ing_shard.specs.Contents.{stream_of, stored_count}
@@ -33,10 +34,6 @@ limits_of rules = record { names = rules.max_label_names; name_bytes = rules.max
 abbrev pub is_too_many : Rules → StreamEntries → Bool
 is_too_many rules s = nat_lt rules.max_entries_per_push (length s.entries)
 
--- the entries of the shard and these would pass 2^62
-abbrev pub is_too_much : State → StreamEntries → Bool
-is_too_much st s = nat_lt (2 ^ 62) (length st.rows + length s.entries)
-
 -- ---- one stream of a push
 
 abbrev pub label_fault : LabelFault → Data
@@ -47,7 +44,7 @@ abbrev pub reply_for : Rules → List ℕ → ℕ → StreamEntries → State �
 reply_for rules tenant now s st (Err fault) = label_fault fault
 reply_for rules tenant now s st (Ok labels) =
     if is_too_many rules s then fault_data TooManyEntries None
-    else if is_too_much st s then fault_data CounterFull None
+    else if is_full st (stream_of tenant labels) (length s.entries) then fault_data CounterFull None
     else judged_data (canonical_of labels) false (verdicts_of rules (stream_of tenant labels) now s.entries st)
 
 abbrev pub stream_reply : Rules → List ℕ → ℕ → StreamEntries → State → Data
@@ -56,7 +53,7 @@ stream_reply rules tenant now s st = reply_for rules tenant now s st (labels_of 
 -- a refused stream changes nothing
 abbrev pub left_for : Rules → List ℕ → ℕ → StreamEntries → State → Result LabelMap LabelFault → State
 left_for rules tenant now s st (Err fault) = st
-left_for rules tenant now s st (Ok labels) = if is_too_many rules s then st else if is_too_much st s then st else after_push rules (stream_of tenant labels) now s.entries st
+left_for rules tenant now s st (Ok labels) = if is_too_many rules s then st else if is_full st (stream_of tenant labels) (length s.entries) then st else after_push rules (stream_of tenant labels) now s.entries st
 
 abbrev pub after_stream : Rules → List ℕ → ℕ → StreamEntries → State → State
 after_stream rules tenant now s st = left_for rules tenant now s st (labels_of (limits_of rules) s.labels)

@@ -1,6 +1,6 @@
 use Rattle.std.proofs.Common.{◌≡◌, ◌++◌, sym, subst}
 use Rattle.std.proofs.lemmas.Result.{err_from_is_err_and}
-use Rattle.ing_rows.specs.Kept.{Shows}
+use Rattle.ing_shard.specs.Contents.{Stands}
 use Rattle.ing_session.specs.Runs.{with_replies}
 use Rattle.ing_session.specs.Session.{answer_to, after_line}
 use Rattle.ing_session.specs.Unread.{left, is_ended}
@@ -45,7 +45,7 @@ returns-in_ok-answer-in-Line-clause-served g c = λ first settings input serves.
     (is_ended c.args.lines.now) (is_ended c.next_line.new.lines) (left c.args.lines.now (remaining c.args.reader.now)) (left c.next_line.new.lines (remaining c.next_line.new.reader)) serves
     (rw c.in-Line.is at c.in_ok-next_line.ensures.line) c.in_ok-next_line.ensures.held
     (λ old shows. subst (λ l. after ≡ before ++ answer_to c.args.session.now.shard.settings l old) same (answered.text old shows))
-    (λ old shows. subst (λ l. Shows c.answer.new.self.shard.entries (after_line c.args.session.now.shard.settings l old)) same (answered.state old shows))
+    (λ old shows. subst (λ l. Stands c.answer.new.self.shard (after_line c.args.session.now.shard.settings l old)) same (answered.state old shows))
     answered.settings
 
 pub returns-in_ok-refuse_long-in-TooLong-clause-served : goal.returns-in_ok-refuse_long-in-TooLong-clause-served
