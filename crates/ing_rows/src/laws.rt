@@ -48,7 +48,8 @@ pub fn order_does_not_count()
     ensures full { (a b : State) (s : StreamKey) (more : ℕ) → IsSame a b →
         is_full a s more ≡ is_full b s more }
     ensures verdicts { (rules : rules.Rules) (s : StreamKey) (now : ℕ) (es : List Entry)
-        (a b : State) → IsSound a → IsSame a b → verdicts_of rules s now es a ≡ verdicts_of rules s now es b }
+        (a b : State) → IsSound a → IsSame a b →
+        verdicts_of rules s now es a ≡ verdicts_of rules s now es b }
     ensures states { (rules : rules.Rules) (s : StreamKey) (now : ℕ) (es : List Entry)
         (a b : State) → IsSound a → IsSame a b →
         IsSame (after_push rules s now es a) (after_push rules s now es b) }
