@@ -27,8 +27,9 @@ pub fn each_push_is_a_run_of_entries()
 /// chunks, blocks and places; none of the others is lost.
 pub fn a_push_adds_what_it_accepts()
     ensures { (rules : rules.Rules) (s : StreamKey) (now : ℕ) (es : List Entry) (old : State) →
+        let told = verdicts_of rules s now es old in
         map numbered (after_push rules s now es old).rows
-        ≡ reverse (accepted_entries s es (verdicts_of rules s now es old)) ++ map numbered old.rows }
+        ≡ reverse (accepted_entries s es told) ++ map numbered old.rows }
 {}
 
 /// A push keeps a state sound, and so does another order of its rows and marks.
@@ -42,10 +43,14 @@ pub fn pushes_keep_states_sound()
 /// States that are the same but for the order of their rows and marks are pushed to alike: the facts of each stream are
 /// the same, they are as full, the verdicts are the same, and so is what is left, but for order.
 pub fn order_does_not_count()
-    ensures facts { (a b : State) (s : StreamKey) → IsSound a → IsSame a b → facts_of a.rows s ≡ facts_of b.rows s }
-    ensures full { (a b : State) (s : StreamKey) (more : ℕ) → IsSame a b → is_full a s more ≡ is_full b s more }
-    ensures verdicts { (rules : rules.Rules) (s : StreamKey) (now : ℕ) (es : List Entry) (a b : State) →
-        IsSound a → IsSame a b → verdicts_of rules s now es a ≡ verdicts_of rules s now es b }
-    ensures states { (rules : rules.Rules) (s : StreamKey) (now : ℕ) (es : List Entry) (a b : State) →
-        IsSound a → IsSame a b → IsSame (after_push rules s now es a) (after_push rules s now es b) }
+    ensures facts { (a b : State) (s : StreamKey) → IsSound a → IsSame a b →
+        facts_of a.rows s ≡ facts_of b.rows s }
+    ensures full { (a b : State) (s : StreamKey) (more : ℕ) → IsSame a b →
+        is_full a s more ≡ is_full b s more }
+    ensures verdicts { (rules : rules.Rules) (s : StreamKey) (now : ℕ) (es : List Entry)
+        (a b : State) → IsSound a → IsSame a b →
+        verdicts_of rules s now es a ≡ verdicts_of rules s now es b }
+    ensures states { (rules : rules.Rules) (s : StreamKey) (now : ℕ) (es : List Entry)
+        (a b : State) → IsSound a → IsSame a b →
+        IsSame (after_push rules s now es a) (after_push rules s now es b) }
 {}

@@ -31,7 +31,8 @@ impl Tenant {
     pub fn of_text(alloc: Global, text: &str) -> Result<Tenant, RowFault>
         ensures tenant { IfOk result (λ tenant. (tenant ≡ text.now) × (is_tenant text.now ≡ true)) }
         ensures refused { IsErrOf result RowFault.BadTenant ↔ (is_tenant text.now ≡ false) }
-        ensures others { IfErr result (λ fault. fault ≢ RowFault.NoMemory → fault ≡ RowFault.BadTenant) }
+        ensures others { IfErr result (λ fault.
+            fault ≢ RowFault.NoMemory → fault ≡ RowFault.BadTenant) }
     {
         if !is_tenant_id(text) {
             return Err(RowFault::BadTenant);

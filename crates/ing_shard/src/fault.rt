@@ -12,7 +12,7 @@ pub enum PushFault {
     /// Memory ran out.
     #[error("out of memory")]
     NoMemory,
-    /// A count would pass 2^62.
+    /// A count would pass its last value.
     #[error("a counter is full")]
     CounterFull,
     /// More entries than one push of a stream may have.

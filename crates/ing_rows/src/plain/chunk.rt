@@ -14,8 +14,8 @@ use crate::tenant::Tenant;
 
 /// The growing chunk of the stream.
 pub fn growing_chunk(marks: &[PlainMark], tenant: &Tenant, name: &str) -> Option<u64>
-    ensures { result
-        ≡ option_map (λ m. m.chunk) (find (is_growing (stream tenant.now name.now)) (reverse marks.now)) }
+    ensures { let s = stream tenant.now name.now in
+        result ≡ option_map (λ m. m.chunk) (find (is_growing s) (reverse marks.now)) }
 {
     let mut chunk: Option<u64> = None;
     for mark in marks {
@@ -29,7 +29,8 @@ pub fn growing_chunk(marks: &[PlainMark], tenant: &Tenant, name: &str) -> Option
 /// How many closed blocks the chunk has.
 pub fn blocks_of(rows: &[PlainRow], tenant: &Tenant, name: &str, chunk: u64) -> u64
     requires { All (λ r. r.block < length rows.now) rows.now }
-    ensures { result ≡ blocks_of (rows_of_chunk (stream tenant.now name.now) chunk (reverse rows.now)) }
+    ensures { let s = stream tenant.now name.now in
+        result ≡ blocks_of (rows_of_chunk s chunk (reverse rows.now)) }
 {
     let mut blocks: u64 = 0;
     for row in rows {
@@ -80,7 +81,8 @@ pub fn close_head(rows: &mut [PlainRow], tenant: &Tenant, name: &str, chunk: u64
 /// The growing chunk of the stream was updated at this time.
 pub fn update(marks: &mut [PlainMark], tenant: &Tenant, name: &str, now: u64)
     ensures { let s = stream tenant.now name.now in
-        marks.new ≡ map (λ m. if is_growing s m then record m { last_update = now } else m) marks.old }
+        marks.new
+        ≡ map (λ m. if is_growing s m then record m { last_update = now } else m) marks.old }
 {
     for mark in marks.iter_mut() {
         mark.update(tenant, name, now);
@@ -90,7 +92,8 @@ pub fn update(marks: &mut [PlainMark], tenant: &Tenant, name: &str, now: u64)
 /// The chunk takes no more entries, for this reason.
 pub fn seal(marks: &mut [PlainMark], tenant: &Tenant, name: &str, chunk: u64, reason: SealReason)
     ensures { let s = stream tenant.now name.now in
-        marks.new ≡ map (λ m. if is_mark_of s chunk m then record m { reason = Some reason } else m) marks.old }
+        marks.new ≡ map
+        (λ m. if is_mark_of s chunk m then record m { reason = Some reason } else m) marks.old }
 {
     for mark in marks.iter_mut() {
         mark.seal(tenant, name, chunk, reason);

@@ -22,7 +22,8 @@ pub fn judge(
 ) -> Verdict
     requires counted { AreCounted (reverse rows.now) }
     requires unstored { All (λ r. model.is_stored r.place ≡ false) (reverse rows.now) }
-    ensures { result ≡ verdict_of (reverse rows.now) rules.now (stream tenant.now name.now) entry.now }
+    ensures { let s = stream tenant.now name.now in
+        result ≡ verdict_of (reverse rows.now) rules.now s entry.now }
 {
     if entry.line.len() as u64 > rules.max_line_size {
         return Verdict::LineTooLong;
@@ -35,9 +36,11 @@ pub fn judge(
     if is_last(rows, tenant, name, entry) {
         return Verdict::Duplicate;
     }
-    let live = live_streams(rows, tenant) as u64;
-    if count == 0 && live >= rules.max_streams_per_tenant {
-        return Verdict::TooManyStreams { live };
+    if count == 0 {
+        let live = live_streams(rows, tenant) as u64;
+        if live >= rules.max_streams_per_tenant {
+            return Verdict::TooManyStreams { live };
+        }
     }
     Verdict::Accepted {
         number: count as u64,
@@ -70,7 +73,8 @@ fn highest_of(rows: &[PlainRow], tenant: &Tenant, name: &str) -> u64
 }
 
 fn last_of<'a>(rows: &'a [PlainRow], tenant: &Tenant, name: &str) -> Option<&'a PlainRow>
-    ensures { option_map (λ r. r.now) result ≡ model.last_of (reverse rows.now) (stream tenant.now name.now) }
+    ensures { let s = stream tenant.now name.now in
+        option_map (λ r. r.now) result ≡ model.last_of (reverse rows.now) s }
 {
     let mut last: Option<&PlainRow> = None;
     for row in rows {
@@ -82,7 +86,8 @@ fn last_of<'a>(rows: &'a [PlainRow], tenant: &Tenant, name: &str) -> Option<&'a 
 }
 
 fn later<'a>(row: &'a PlainRow, last: Option<&'a PlainRow>) -> Option<&'a PlainRow>
-    ensures { option_map (λ r. r.now) result ≡ model.later row.now (option_map (λ r. r.now) last.entry) }
+    ensures { option_map (λ r. r.now) result
+        ≡ model.later row.now (option_map (λ r. r.now) last.entry) }
 {
     match last {
         Some(other) if other.number >= row.number => last,
@@ -91,8 +96,8 @@ fn later<'a>(row: &'a PlainRow, last: Option<&'a PlainRow>) -> Option<&'a PlainR
 }
 
 fn is_last(rows: &[PlainRow], tenant: &Tenant, name: &str, entry: &Entry) -> bool
-    ensures { result ≡ is_entry entry.now
-        (option_map (λ r. r.entry) (model.last_of (reverse rows.now) (stream tenant.now name.now))) }
+    ensures { let last = model.last_of (reverse rows.now) (stream tenant.now name.now) in
+        result ≡ is_entry entry.now (option_map (λ r. r.entry) last) }
 {
     match last_of(rows, tenant, name) {
         Some(last) => {

@@ -48,7 +48,8 @@ impl PlainMark {
     /// Where it is that of the stream's growing chunk, the chunk was updated at this time.
     pub fn update(&mut self, tenant: &Tenant, name: &str, now: u64)
         ensures { let s = stream tenant.now name.now in
-            self.new ≡ (if is_growing s self.old then record self.old { last_update = now } else self.old) }
+            self.new
+            ≡ (if is_growing s self.old then record self.old { last_update = now } else self.old) }
     {
         if self.is_growing(tenant, name) {
             self.last_update = now;
@@ -58,7 +59,8 @@ impl PlainMark {
     /// Where it is that of this chunk of the stream, the chunk takes no more entries, for this reason.
     pub fn seal(&mut self, tenant: &Tenant, name: &str, chunk: u64, reason: SealReason)
         ensures { let s = stream tenant.now name.now in
-            self.new ≡ (if is_mark_of s chunk self.old then record self.old { reason = Some reason } else self.old) }
+            self.new ≡ (if is_mark_of s chunk self.old
+            then record self.old { reason = Some reason } else self.old) }
     {
         if self.is_of(tenant, name, chunk) {
             self.reason = Some(reason);

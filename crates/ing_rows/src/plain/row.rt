@@ -102,7 +102,8 @@ impl PlainRow {
     /// Where it is in the head of this chunk, the head is closed into a block.
     pub fn close(&mut self, tenant: &Tenant, name: &str, chunk: u64)
         ensures { let s = stream tenant.now name.now in
-            self.new ≡ (if in_head s chunk self.old then record self.old { place = Block } else self.old) }
+            self.new
+            ≡ (if in_head s chunk self.old then record self.old { place = Block } else self.old) }
     {
         if self.is_in_head(tenant, name, chunk) {
             self.place = Place::Block;

@@ -9,7 +9,7 @@ returns-then-live-rules c =
     let live = is_live_row (reverse c.args.rows.now) (stream c.args.tenant.now c.args.name.now) c.requires.unstored in
     grind (arith, nat_tests, live, c.is_last.ensures, c.count_of-count.ensures, c.live_streams-live.ensures)
 
-pub returns : goal.returns
-returns c =
+pub returns-else-count-eq0 : goal.returns-else-count-eq0
+returns-else-count-eq0 c =
     let live = is_live_row (reverse c.args.rows.now) (stream c.args.tenant.now c.args.name.now) c.requires.unstored in
-    grind (arith, nat_tests, live, c.is_last.ensures, c.count_of-count.ensures, c.live_streams-live.ensures)
+    grind (arith, nat_tests, live, c.is_last.ensures, c.count_of-count.ensures)
