@@ -1,9 +1,9 @@
 -- What a `Labels` holds of its map.
-use Rattle.std.proofs.Common.{◌≡◌, ℕ, List, ◌∷◌, sym, ap, subst, ◌∙◌}
+use Rattle.std.proofs.Common.{◌≡◌, List, ◌∷◌, sym, ap, subst, ◌∙◌}
 use Rattle.std.specs.FinMap.{entries, from_sorted}
-use Rattle.ing_labels.specs.Labels.{LabelMap, Pair, IsLabelSet, AreLabels}
-use Rattle.ing_labels.specs.Canonical.{written_pairs, canonical_of}
-use Rattle.ing_labels.specs.Pieces.{named_texts, pairs_of}
+use Rattle.ing_labels.specs.Labels.{Pair, IsLabelSet, AreLabels}
+use Rattle.ing_labels.specs.Canonical.{written_pairs}
+use Rattle.ing_labels.specs.Pieces.{named_texts}
 use Rattle.ing_labels.specs.Held.{pieces_of, held_map, IsHeld}
 use Rattle.ing_labels.proofs.PiecesLaws.{pairs_of-named_texts}
 use Rattle.ing_labels.specs.declared.label_set.Labels.TheInside.{Inside}

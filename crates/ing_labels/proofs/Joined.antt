@@ -5,7 +5,7 @@ use Rattle.std.proofs.Math.Seq.{drop-cons}
 use Rattle.std.proofs.Math.ListN.{drop_of_length-le}
 use Rattle.std.proofs.lemmas.List.{length-map, get_or-map, map-append}
 use Rattle.std.specs.List.{join_by, flat_map}
-use Rattle.ing_labels.specs.Labels.{Pair, texts, has_value, with_values}
+use Rattle.ing_labels.specs.Labels.{Pair, texts, with_values}
 use Rattle.ing_labels.specs.Canonical.{written_pair}
 use Rattle.ing_labels.specs.Pieces.{named_texts}
 

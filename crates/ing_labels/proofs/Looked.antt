@@ -1,5 +1,5 @@
 -- The value of a label among pairs.
-use Rattle.std.proofs.Common.{◌≡◌, Bool, cond, List, ℕ, ◌∷◌, Some, sym, ap, ◌∙◌}
+use Rattle.std.proofs.Common.{◌≡◌, Bool, cond, List, ℕ, ◌∷◌, Some, ap, ◌∙◌}
 use Rattle.std.specs.Str.{bytes_eq}
 use Rattle.std.specs.FinMap.{find}
 use Rattle.std.proofs.lemmas.Cmp.{nat_list_eq_equiv}

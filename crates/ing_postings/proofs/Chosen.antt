@@ -9,19 +9,6 @@ use Rattle.ing_postings.specs.Streams.{numbers_of, selected}
 use Rattle.ing_postings.specs.Index.{Index, list_at, Narrows, IsNoLonger}
 
 -- one more place
-pub selected_more : (ms : List Match) (streams : List Listed) (places : List ℕ) (i : ℕ) (s : Listed) → i < length places → slice_get streams (get_or places i 0) ≡ Some s → numbers_of (selected ms (filter_map (slice_get streams) (take (i + 1) places))) ≡ numbers_of (selected ms (filter_map (slice_get streams) (take i places))) ++ cond (selects ms s.labels) (s.number ∷ []) []
-selected_more ms streams places i s within here =
-    let before = filter_map (slice_get streams) (take i places) in
-    let last : numbers_of (selected ms (filter_map (slice_get streams) (get_or places i 0 ∷ []))) ≡ cond (selects ms s.labels) (s.number ∷ []) [] =
-    ap (λ o. numbers_of (selected ms (cons_option o []))) here
-    ∙ elim (selects ms s.labels) as (λ b. numbers_of (cond b (s ∷ []) []) ≡ cond b (s.number ∷ []) []) [ true ↦ refl | false ↦ refl ] in
-    ap (λ ps. numbers_of (selected ms (filter_map (slice_get streams) ps))) (take_more places i 0 within)
-    ∙ ap (λ ss. numbers_of (selected ms ss)) (filter_map-append (slice_get streams) (take i places) (get_or places i 0 ∷ []))
-    ∙ ap numbers_of (filter-append (λ t. selects ms t.labels) before (filter_map (slice_get streams) (get_or places i 0 ∷ [])))
-    ∙ map-append (λ t. t.number) (selected ms before) (selected ms (filter_map (slice_get streams) (get_or places i 0 ∷ [])))
-    ∙ ap (λ ns. numbers_of (selected ms before) ++ ns) last
-
--- the same with no selector
 pub numbers_more : (streams : List Listed) (places : List ℕ) (i : ℕ) (s : Listed) → i < length places → slice_get streams (get_or places i 0) ≡ Some s → numbers_of (filter_map (slice_get streams) (take (i + 1) places)) ≡ numbers_of (filter_map (slice_get streams) (take i places)) ++ s.number ∷ []
 numbers_more streams places i s within here =
     ap (λ ps. numbers_of (filter_map (slice_get streams) ps)) (take_more places i 0 within)

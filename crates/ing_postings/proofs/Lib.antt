@@ -4,3 +4,4 @@ pub mod Numbers
 pub mod Places
 pub mod Narrowed
 pub mod PostingSets
+pub mod Walked

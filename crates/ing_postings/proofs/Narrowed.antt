@@ -44,7 +44,7 @@ found_pair (e ∷ es) name value is some =
       | false ↦ λ h g. right_of _ _ (found_pair es name value (sym (ap (λ b. unwrap_or (cond b (Some e.1) (find name_order name es)) []) h) ∙ is) some)
     ] tied refl
 
-has_looked : (m : LabelMap) (name value : List ℕ) → label_value m name ≡ value → not (length value == 0) ≡ true → has_label name value m ≡ true
+pub has_looked : (m : LabelMap) (name value : List ℕ) → label_value m name ≡ value → not (length value == 0) ≡ true → has_label name value m ≡ true
 has_looked m name value is some =
     found_pair (entries m) name value (ap (λ o. unwrap_or o []) (sym (get-entries m name)) ∙ is) some
 
@@ -108,10 +108,12 @@ pair_found (e ∷ es) name value sorted has =
           ap (λ b. cond b (Some e.1) (find name_order name es)) h ∙ pair_found es name value (rest_sorted e es sorted) later
     ] refl tied
 
+pub label_found : (m : LabelMap) (name value : List ℕ) → has_label name value m ≡ true → label_value m name ≡ value
+label_found m name value has = ap (λ o. unwrap_or o []) (get-entries m name ∙ pair_found (entries m) name value (entries_sorted m) has)
+
 has_match : (m : LabelMap) (x : Match) → asks_for_value x ≡ true → has_label x.name x.value m ≡ true → match_holds m x ≡ true
 has_match m x asks has =
-    let is : label_value m x.name ≡ x.value = ap (λ o. unwrap_or o []) (get-entries m x.name ∙ pair_found (entries m) x.name x.value (entries_sorted m) has) in
-    ap (agrees x.op) ((bytes_eq-Decides (label_value m x.name) x.value).1 is) ∙ (both_parts _ _ asks).0
+    ap (agrees x.op) ((bytes_eq-Decides (label_value m x.name) x.value).1 (label_found m x.name x.value has)) ∙ (both_parts _ _ asks).0
 
 -- where there is no other matcher, all streams in the list are picked
 pub one_picks : (index : Index) (ms : List Match) (xs : List Listed) (list : List ℕ) → ((name value : List ℕ) → list_at index name value ≡ places_of name value xs) → Any (Narrows index list) ms → length ms ≡ 1

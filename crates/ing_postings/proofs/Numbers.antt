@@ -11,7 +11,7 @@ use Rattle.std.proofs.lemmas.Map.Keys.{sorted_from_strictly_increasing, IsStrict
 use Rattle.ing_postings.specs.declared.listed.Listed.{Listed}
 use Rattle.ing_postings.specs.Streams.{numbers_of}
 
-below : (x y : ℕ) → nat_cmp x y ≡ Less → x < y
+pub below : (x y : ℕ) → nat_cmp x y ≡ Less → x < y
 below x y h = subst (λ r. MatchOrdering r (x < y) (x ≡ y) (y < x)) h (ranks x y)
 
 pushed_below : (P : ℕ → Type 0) (xs : List ℕ) (n : ℕ) → AllByRecursion P xs → P n → AllByRecursion P (xs ++ n ∷ [])

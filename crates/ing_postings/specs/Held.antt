@@ -1,9 +1,9 @@
 -- How a `Postings` holds its streams.
-use Rattle.std.specs.Prelude.{◌≡◌, ℕ, List, All}
+use Rattle.std.specs.Prelude.{All}
 use Rattle.std.specs.List.Sorted.{IsStrictlyIncreasing}
 use Rattle.ing_labels.specs.Labels.{IsLabelSet}
-use Rattle.ing_postings.specs.Streams.{numbers_of, places_of}
-use Rattle.ing_postings.specs.Index.{list_at}
+use Rattle.ing_postings.specs.Streams.{numbers_of}
+use Rattle.ing_postings.specs.Index.{IsIndexOf}
 use Rattle.ing_postings.specs.declared.postings.Postings.TheInside.{Inside}
 
 -- the numbers rise, each stream has the labels of a stream, and each list of the index is the one that
@@ -11,4 +11,4 @@ use Rattle.ing_postings.specs.declared.postings.Postings.TheInside.{Inside}
 pub record IsIndexed (a : Inside) : Type 0 where
   pub rising : IsStrictlyIncreasing (numbers_of a.streams.items)
   pub labels : All (λ s. IsLabelSet s.labels) a.streams.items
-  pub index : (name value : List ℕ) → list_at a.index name value ≡ places_of name value a.streams.items
+  pub index : IsIndexOf a.index a.streams.items

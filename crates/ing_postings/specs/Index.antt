@@ -6,7 +6,8 @@ use Rattle.std.specs.declared.alloc.Global.{Global}
 use Rattle.std.specs.List.{list_any}
 use Rattle.ing_labels.specs.Labels.{Pair}
 use Rattle.ing_labels.specs.Selectors.{Match, asks_for_value}
-use Rattle.ing_postings.specs.Streams.{is_pair}
+use Rattle.ing_postings.specs.Streams.{is_pair, places_of}
+use Rattle.ing_postings.specs.declared.listed.Listed.{Listed}
 use Rattle.std.specs.declared.string.String.{String}
 
 -- the lists of the values of one name
@@ -46,3 +47,7 @@ Narrows index list m =
 abbrev pub IsNoLonger : Index → List ℕ → Match → Type 0
 IsNoLonger index list m =
     asks_for_value m ≡ true → length list ≤ length (list_at index m.name m.value)
+
+-- each list is that of the streams with the label
+abbrev pub IsIndexOf : Index → List Listed → Type 0
+IsIndexOf index streams = (name value : List ℕ) → list_at index name value ≡ places_of name value streams

@@ -1,10 +1,11 @@
 -- Listed streams: what a selector picks of them, and where their labels stand. All of it is own.
-use Rattle.std.specs.Prelude.{ℕ, Bool, ◌&&◌, List, map, filter}
-use Rattle.std.specs.List.{list_any, enumerate_from, flat_map}
+use Rattle.std.specs.Prelude.{ℕ, Bool, false, ◌==◌, ◌&&◌, List, map, filter}
+use Rattle.std.specs.List.{list_any, enumerate_from, flat_map, slice_get}
+use Rattle.std.specs.Option.{option_map_or}
 use Rattle.std.specs.Str.{bytes_eq}
 use Rattle.std.specs.FinMap.{entries}
 use Rattle.ing_labels.specs.Labels.{LabelMap, Pair}
-use Rattle.ing_labels.specs.Selectors.{Match, selects}
+use Rattle.ing_labels.specs.Selectors.{Match, match_holds, selects}
 use Rattle.ing_postings.specs.declared.listed.Listed.{Listed}
 
 -- the numbers of streams, in their order
@@ -14,6 +15,14 @@ numbers_of = map (λ s. s.number)
 -- the streams that a selector of these matchers picks, in their order
 abbrev pub selected : List Match → List Listed → List Listed
 selected ms = filter (λ s. selects ms s.labels)
+
+-- the matcher picks the stream at this place
+abbrev pub picks_at : List Listed → Match → ℕ → Bool
+picks_at streams m place = option_map_or (λ s. match_holds s.labels m) (slice_get streams place) false
+
+-- the place is in the list
+abbrev pub is_in : ℕ → List ℕ → Bool
+is_in place = list_any (λ p. p == place)
 
 -- the pair is this name with this value
 abbrev pub is_pair : List ℕ → List ℕ → Pair → Bool

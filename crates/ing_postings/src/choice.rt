@@ -1,14 +1,15 @@
 //! Which streams a walk visits, and which of these it keeps.
-ghost use Rattle.std.specs.Prelude.{◌≡◌, ◌≤◌, ◌<◌, ◌⊎◌, IfOk, IfSome, IfNone, MatchOption, All, Any, false, length};
-ghost use Rattle.std.specs.List.{filter_map, slice_get};
-ghost use Rattle.ing_labels.specs.Selectors.{asks_for_value};
-ghost use Rattle.ing_postings.specs.Streams.{numbers_of, selected};
-ghost use Rattle.ing_postings.specs.Index.{Narrows, IsNoLonger};
+ghost use Rattle.std.specs.Prelude.{◌≡◌, ◌≤◌, ◌<◌, ◌⊎◌, ℕ, IfOk, IfSome, IfNone, MatchOption, All, Any, false, filter, length, slice_index};
+ghost use Rattle.std.specs.List.{filter_map, list_all, slice_get};
+ghost use Rattle.std.specs.List.Sorted.{IsNonDecreasing, IsStrictlyIncreasing};
+ghost use Rattle.ing_labels.specs.Selectors.{agrees, asks_for_value};
+ghost use Rattle.ing_postings.specs.Streams.{numbers_of, picks_at, is_in};
+ghost use Rattle.ing_postings.specs.Index.{IsIndexOf, Narrows, IsNoLonger};
 
 use crate::index::{Index, list_at};
 use crate::listed::Listed;
 use crate::stream_no::StreamNo;
-use ing_labels::{Matcher, Selector};
+use ing_labels::{MatchOp, Matcher};
 use std::alloc::{AllocError, Global};
 
 /// The shorter of a list and the shortest before it, if there was one.
@@ -39,44 +40,133 @@ pub(crate) fn shortest_list<'a>(index: &'a Index, matchers: &[Matcher]) -> Optio
     shortest
 }
 
-/// The numbers of those streams at these places that a selector picks. Where it has one matcher, the places are those of
-/// the streams that it picks, and no label is looked at.
-pub(crate) fn selected_at(
+/// Those of these places whose streams each matcher picks.
+pub(crate) fn kept_places(
+    alloc: Global,
+    index: &Index,
+    streams: &[Listed],
+    places: &[usize],
+    matchers: &[Matcher],
+) -> Result<Vec<usize>, AllocError>
+    requires indexed { IsIndexOf index.now streams.now }
+    requires within { All (λ place. place < length streams.now) places.now }
+    requires rising { IsStrictlyIncreasing places.now }
+    ensures { IfOk result (λ kept. kept.items ≡ filter (λ p. list_all (λ m. picks_at streams.now m p) matchers.now) places.now) }
+{
+    let mut kept = places.to_vec(alloc)?;
+    for matcher in matchers {
+        kept = kept_by(alloc, index, streams, &kept, matcher)?;
+    }
+    Ok(kept)
+}
+
+/// Those of these places whose streams a matcher picks. No label is looked at where the matcher has a value.
+fn kept_by(
+    alloc: Global,
+    index: &Index,
+    streams: &[Listed],
+    places: &[usize],
+    matcher: &Matcher,
+) -> Result<Vec<usize>, AllocError>
+    requires indexed { IsIndexOf index.now streams.now }
+    requires within { All (λ place. place < length streams.now) places.now }
+    requires rising { IsStrictlyIncreasing places.now }
+    ensures { IfOk result (λ kept. kept.items ≡ filter (picks_at streams.now matcher.now) places.now) }
+{
+    if matcher.value().is_empty() {
+        return labelled(alloc, streams, places, matcher);
+    }
+    let list = list_at(index, matcher.name(), matcher.value());
+    listed(alloc, places, list, matcher.op())
+}
+
+/// Those of these places of whose streams' labels a matcher holds.
+fn labelled(
     alloc: Global,
     streams: &[Listed],
     places: &[usize],
-    selector: &Selector,
-) -> Result<Vec<StreamNo>, AllocError>
-    requires within { All (λ place. place < length streams.now) places.now }
-    requires one { length selector.now ≡ 1 → selected selector.now (filter_map (slice_get streams.now) places.now) ≡ filter_map (slice_get streams.now) places.now }
-    ensures { IfOk result (λ found. found.items ≡ numbers_of (selected selector.now (filter_map (slice_get streams.now) places.now))) }
+    matcher: &Matcher,
+) -> Result<Vec<usize>, AllocError>
+    requires { All (λ place. place < length streams.now) places.now }
+    ensures { IfOk result (λ kept. kept.items ≡ filter (picks_at streams.now matcher.now) places.now) }
 {
-    if selector.matchers().len() == 1 {
-        return numbers_at(alloc, streams, places);
-    }
-    let mut found = Vec::new(alloc);
+    let mut kept = Vec::new(alloc);
     for place in places {
-        let stream = &streams[*place];
-        if selector.matches(&stream.labels) {
-            found.push(stream.number)?;
+        if matcher.holds(&streams[*place].labels) {
+            kept.push(*place)?;
         }
     }
-    Ok(found)
+    Ok(kept)
 }
 
-/// The numbers of those of all streams that a selector picks.
-pub(crate) fn selected_of_all(
+/// Those of these places that stand in a list, or those that do not. Both rise, and are walked side by side.
+fn listed(
     alloc: Global,
-    streams: &[Listed],
-    selector: &Selector,
-) -> Result<Vec<StreamNo>, AllocError>
-    ensures { IfOk result (λ found. found.items ≡ numbers_of (selected selector.now streams.now)) }
+    places: &[usize],
+    list: &[usize],
+    op: MatchOp,
+) -> Result<Vec<usize>, AllocError>
+    requires places { IsNonDecreasing places.now }
+    requires list { IsNonDecreasing list.now }
+    ensures { IfOk result (λ kept. kept.items ≡ filter (λ p. agrees op (is_in p list.now)) places.now) }
 {
-    streams
-        .iter()
-        .filter(|stream| selector.matches(&stream.labels))
-        .map(|stream| stream.number)
-        .collect(alloc)
+    let mut kept = Vec::with_capacity(alloc, places.len())?;
+    let mut rest = list;
+    for place in places {
+        rest = from_place(rest, *place);
+        let is_listed = begins_with(rest, *place);
+        if picks(op, is_listed) {
+            kept.push(*place)?;
+        }
+    }
+    Ok(kept)
+}
+
+/// Whether an operator picks what is listed, or what is not.
+fn picks(op: MatchOp, is_listed: bool) -> bool
+    ensures { result ≡ agrees op is_listed }
+{
+    match op {
+        MatchOp::Equals => is_listed,
+        MatchOp::Differs => !is_listed,
+    }
+}
+
+/// Whether a rising list with nothing below a place has it: then it is the first.
+fn begins_with(list: &[usize], place: usize) -> bool
+    requires rising { IsNonDecreasing list.now }
+    requires above { All (λ p. place ≤ p) list.now }
+    ensures { result ≡ is_in place list.now }
+{
+    match list {
+        [first, ..] => *first == place,
+        [] => false,
+    }
+}
+
+/// A rising list without its front of places below one.
+fn from_place(list: &[usize], place: usize) -> &[usize]
+    requires { IsNonDecreasing list.now }
+    ensures rising { IsNonDecreasing result.now }
+    ensures above { All (λ p. place ≤ p) result.now }
+    ensures rest { (q : ℕ) → place ≤ q → is_in q result.now ≡ is_in q list.now }
+{
+    let end = end_above(list, place);
+    let at = list[..end].partition_point(|p| *p < place);
+    &list[at..]
+}
+
+/// An end in a list behind which nothing is below a place, sought in steps that double.
+fn end_above(list: &[usize], place: usize) -> usize
+    requires { IsNonDecreasing list.now }
+    ensures within { result ≤ length list.now }
+    ensures above { result < length list.now → place ≤ slice_index list.now result }
+{
+    let mut end: usize = 1;
+    while end < list.len() && list[end] < place {
+        end = end.saturating_mul(2);
+    }
+    end.min(list.len())
 }
 
 /// The numbers of the streams at these places.

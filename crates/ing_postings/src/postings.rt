@@ -6,7 +6,7 @@ ghost use Rattle.std.specs.Option.{option_map};
 ghost use Rattle.ing_labels.specs.Labels.{IsLabelSet};
 ghost use Rattle.ing_postings.specs.Streams.{numbers_of, selected, posted, postings_of};
 
-use crate::choice::{numbers_at, selected_at, selected_of_all, shortest_list};
+use crate::choice::{kept_places, numbers_at, shortest_list};
 use crate::index::{Index, list_at, make_rooms, post};
 use crate::listed::Listed;
 use crate::stream_no::StreamNo;
@@ -109,20 +109,24 @@ impl Postings {
     }
 
     /// The numbers of the streams whose labels the selector matches, in rising order. Fails only for want of
-    /// memory, and takes none but for the answer.
+    /// memory, and takes some for the places of the shortest list beside the answer.
     ///
-    /// The walk goes over the shortest list of streams that an `=` matcher with a value names, and tests
-    /// each of them where there are other matchers, so the time is in proportion to that list times the
-    /// matchers. Only a selector without
-    /// such a matcher, which `Selector::parse` refuses, is tested on all streams. (Loki documentation: log
-    /// stream selector; the walk is own.)
+    /// The walk goes over the shortest list of streams that an `=` matcher with a value names, and beside it
+    /// over that of each other matcher with a value, in steps that double: so the time is in proportion to
+    /// the shortest list times the matchers, and at most logarithmic in the others. Labels are looked at for
+    /// matchers with an empty value alone. (Loki documentation: log stream selector; the walk is own.)
     pub fn select(&self, alloc: Global, selector: &Selector) -> Result<Vec<StreamNo>, AllocError>
         ensures found { IfOk result (λ found. found.items ≡ numbers_of (selected selector.now self.now)) }
         ensures rising { IfOk result (λ found. IsStrictlyIncreasing found.items) }
     {
-        match shortest_list(&self.index, selector.matchers()) {
-            Some(places) => selected_at(alloc, &self.streams, places, selector),
-            None => selected_of_all(alloc, &self.streams, selector),
+        let matchers = selector.matchers();
+        let Some(places) = shortest_list(&self.index, matchers) else {
+            unreachable!("each selector has an `=` matcher with a value")
+        };
+        if matchers.len() == 1 {
+            return numbers_at(alloc, &self.streams, places);
         }
+        let kept = kept_places(alloc, &self.index, &self.streams, places, matchers)?;
+        numbers_at(alloc, &self.streams, &kept)
     }
 }

@@ -1,4 +1,4 @@
-use Rattle.std.proofs.Common.{◌+◌, ◌++◌, ◌∷◌, [], codes, true, drop, sym, ap, ◌∙◌, append-nil}
+use Rattle.std.proofs.Common.{◌++◌, codes, true, sym, ap, ◌∙◌, append-nil}
 use Rattle.std.specs.String.{string_bytes}
 use Rattle.ing_labels.specs.Labels.{texts, with_values}
 use Rattle.ing_labels.proofs.Joined.{joined_rest, joined_none, left_here, left_none, written_more}

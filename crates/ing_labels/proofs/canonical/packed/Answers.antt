@@ -1,4 +1,4 @@
-use Rattle.std.proofs.Common.{◌+◌, ◌++◌, ◌∷◌, [], drop, sym, ap, ◌∙◌, append-nil}
+use Rattle.std.proofs.Common.{◌+◌, ◌++◌, drop, sym, ap, ◌∙◌, append-nil}
 use Rattle.ing_labels.specs.Labels.{texts, with_values}
 use Rattle.ing_labels.specs.Pieces.{named_texts}
 use Rattle.ing_labels.proofs.Joined.{left_here, left_none, packed_more}

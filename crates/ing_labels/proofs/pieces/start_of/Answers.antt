@@ -1,4 +1,4 @@
-use Rattle.std.proofs.Common.{◌≡◌, ℕ, ◌<◌, ◌-◌, zero, suc, List, ◌∷◌, get_or, ap, sym, ◌∙◌, arith}
+use Rattle.std.proofs.Common.{◌≡◌, ℕ, ◌<◌, ◌-◌, zero, suc, List, ◌∷◌, get_or, ap, arith}
 use Rattle.ing_labels.proofs.pieces.start_of.Goals as goal
 
 before : (ends : List ℕ) (at : ℕ) → 0 < at → get_or ends (at - 1) 0 ≡ get_or (0 ∷ ends) at 0

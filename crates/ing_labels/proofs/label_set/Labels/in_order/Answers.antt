@@ -1,4 +1,4 @@
-use Rattle.std.proofs.Common.{◌≡◌, ap, ◌∷◌, ◌∙◌, sym}
+use Rattle.std.proofs.Common.{ap, ◌∷◌, ◌∙◌}
 use Rattle.ing_labels.specs.Labels.{texts, with_values}
 use Rattle.ing_labels.specs.Pieces.{named_texts}
 use Rattle.ing_labels.proofs.HeldLaws.{held_labels}

@@ -1,6 +1,5 @@
-use Rattle.std.proofs.Common.{◌≡◌, Ok, Err, refl, sym, ◌∙◌}
-use Rattle.ing_labels.specs.Labels.{LabelMap, texts, labels_of, HoldsPairs, KeepsLimits}
-use Rattle.ing_labels.specs.declared.fault.LabelFault.{LabelFault}
+use Rattle.std.proofs.Common.{refl, sym, ◌∙◌}
+use Rattle.ing_labels.specs.Labels.{texts, HoldsPairs, KeepsLimits}
 use Rattle.ing_labels.proofs.Tested.{in_order, labels_in_order, labels_of-kept, made_in_order, tested, ok_then, not_both}
 use Rattle.ing_labels.proofs.label_set.Labels.of_pairs.Goals as goal
 

@@ -1,6 +1,6 @@
-use Rattle.std.proofs.Common.{◌≡◌, Ok, List, sym, ap, subst, ◌∙◌}
+use Rattle.std.proofs.Common.{◌≡◌, Ok, sym, ap, subst, ◌∙◌}
 use Rattle.std.specs.FinMap.{entries, from_entries, from_sorted}
-use Rattle.ing_labels.specs.Labels.{LabelMap, Pair, name_order, texts, with_values, AreLabels, kept_labels}
+use Rattle.ing_labels.specs.Labels.{LabelMap, texts, with_values, AreLabels}
 use Rattle.ing_labels.proofs.Made.{from_sorted-entries, label_set}
 use Rattle.ing_labels.proofs.Tested.{kept_some, whole_labels, entries_are_labels, labels_of-kept}
 use Rattle.ing_labels.proofs.label_set.Labels.of_unordered.Goals as goal

@@ -1,4 +1,4 @@
-use Rattle.std.proofs.Common.{ap, drop, ◌∙◌, sym}
+use Rattle.std.proofs.Common.{ap, drop, ◌∙◌}
 use Rattle.std.specs.FinMap.{entries}
 use Rattle.ing_labels.specs.Pieces.{pairs_of}
 use Rattle.ing_labels.specs.Held.{held_map}

@@ -1,7 +1,7 @@
-use Rattle.std.proofs.Common.{◌≡◌, Bool, ℕ, List, [], ◌∷◌, Some, true, false, cond, sym, ap, ◌∙◌}
+use Rattle.std.proofs.Common.{[], true, false, sym, ap, ◌∙◌}
 use Rattle.std.specs.Option.{unwrap_or}
-use Rattle.std.specs.FinMap.{find, entries, get-entries}
-use Rattle.ing_labels.specs.Labels.{name_order, LabelMap, Pair}
+use Rattle.std.specs.FinMap.{find, get-entries}
+use Rattle.ing_labels.specs.Labels.{name_order}
 use Rattle.ing_labels.proofs.Looked.{find_here}
 use Rattle.ing_labels.proofs.label_set.Labels.value.Goals as goal
 

@@ -1,6 +1,5 @@
 use Rattle.std.proofs.Common.{◌<◌, [], length, get_or, sym, ap, subst, ◌∙◌}
 use Rattle.std.specs.String.{string_bytes}
-use Rattle.ing_labels.specs.Pieces.{pieces_from, IsCut}
 use Rattle.ing_labels.proofs.PiecesLaws.{length-pieces_from}
 use Rattle.ing_labels.proofs.pieces.Pieces.get.Goals as goal
 
