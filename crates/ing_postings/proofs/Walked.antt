@@ -1,12 +1,11 @@
 -- Rising lists of places, walked side by side.
-use Rattle.std.proofs.Common.{◌≡◌, ℕ, suc, zero, ◌+◌, ◌-◌, ◌<◌, ◌≤◌, ◌==◌, nat_lt, Any, ◌⊎◌, inl, inr, length, get_or, take, drop, map, filter, All, Some, None, Option, Bool, true, false, cond, not, ◌&&◌, ◌||◌, List, [], ◌∷◌, ◌++◌, refl, sym, ap, subst, ◌∙◌, arith, length-drop}
-use Rattle.std.specs.List.{list_any, list_all, filter_map, slice_get, cons_option, enumerate_from, AllByRecursion, AllWithin}
+use Rattle.std.proofs.Common.{◌≡◌, ℕ, suc, zero, ◌+◌, ◌<◌, ◌≤◌, ◌==◌, nat_lt, Any, inl, inr, length, get_or, take, drop, map, filter, All, Some, None, Bool, true, false, cond, not, ◌&&◌, ◌||◌, List, [], ◌∷◌, ◌++◌, refl, sym, ap, subst, ◌∙◌, arith, length-drop}
+use Rattle.std.specs.List.{list_any, list_all, filter_map, slice_get, cons_option, enumerate_from, AllByRecursion}
 use Rattle.std.specs.List.Sorted.{IsNonDecreasing, IsStrictlyIncreasing, IsStrictlySortedBy, IsPartitionPoint}
 use Rattle.std.specs.Option.{option_map_or}
 use Rattle.std.specs.declared.cmp.Ordering.TheVariants.{Less}
 use Rattle.std.specs.Ordering.{nat_cmp}
 use Rattle.std.specs.Cmp.{nat_cmp_is}
-use Rattle.std.specs.Str.{bytes_eq}
 use Rattle.std.proofs.lemmas.List.Elements.{All-head, All-tail, All-cons, filter_more}
 use Rattle.std.proofs.lemmas.List.Folds.{list_all-append}
 use Rattle.std.proofs.lemmas.List.{take_more, get_or-drop, get_or-take, get_or_default, length-take-le}
@@ -17,7 +16,7 @@ use Rattle.ing_labels.specs.Labels.{LabelMap}
 use Rattle.ing_labels.specs.Selectors.{Match, match_holds, selects, agrees, asks_for_value}
 use Rattle.ing_labels.specs.LabelValues.{label_value}
 use Rattle.ing_postings.specs.declared.listed.Listed.{Listed}
-use Rattle.ing_postings.specs.Streams.{numbers_of, has_label, places_of, picks_at, is_in, selected}
+use Rattle.ing_postings.specs.Streams.{has_label, places_of, picks_at, is_in, selected}
 use Rattle.ing_postings.proofs.Places.{places_from}
 use Rattle.std.proofs.lemmas.Slice.Eq.{bytes_eq-Decides}
 use Rattle.ing_postings.proofs.Numbers.{below}

@@ -1,4 +1,4 @@
-use Rattle.std.proofs.Common.{◌≡◌, ◌<◌, IfOk, All, length, filter, sym, ap, subst, ◌∙◌}
+use Rattle.std.proofs.Common.{◌<◌, All, length, filter, sym, ap, subst, ◌∙◌}
 use Rattle.std.specs.List.{slice_get, filter_map, list_all}
 use Rattle.std.specs.List.Sorted.{IsStrictlyIncreasing}
 use Rattle.ing_labels.specs.Selectors.{IsSelector, selects}
