@@ -130,7 +130,7 @@ impl Labels {
         Ok(Labels { pieces })
     }
 
-    /// The labels of a canonical name: exactly the texts that `canonical` writes are read, whatever their
+    /// The labels of a canonical name: exactly the texts that `name` gives are read, whatever their
     /// length. `NotCanonical`: the text is none; `at` is the length of its longest front, in bytes, with
     /// which some canonical name begins. `NoMemory` may stand in place of any other answer. (The form is
     /// that of Prometheus' label sets; that no other spelling is read is this crate's own rule.)
