@@ -33,7 +33,7 @@ written_pairs ps = codes "{" ++ join_by written_pair (codes ", ") ps ++ codes "}
 abbrev pub canonical_of : LabelMap → List ℕ
 canonical_of m = written_pairs (entries m)
 
--- two label maps have equal canonical names exactly where they are equal
+-- two label maps of label names have equal canonical names exactly where they are equal
 abbrev pub CanonicalNamesAreExact : Type 0
 CanonicalNamesAreExact =
     (m n : LabelMap) → HasLabelNames m → HasLabelNames n → (canonical_of m ≡ canonical_of n) ↔ (m ≡ n)

@@ -2,7 +2,7 @@ pub mod Names
 pub mod Labels
 pub mod Faults
 pub mod Canonical
-pub mod Rows
+pub mod Worked
 pub mod Texts
 pub mod Pieces
 pub mod Held

@@ -21,7 +21,8 @@ fn has_escapes(value: &str) -> bool
 
 /// Writes a value with its backslashes, quotes and line feeds escaped.
 fn push_value(text: &mut String, value: &str) -> Result<(), AllocError>
-    ensures { OnOk result (string_bytes text.new ≡ string_bytes text.old ++ written_value value.now) }
+    ensures { OnOk result (string_bytes text.new ≡
+        string_bytes text.old ++ written_value value.now) }
 {
     if !has_escapes(value) {
         return text.push_str(value);
@@ -39,7 +40,8 @@ fn push_value(text: &mut String, value: &str) -> Result<(), AllocError>
 
 /// Writes a pair, as `a="x"`.
 fn push_pair(text: &mut String, name: &str, value: &str) -> Result<(), AllocError>
-    ensures { OnOk result (string_bytes text.new ≡ string_bytes text.old ++ written_pair (name.now, value.now)) }
+    ensures { OnOk result (string_bytes text.new ≡ string_bytes text.old ++
+        written_pair (name.now, value.now)) }
 {
     text.push_str(name)?;
     text.push_str("=\"")?;
@@ -50,7 +52,8 @@ fn push_pair(text: &mut String, name: &str, value: &str) -> Result<(), AllocErro
 /// Writes a pair, after a comma and a space unless it is the first.
 fn push_next(text: &mut String, is_first: bool, name: &str, value: &str) -> Result<(), AllocError>
     ensures { let pair = written_pair (name.now, value.now) in
-        OnOk result (string_bytes text.new ≡ string_bytes text.old ++ (if is_first then pair else codes ", " ++ pair)) }
+        OnOk result (string_bytes text.new ≡
+        string_bytes text.old ++ (if is_first then pair else codes ", " ++ pair)) }
 {
     if !is_first {
         text.push_str(", ")?;
@@ -92,7 +95,8 @@ pub(crate) fn packed(
     name: String,
     pairs: &[(&str, &str)],
 ) -> Result<Pieces, AllocError>
-    ensures { IfOk result (λ ps. ps ≡ string_bytes name ∷ named_texts (with_values (texts pairs.now))) }
+    ensures { IfOk result (λ ps. ps ≡
+        string_bytes name ∷ named_texts (with_values (texts pairs.now))) }
 {
     let count = pairs.len().saturating_mul(2).saturating_add(1);
     let mut pieces = Pieces::of_first(alloc, name, count)?;

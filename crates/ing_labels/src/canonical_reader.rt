@@ -95,7 +95,10 @@ fn longer_name(
     is_above: bool,
     c: char,
 ) -> Result<Option<State>, AllocError>
-    ensures { IfOk result (λ s. readings_of s ≡ reading.in_name (entry_texts read.entries) (string_bytes name ++ encode_utf8 c) (reading.above_with is_above (reading.last_name (entry_texts read.entries)) (length (string_bytes name)) c)) }
+    ensures { IfOk result (λ s. readings_of s ≡
+        reading.in_name (entry_texts read.entries) (string_bytes name ++
+        encode_utf8 c) (reading.above_with is_above (reading.last_name
+        (entry_texts read.entries)) (length (string_bytes name)) c)) }
 {
     let Some(is_above) = above_with(is_above, last_name(&read), name.len(), c) else {
         return Ok(None);
@@ -115,7 +118,9 @@ fn in_value(
     mut value: String,
     c: char,
 ) -> Result<Option<State>, AllocError>
-    ensures { IfOk result (λ s. readings_of s ≡ step_char (InValue (entry_texts read.entries) (string_bytes name) (string_bytes value)) c) }
+    ensures { IfOk result (λ s. readings_of s ≡
+        step_char (InValue (entry_texts read.entries) (string_bytes name)
+        (string_bytes value)) c) }
 {
     match c {
         '"' if value.as_str().is_empty() => Ok(None),
@@ -139,7 +144,9 @@ fn after_backslash(
     mut value: String,
     c: char,
 ) -> Result<Option<State>, AllocError>
-    ensures { IfOk result (λ s. readings_of s ≡ step_char (Escaped (entry_texts read.entries) (string_bytes name) (string_bytes value)) c) }
+    ensures { IfOk result (λ s. readings_of s ≡
+        step_char (Escaped (entry_texts read.entries) (string_bytes name)
+        (string_bytes value)) c) }
 {
     let Some(meant) = unescaped(c) else {
         return Ok(None);
@@ -189,7 +196,8 @@ impl State {
 
     /// The pairs, where the canonical name is read whole.
     fn closed(self) -> Option<Pairs>
-        ensures { MatchOption result (closed_of (reading_of self) ≡ None) (λ m. closed_of (reading_of self) ≡ Some (entry_texts m.entries)) }
+        ensures { MatchOption result (closed_of (reading_of self) ≡
+            None) (λ m. closed_of (reading_of self) ≡ Some (entry_texts m.entries)) }
     {
         match self {
             State::Closed { read } => Some(read),

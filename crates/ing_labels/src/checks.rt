@@ -96,7 +96,9 @@ pub(crate) fn values_by_name(
     pairs: &[(&str, &str)],
 ) -> Result<BTreeMap<String, String>, AllocError>
     requires { labels.first_repeated_name (labels.texts pairs.now) ≡ None }
-    ensures { IfOk result (λ m. entry_texts m.entries ≡ entries (from_entries {R = labels.name_order} (labels.with_values (labels.texts pairs.now)))) }
+    ensures { IfOk result (λ m. entry_texts m.entries ≡
+        entries (from_entries {R = labels.name_order} (labels.with_values
+        (labels.texts pairs.now)))) }
 {
     let mut values = BTreeMap::new(alloc);
     for (name, value) in pairs {

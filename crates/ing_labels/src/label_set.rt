@@ -72,10 +72,12 @@ impl Labels {
         limits: &LabelLimits,
     ) -> Result<Labels, LabelFault>
         ensures labels { IfOk result (λ l. labels_of limits.now (texts pairs.now) ≡ Ok l) }
-        ensures fault { IfErr result (λ e. e ≢ LabelFault.NoMemory → labels_of limits.now (texts pairs.now) ≡ Err e) }
+        ensures fault { IfErr result (λ e. e ≢ LabelFault.NoMemory →
+            labels_of limits.now (texts pairs.now) ≡ Err e) }
 
         // What is found before memory is taken.
-        ensures bad_name { (at : ℕ) → first_bad_name (texts pairs.now) ≡ Some at → IsErrOf result (LabelFault.BadName at) }
+        ensures bad_name { (at : ℕ) → first_bad_name (texts pairs.now) ≡ Some at →
+            IsErrOf result (LabelFault.BadName at) }
         ensures rising { IsTrue (is_sorted name_order (texts pairs.now)) → (e : LabelFault) →
             labels_of limits.now (texts pairs.now) ≡ Err e → IsErrOf result e }
 
@@ -104,7 +106,8 @@ impl Labels {
     ) -> Result<Labels, LabelFault>
         requires { first_bad_name (texts pairs.now) ≡ None }
         ensures labels { IfOk result (λ l. labels_of limits.now (texts pairs.now) ≡ Ok l) }
-        ensures fault { IfErr result (λ e. e ≢ LabelFault.NoMemory → labels_of limits.now (texts pairs.now) ≡ Err e) }
+        ensures fault { IfErr result (λ e. e ≢ LabelFault.NoMemory →
+            labels_of limits.now (texts pairs.now) ≡ Err e) }
     {
         if let Some(at) = first_repeated_name(alloc, pairs)? {
             return Err(LabelFault::TwiceNamed { at });
@@ -127,7 +130,7 @@ impl Labels {
         Ok(Labels { pieces })
     }
 
-    /// The labels of a canonical name: exactly the texts that `canonical` writes are read, whatever their
+    /// The labels of a canonical name: exactly the texts that `name` gives are read, whatever their
     /// length. `NotCanonical`: the text is none; `at` is the length of its longest front, in bytes, with
     /// which some canonical name begins. `NoMemory` may stand in place of any other answer. (The form is
     /// that of Prometheus' label sets; that no other spelling is read is this crate's own rule.)

@@ -1,7 +1,7 @@
 //! What the definitions say, as contracts of functions that do nothing.
 ghost use Rattle.ing_labels.specs.Canonical.{CanonicalNamesAreExact};
 ghost use Rattle.ing_labels.specs.Selectors.{SelectorTextsAreExact};
-ghost use Rattle.ing_labels.specs.Rows.{EmptyValuesAreAbsent, CanonicalEscapes, BadNameComesFirst, EmptyValueRepeats, NoValueNoLabels};
+ghost use Rattle.ing_labels.specs.Worked.{EmptyValuesAreAbsent, CanonicalEscapes, BadNameComesFirst, EmptyValueRepeats, NoValueNoLabels};
 
 /// Two label maps, of label names, have equal canonical names exactly where they are equal.
 pub fn canonical_names_are_exact()

@@ -37,7 +37,8 @@ impl Matcher {
 
     /// The matcher of a name, an operator and a value. Takes no memory.
     pub(crate) fn new(name: String, op: MatchOp, value: String) -> Matcher
-        ensures { result ≡ record { name = string_bytes name; op = op; value = string_bytes value } }
+        ensures { result ≡
+            record { name = string_bytes name; op = op; value = string_bytes value } }
     {
         Matcher { name, op, value }
     }

@@ -167,7 +167,8 @@ fn in_value(
     mut value: String,
     c: char,
 ) -> Result<Option<State>, AllocError>
-    ensures { IfOk result (λ s. readings_of s ≡ step_char (InValue read.items (string_bytes name) op (string_bytes value)) c) }
+    ensures { IfOk result (λ s. readings_of s ≡
+        step_char (InValue read.items (string_bytes name) op (string_bytes value)) c) }
 {
     match c {
         '"' => {
@@ -213,7 +214,8 @@ fn after_backslash(
     mut value: String,
     c: char,
 ) -> Result<Option<State>, AllocError>
-    ensures { IfOk result (λ s. readings_of s ≡ step_char (Escaped read.items (string_bytes name) op (string_bytes value)) c) }
+    ensures { IfOk result (λ s. readings_of s ≡
+        step_char (Escaped read.items (string_bytes name) op (string_bytes value)) c) }
 {
     let Some(meant) = unescaped(c) else {
         return Ok(None);
@@ -281,7 +283,8 @@ impl State {
 
     /// The matchers, where the selector is read whole.
     fn closed(self) -> Option<Vec<Matcher>>
-        ensures { MatchOption result (closed_of (reading_of self) ≡ None) (λ v. closed_of (reading_of self) ≡ Some v.items) }
+        ensures { MatchOption result (closed_of (reading_of self) ≡
+            None) (λ v. closed_of (reading_of self) ≡ Some v.items) }
     {
         match self {
             State::Closed { read } => Some(read),

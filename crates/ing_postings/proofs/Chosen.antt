@@ -1,11 +1,11 @@
 -- What the walks over matchers and over places have found so far.
-use Rattle.std.proofs.Common.{◌≡◌, ℕ, ◌+◌, ◌<◌, ◌≤◌, length, get_or, take, All, Any, Option, Some, None, IfSome, IfNone, MatchOption, ◌⊎◌, inl, inr, true, false, cond, List, [], ◌∷◌, ◌++◌, Bor, refl, sym, ap, subst, ◌∙◌, arith, length-take}
+use Rattle.std.proofs.Common.{◌≡◌, ℕ, ◌+◌, ◌<◌, ◌≤◌, length, get_or, take, All, Any, Option, Some, None, IfSome, IfNone, MatchOption, ◌⊎◌, inl, inr, true, false, List, [], ◌∷◌, ◌++◌, Bor, sym, ap, subst, ◌∙◌, arith, length-take}
 use Rattle.std.specs.List.{filter_map, slice_get, cons_option}
 use Rattle.std.proofs.lemmas.List.{take_more, map-append, get_or-take}
-use Rattle.std.proofs.lemmas.List.Elements.{All-more, All-weaker, filter_map-append, filter-append}
-use Rattle.ing_labels.specs.Selectors.{Match, selects, asks_for_value}
+use Rattle.std.proofs.lemmas.List.Elements.{All-more, All-weaker, filter_map-append}
+use Rattle.ing_labels.specs.Selectors.{Match, asks_for_value}
 use Rattle.ing_postings.specs.declared.listed.Listed.{Listed}
-use Rattle.ing_postings.specs.Streams.{numbers_of, selected}
+use Rattle.ing_postings.specs.Streams.{numbers_of}
 use Rattle.ing_postings.specs.Index.{Index, list_at, Narrows, IsNoLonger}
 
 -- one more place

@@ -1,14 +1,13 @@
 -- Rising lists of places, walked side by side.
-use Rattle.std.proofs.Common.{◌≡◌, ℕ, suc, zero, ◌+◌, ◌-◌, ◌<◌, ◌≤◌, ◌==◌, nat_lt, Any, ◌⊎◌, inl, inr, length, get_or, take, drop, map, filter, All, Some, None, Option, Bool, true, false, cond, not, ◌&&◌, ◌||◌, List, [], ◌∷◌, ◌++◌, refl, sym, ap, subst, ◌∙◌, arith, length-drop}
-use Rattle.std.specs.List.{list_any, list_all, filter_map, slice_get, cons_option, enumerate_from, AllByRecursion, AllWithin}
+use Rattle.std.proofs.Common.{◌≡◌, ℕ, suc, zero, ◌+◌, ◌<◌, ◌≤◌, ◌==◌, nat_lt, Any, inl, inr, length, get_or, take, drop, map, filter, All, Some, None, Bool, true, false, cond, not, ◌&&◌, ◌||◌, List, [], ◌∷◌, ◌++◌, refl, sym, ap, subst, ◌∙◌, arith, length-drop}
+use Rattle.std.specs.List.{list_any, list_all, filter_map, slice_get, cons_option, enumerate_from, AllByRecursion}
 use Rattle.std.specs.List.Sorted.{IsNonDecreasing, IsStrictlyIncreasing, IsStrictlySortedBy, IsPartitionPoint}
 use Rattle.std.specs.Option.{option_map_or}
 use Rattle.std.specs.declared.cmp.Ordering.TheVariants.{Less}
 use Rattle.std.specs.Ordering.{nat_cmp}
 use Rattle.std.specs.Cmp.{nat_cmp_is}
-use Rattle.std.specs.Str.{bytes_eq}
-use Rattle.std.proofs.lemmas.List.Elements.{All-head, All-tail, All-cons, filter_more}
-use Rattle.std.proofs.lemmas.List.Folds.{list_all-append}
+use Rattle.std.proofs.lemmas.List.Elements.{All-head, All-tail, filter_more}
+use Rattle.std.proofs.lemmas.List.Folds.{list_all-append, list_any_none}
 use Rattle.std.proofs.lemmas.List.{take_more, get_or-drop, get_or-take, get_or_default, length-take-le}
 use Rattle.std.proofs.lemmas.Bool.{cases_lt}
 use Rattle.ing_postings.specs.Index.{Index, IsIndexOf, Narrows}
@@ -17,7 +16,7 @@ use Rattle.ing_labels.specs.Labels.{LabelMap}
 use Rattle.ing_labels.specs.Selectors.{Match, match_holds, selects, agrees, asks_for_value}
 use Rattle.ing_labels.specs.LabelValues.{label_value}
 use Rattle.ing_postings.specs.declared.listed.Listed.{Listed}
-use Rattle.ing_postings.specs.Streams.{numbers_of, has_label, places_of, picks_at, is_in, selected}
+use Rattle.ing_postings.specs.Streams.{has_label, places_of, picks_at, is_in, selected}
 use Rattle.ing_postings.proofs.Places.{places_from}
 use Rattle.std.proofs.lemmas.Slice.Eq.{bytes_eq-Decides}
 use Rattle.ing_postings.proofs.Numbers.{below}
@@ -30,9 +29,7 @@ apart_above : (x y : ℕ) → y < x → (x == y) ≡ false
 apart_above x y h = grind (arith, h)
 
 none_in : (xs : List ℕ) (place : ℕ) → All (λ p. place < p) xs → is_in place xs ≡ false
-none_in [] place above = refl
-none_in (x ∷ xs) place above =
-    ap (λ b. b || is_in place xs) (apart_above x place (All-head (λ p. place < p) x xs above)) ∙ none_in xs place (All-tail (λ p. place < p) x xs above)
+none_in xs place above = list_any_none (λ p. p == place) xs (λ k d h. apart_above _ place (above k d h))
 
 -- in a rising list with nothing below a place it is the first
 pub first_in : (xs : List ℕ) (place : ℕ) → 0 < length xs → IsNonDecreasing xs → All (λ p. place ≤ p) xs → (get_or xs 0 0 == place) ≡ is_in place xs
@@ -198,22 +195,9 @@ listed_picks xs x (p ∷ places) some within =
       read_at (x ∷ xs) zero within = (x, refl)
       read_at (x ∷ xs) (suc p) within = read_at xs p (omega arith)
 
--- of places that rise and are within, those that are kept rise and are within
-pub within_filter : (n : ℕ) (f : ℕ → Bool) (places : List ℕ) → All (λ p. p < n) places → All (λ p. p < n) (filter f places)
-within_filter n f [] within = within
-within_filter n f (p ∷ places) within =
-    let rest = within_filter n f places (All-tail (λ p. p < n) p places within) in
-    elim (f p) as (λ b. All (λ p. p < n) (cond b (p ∷ filter f places) (filter f places))) [
-      | true ↦ All-cons (λ p. p < n) p (filter f places) (All-head (λ p. p < n) p places within) rest
-      | false ↦ rest
-    ]
-
 -- some matcher asks for a value
 pub none_asks : (ms : List Match) → list_any asks_for_value ms ≡ true → All (λ m. asks_for_value m ≡ false) ms → ⊥
-none_asks [] some none = cc
-none_asks (m ∷ ms) some none =
-    let here = All-head (λ m. asks_for_value m ≡ false) m ms none in
-    none_asks ms (sym (ap (λ b. b || list_any asks_for_value ms) here) ∙ some) (All-tail (λ m. asks_for_value m ≡ false) m ms none)
+none_asks ms some none = cc (list_any_none asks_for_value ms none, some)
 
 -- the list of such a matcher rises
 pub walk_rises : (index : Index) (ms : List Match) (xs : List Listed) (list : List ℕ) → IsIndexOf index xs → Any (Narrows index list) ms → IsStrictlyIncreasing list

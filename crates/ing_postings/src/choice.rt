@@ -14,7 +14,8 @@ use std::alloc::{AllocError, Global};
 
 /// The shorter of a list and the shortest before it, if there was one.
 fn shorter<'a>(before: Option<&'a [usize]>, list: &'a [usize]) -> &'a [usize]
-    ensures one { MatchOption before.entry (result.now ≡ list.now) (λ l. (result.now ≡ l.now) ⊎ (result.now ≡ list.now)) }
+    ensures one { MatchOption before.entry (result.now ≡ list.now) (λ l. (result.now ≡
+        l.now) ⊎ (result.now ≡ list.now)) }
     ensures not_longer { length result.now ≤ length list.now }
     ensures shortest { IfSome before.entry (λ l. length result.now ≤ length l.now) }
 {
@@ -51,7 +52,8 @@ pub(crate) fn kept_places(
     requires indexed { IsIndexOf index.now streams.now }
     requires within { All (λ place. place < length streams.now) places.now }
     requires rising { IsStrictlyIncreasing places.now }
-    ensures { IfOk result (λ kept. kept.items ≡ filter (λ p. list_all (λ m. picks_at streams.now m p) matchers.now) places.now) }
+    ensures { IfOk result (λ kept. kept.items ≡
+        filter (λ p. list_all (λ m. picks_at streams.now m p) matchers.now) places.now) }
 {
     let mut kept = places.to_vec(alloc)?;
     for matcher in matchers {
@@ -71,7 +73,8 @@ fn kept_by(
     requires indexed { IsIndexOf index.now streams.now }
     requires within { All (λ place. place < length streams.now) places.now }
     requires rising { IsStrictlyIncreasing places.now }
-    ensures { IfOk result (λ kept. kept.items ≡ filter (picks_at streams.now matcher.now) places.now) }
+    ensures { IfOk result (λ kept. kept.items ≡
+        filter (picks_at streams.now matcher.now) places.now) }
 {
     if matcher.value().is_empty() {
         return labelled(alloc, streams, places, matcher);
@@ -88,7 +91,8 @@ fn labelled(
     matcher: &Matcher,
 ) -> Result<Vec<usize>, AllocError>
     requires { All (λ place. place < length streams.now) places.now }
-    ensures { IfOk result (λ kept. kept.items ≡ filter (picks_at streams.now matcher.now) places.now) }
+    ensures { IfOk result (λ kept. kept.items ≡
+        filter (picks_at streams.now matcher.now) places.now) }
 {
     let mut kept = Vec::new(alloc);
     for place in places {
@@ -108,7 +112,8 @@ fn listed(
 ) -> Result<Vec<usize>, AllocError>
     requires places { IsNonDecreasing places.now }
     requires list { IsNonDecreasing list.now }
-    ensures { IfOk result (λ kept. kept.items ≡ filter (λ p. agrees op (is_in p list.now)) places.now) }
+    ensures { IfOk result (λ kept. kept.items ≡
+        filter (λ p. agrees op (is_in p list.now)) places.now) }
 {
     let mut kept = Vec::with_capacity(alloc, places.len())?;
     let mut rest = list;
@@ -176,7 +181,8 @@ pub(crate) fn numbers_at(
     places: &[usize],
 ) -> Result<Vec<StreamNo>, AllocError>
     requires { All (λ place. place < length streams.now) places.now }
-    ensures { IfOk result (λ found. found.items ≡ numbers_of (filter_map (slice_get streams.now) places.now)) }
+    ensures { IfOk result (λ found. found.items ≡
+        numbers_of (filter_map (slice_get streams.now) places.now)) }
 {
     let mut found = Vec::with_capacity(alloc, places.len())?;
     for place in places {

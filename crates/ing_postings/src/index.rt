@@ -39,7 +39,8 @@ fn list_of<'a>(lists: &'a Lists, value: &str) -> &'a [usize]
 /// Makes room for one more place in the list of a value.
 fn make_room_in(lists: &mut Lists, alloc: Global, value: &str) -> Result<(), AllocError>
     ensures same { (q : List ℕ) → list_of lists.new q ≡ list_of lists.old q }
-    ensures kept { (q : List ℕ) → IsTrue (has_room_in lists.old q) → IsTrue (has_room_in lists.new q) }
+    ensures kept { (q : List ℕ) → IsTrue (has_room_in lists.old q) →
+        IsTrue (has_room_in lists.new q) }
     ensures room { OnOk result (IsTrue (has_room_in lists.new value.now)) }
 {
     if let Some(list) = lists.get_mut(value) {
@@ -53,8 +54,10 @@ fn make_room_in(lists: &mut Lists, alloc: Global, value: &str) -> Result<(), All
 /// Adds a place to the list of a value.
 fn post_in(lists: &mut Lists, value: &str, place: usize)
     requires { IsTrue (has_room_in lists.old value.now) }
-    ensures posted { (q : List ℕ) → list_of lists.new q ≡ list_of lists.old q ++ (if bytes_eq value.now q then place ∷ [] else []) }
-    ensures kept { (q : List ℕ) → bytes_eq value.now q ≡ false → IsTrue (has_room_in lists.old q) → IsTrue (has_room_in lists.new q) }
+    ensures posted { (q : List ℕ) → list_of lists.new q ≡ list_of lists.old q ++
+        (if bytes_eq value.now q then place ∷ [] else []) }
+    ensures kept { (q : List ℕ) → bytes_eq value.now q ≡ false → IsTrue (has_room_in lists.old q) →
+        IsTrue (has_room_in lists.new q) }
 {
     if let Some(list) = lists.get_mut(value) {
         list.push_reserved(place);
@@ -64,7 +67,8 @@ fn post_in(lists: &mut Lists, value: &str, place: usize)
 /// Makes room for one more place in the list of a name and a value.
 fn make_room(index: &mut Index, alloc: Global, name: &str, value: &str) -> Result<(), AllocError>
     ensures same { (n v : List ℕ) → list_at index.new n v ≡ list_at index.old n v }
-    ensures kept { (n v : List ℕ) → IsTrue (has_room index.old n v) → IsTrue (has_room index.new n v) }
+    ensures kept { (n v : List ℕ) → IsTrue (has_room index.old n v) →
+        IsTrue (has_room index.new n v) }
     ensures room { OnOk result (IsTrue (has_room index.new name.now value.now)) }
 {
     if let Some(lists) = index.get_mut(name) {
@@ -79,8 +83,10 @@ fn make_room(index: &mut Index, alloc: Global, name: &str, value: &str) -> Resul
 /// Adds a place to the list of a name and a value.
 fn post_one(index: &mut Index, name: &str, value: &str, place: usize)
     requires { IsTrue (has_room index.old name.now value.now) }
-    ensures posted { (n v : List ℕ) → list_at index.new n v ≡ list_at index.old n v ++ (if is_pair n v (name.now, value.now) then place ∷ [] else []) }
-    ensures kept { (n v : List ℕ) → is_pair n v (name.now, value.now) ≡ false → IsTrue (has_room index.old n v) → IsTrue (has_room index.new n v) }
+    ensures posted { (n v : List ℕ) → list_at index.new n v ≡ list_at index.old n v ++
+        (if is_pair n v (name.now, value.now) then place ∷ [] else []) }
+    ensures kept { (n v : List ℕ) → is_pair n v (name.now, value.now) ≡ false →
+        IsTrue (has_room index.old n v) → IsTrue (has_room index.new n v) }
 {
     if let Some(lists) = index.get_mut(name) {
         post_in(lists, value, place);
@@ -108,7 +114,8 @@ pub(crate) fn make_rooms(
 /// Adds a place to the list of each label.
 pub(crate) fn post(index: &mut Index, labels: &Labels, place: usize)
     requires { HasRooms index.old (entries labels.now) }
-    ensures { (n v : List ℕ) → list_at index.new n v ≡ list_at index.old n v ++ (if has_label n v labels.now then place ∷ [] else []) }
+    ensures { (n v : List ℕ) → list_at index.new n v ≡ list_at index.old n v ++
+        (if has_label n v labels.now then place ∷ [] else []) }
 {
     for (name, value) in labels.pairs() {
         post_one(index, name, value, place);

@@ -63,9 +63,11 @@ impl Postings {
     /// The number of the last stream, or `None` where no stream is listed: what is above it may be added.
     /// Takes no memory.
     pub fn last(&self) -> Option<StreamNo>
-        ensures value { result ≡ option_map (λ s. s.number) (slice_get self.now (length self.now - 1)) }
+        ensures value { result ≡
+            option_map (λ s. s.number) (slice_get self.now (length self.now - 1)) }
         ensures empty { IfNone result (self.now ≡ []) }
-        ensures above { IfSome result (λ last. (number : ℕ) → last < number → All (λ s. s.number < number) self.now) }
+        ensures above { IfSome result (λ last. (number : ℕ) → last < number →
+            All (λ s. s.number < number) self.now) }
     {
         self.streams.last().map(|stream| stream.number)
     }
@@ -77,7 +79,8 @@ impl Postings {
     /// not grow with the streams but for these look-ups (own).
     pub fn add(&mut self, labels: &Labels, number: StreamNo) -> Result<(), AllocError>
         requires { All (λ s. s.number < number) self.old }
-        ensures ok { OnOk result (self.new ≡ self.old ++ record { number = number; labels = labels.now } ∷ []) }
+        ensures ok { OnOk result (self.new ≡ self.old ++
+            record { number = number; labels = labels.now } ∷ []) }
         ensures err { OnErr result (self.new ≡ self.old) }
     {
         // All that takes memory comes first.
@@ -102,7 +105,8 @@ impl Postings {
         name: &str,
         value: &str,
     ) -> Result<Vec<StreamNo>, AllocError>
-        ensures posted { IfOk result (λ found. found.items ≡ posted name.now value.now (postings_of self.now)) }
+        ensures posted { IfOk result (λ found. found.items ≡
+            posted name.now value.now (postings_of self.now)) }
         ensures rising { IfOk result (λ found. IsStrictlyIncreasing found.items) }
     {
         numbers_at(alloc, &self.streams, list_at(&self.index, name, value))
@@ -116,7 +120,8 @@ impl Postings {
     /// the shortest list times the matchers, and at most logarithmic in the others. Labels are looked at for
     /// matchers with an empty value alone. (Loki documentation: log stream selector; the walk is own.)
     pub fn select(&self, alloc: Global, selector: &Selector) -> Result<Vec<StreamNo>, AllocError>
-        ensures found { IfOk result (λ found. found.items ≡ numbers_of (selected selector.now self.now)) }
+        ensures found { IfOk result (λ found. found.items ≡
+            numbers_of (selected selector.now self.now)) }
         ensures rising { IfOk result (λ found. IsStrictlyIncreasing found.items) }
     {
         let matchers = selector.matchers();

@@ -1,7 +1,7 @@
-use Rattle.std.proofs.Common.{◌≡◌, ◌-◌, length, take, drop, nat_lt, rules, sym, arith}
-use Rattle.std.proofs.lemmas.Slice.{between_to_end, between_from_start}
+use Rattle.std.proofs.Common.{length, take, nat_lt, rules, arith}
+use Rattle.std.proofs.lemmas.Slice.{between_to_end}
 use Rattle.std.proofs.lemmas.List.Sorted.{IsPartitionPoint-from_clause, IsPartitionedBy-ltb, IsNonDecreasingBy-take}
-use Rattle.ing_postings.proofs.Walked.{FrontLeft, front_left}
+use Rattle.ing_postings.proofs.Walked.{front_left}
 use Rattle.ing_postings.proofs.choice.from_place.Goals as goal
 
 pub returns-clause-above : goal.returns-clause-above

@@ -1,7 +1,7 @@
 use Rattle.std.proofs.Common.{◌≡◌, ◌==◌, not, true, length, filter, sym, ap, subst, ◌∙◌}
 use Rattle.std.specs.List.Sorted.{IsStrictlyIncreasing}
 use Rattle.ing_labels.specs.Selectors.{agrees}
-use Rattle.ing_postings.specs.Streams.{is_in, picks_at, places_of}
+use Rattle.ing_postings.specs.Streams.{is_in, places_of}
 use Rattle.ing_postings.specs.Index.{list_at}
 use Rattle.ing_postings.proofs.Narrowed.{ok_then}
 use Rattle.ing_postings.proofs.Walked.{non_decreasing, places_rise, listed_picks}

@@ -1,10 +1,11 @@
-use Rattle.std.proofs.Common.{◌≡◌, ◌<◌, length, filter, take, All, rules, refl, sym, ap, subst, ◌∙◌}
+use Rattle.std.proofs.Common.{◌<◌, length, filter, take, All, rules, sym, ap, subst, ◌∙◌}
 use Rattle.std.specs.List.{list_all}
 use Rattle.std.specs.List.Sorted.{IsStrictlyIncreasing}
 use Rattle.std.proofs.lemmas.List.{take_all}
 use Rattle.std.proofs.lemmas.List.Kept.{IsStrictlyIncreasing-filter}
 use Rattle.ing_postings.specs.Streams.{picks_at}
-use Rattle.ing_postings.proofs.Walked.{matched_more, no_matcher, within_filter}
+use Rattle.std.proofs.lemmas.List.Elements.{All-filter}
+use Rattle.ing_postings.proofs.Walked.{matched_more, no_matcher}
 use Rattle.ing_postings.proofs.choice.kept_places.Goals as goal
 
 pub loop-matcher-init : goal.loop-matcher-init
@@ -12,7 +13,7 @@ loop-matcher-init c = c.in_ok-kept.ensures.items_if_clones_equal (λ x y h. sear
 
 pub kept_by-requires-clause-within : goal.kept_by-requires-clause-within
 kept_by-requires-clause-within c =
-    subst (All (λ p. p < length c.args.streams.now)) (sym (c.deref.ensures.value ∙ c.loop-matcher.invariant)) (within_filter _ (λ p. list_all (λ m. picks_at c.args.streams.now m p) (take c.loop-matcher.matcher-index c.args.matchers.now)) c.args.places.now c.requires.within)
+    subst (All (λ p. p < length c.args.streams.now)) (sym (c.deref.ensures.value ∙ c.loop-matcher.invariant)) (All-filter (λ p. list_all (λ m. picks_at c.args.streams.now m p) (take c.loop-matcher.matcher-index c.args.matchers.now)) (λ p. p < length c.args.streams.now) c.args.places.now c.requires.within)
 
 pub kept_by-requires-clause-rising : goal.kept_by-requires-clause-rising
 kept_by-requires-clause-rising c =

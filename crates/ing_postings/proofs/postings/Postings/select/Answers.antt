@@ -1,11 +1,12 @@
-use Rattle.std.proofs.Common.{◌≡◌, ◌<◌, IfOk, All, length, filter, sym, ap, subst, ◌∙◌}
+use Rattle.std.proofs.Common.{◌<◌, All, length, filter, sym, ap, subst, ◌∙◌}
 use Rattle.std.specs.List.{slice_get, filter_map, list_all}
 use Rattle.std.specs.List.Sorted.{IsStrictlyIncreasing}
 use Rattle.ing_labels.specs.Selectors.{IsSelector, selects}
 use Rattle.ing_postings.specs.Streams.{numbers_of, selected, picks_at}
 use Rattle.ing_postings.proofs.Numbers.{rising-filter}
 use Rattle.ing_postings.proofs.Narrowed.{walk_finds, walk_within, one_picks, ok_then}
-use Rattle.ing_postings.proofs.Walked.{walk_rises, read_kept, within_filter, none_asks}
+use Rattle.std.proofs.lemmas.List.Elements.{All-filter}
+use Rattle.ing_postings.proofs.Walked.{walk_rises, read_kept, none_asks}
 use Rattle.ing_postings.proofs.postings.Postings.select.Goals as goal
 
 pub unreachable-requires : goal.unreachable-requires
@@ -47,7 +48,7 @@ numbers_at-requires-2 c =
     let ms = c.matchers-matchers.result.now in
     let places = c.in-Some.places.now in
     let within = walk_within c.self.inside.index ms c.self.inside.streams.items places c.self.invariant.index c.in-Some.ensures.named in
-    subst (λ ys. All (λ p. p < length ys) c.deref-4.result.now) (sym c.deref-3.ensures.value) (subst (All (λ p. p < length c.self.inside.streams.items)) (sym (c.deref-4.ensures.value ∙ c.in_ok-kept.ensures)) (within_filter _ (λ p. list_all (λ m. picks_at c.deref-2.result.now m p) ms) places within))
+    subst (λ ys. All (λ p. p < length ys) c.deref-4.result.now) (sym c.deref-3.ensures.value) (subst (All (λ p. p < length c.self.inside.streams.items)) (sym (c.deref-4.ensures.value ∙ c.in_ok-kept.ensures)) (All-filter (λ p. list_all (λ m. picks_at c.deref-2.result.now m p) ms) (λ p. p < length c.self.inside.streams.items) places within))
 
 pub returns-clause-found : goal.returns-clause-found
 returns-clause-found c =
