@@ -134,7 +134,8 @@ fn input_in_pieces_and_a_failed_read(rt: HostRuntime) -> Result<(), Fail> {
 /// Gives a line at each read, and counts the bytes that were flushed to the other side before it.
 #[derive(Drop)]
 struct Asking<'a> {
-    lines: &'a [&'a str],
+    lines: [&'static str; 2],
+    read: usize,
     flushed: &'a Cell<usize>,
     seen: &'a Cell<usize>,
 }
@@ -142,12 +143,12 @@ struct Asking<'a> {
 impl Read for Asking<'_> {
     fn read(&mut self, buf: &mut [u8]) -> io::Result<usize> {
         self.seen.set(self.flushed.get());
-        let Some((line, others)) = self.lines.split_first() else {
+        let Some(line) = self.lines.get(self.read) else {
             return Ok(0);
         };
         let count = line.len().min(buf.len());
         buf[..count].copy_from_slice(&line.as_bytes()[..count]);
-        self.lines = others;
+        self.read = self.read.saturating_add(1);
         Ok(count)
     }
 }
@@ -178,7 +179,8 @@ fn replies_are_flushed_before_the_next_read(rt: HostRuntime) -> Result<(), Fail>
     let flushed = Cell::new(0usize);
     let seen = Cell::new(0usize);
     let mut reader = Asking {
-        lines: &["x\nx\n", "x\n"],
+        lines: ["x\nx\n", "x\n"],
+        read: 0,
         flushed: &flushed,
         seen: &seen,
     };
