@@ -49,7 +49,9 @@ fn capped(nanoseconds: u64) -> Option<u64>
 
 /// The part at the front in nanoseconds, and what follows it. `None` also where the part has 2^64 nanoseconds or more.
 fn part_at(text: &[u8]) -> Option<(u64, &[u8])>
-    ensures { MatchOption result (IfSome (durations.part_at text.now) (λ part. 2 ^ 64 ≤ part.0)) (λ part. durations.part_at text.now ≡ Some (part.0, part.1.now)) }
+    ensures { let part_at = durations.part_at text.now in
+        MatchOption result (IfSome part_at (λ part. 2 ^ 64 ≤ part.0))
+        (λ part. part_at ≡ Some (part.0, part.1.now)) }
 {
     let count = digit_count(text);
     if count == 0 || count > MAX_DIGITS {

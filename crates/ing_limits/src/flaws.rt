@@ -33,7 +33,8 @@ fn has_flaw(flaw: Flaw, level: Level, key: &str, value: &Value) -> bool
 
 /// The one of the two names that comes first in byte order.
 fn lesser(least: Option<String>, name: String) -> Option<String>
-    ensures { option_map string_bytes result ≡ settings.lesser (option_map string_bytes least) (string_bytes name) }
+    ensures { option_map string_bytes result
+        ≡ settings.lesser (option_map string_bytes least) (string_bytes name) }
 {
     match least {
         None => Some(name),
@@ -65,7 +66,10 @@ fn least_of_table(
     prefix: &str,
     table: &Table,
 ) -> Result<Option<String>, AllocError>
-    ensures { IfOk result (λ name. option_map string_bytes name ≡ settings.least_with (option_map string_bytes least) (settings.flawed_names flaw level prefix.now (settings.entries_of (table_view table.now)))) }
+    ensures { let entries = settings.entries_of (table_view table.now) in
+        let names = settings.flawed_names flaw level prefix.now entries in
+        IfOk result (λ name. option_map string_bytes name
+        ≡ settings.least_with (option_map string_bytes least) names) }
 {
     let mut found = least;
     for (key, value) in table {
@@ -92,7 +96,9 @@ fn least_of_tenants(
     flaw: Flaw,
     tenants: &Table,
 ) -> Result<Option<String>, AllocError>
-    ensures { IfOk result (λ name. option_map string_bytes name ≡ settings.least_with (option_map string_bytes least) (settings.tenants_flawed flaw (settings.entries_of (table_view tenants.now)))) }
+    ensures { let entries = settings.entries_of (table_view tenants.now) in
+        IfOk result (λ name. option_map string_bytes name
+        ≡ settings.least_with (option_map string_bytes least) (settings.tenants_flawed flaw entries)) }
 {
     let mut found = least;
     for (tenant, value) in tenants {
@@ -106,7 +112,8 @@ fn least_of_tenants(
 
 /// The table `tenants`.
 pub(crate) fn tenants_in(table: &Table) -> Option<&Table>
-    ensures { MatchOption result (settings.members_at (codes "tenants") (table_view table.now) ≡ no_members) (λ tenants. settings.members_at (codes "tenants") (table_view table.now) ≡ table_view tenants.now) }
+    ensures { let members = settings.members_at (codes "tenants") (table_view table.now) in
+        MatchOption result (members ≡ no_members) (λ tenants. members ≡ table_view tenants.now) }
 {
     match table.get("tenants") {
         Some(value) => value.as_table(),
@@ -120,7 +127,8 @@ pub(crate) fn first_flawed(
     flaw: Flaw,
     table: &Table,
 ) -> Result<Option<String>, AllocError>
-    ensures { IfOk result (λ name. option_map string_bytes name ≡ settings.least_of (settings.all_flawed flaw (table_view table.now))) }
+    ensures { IfOk result (λ name. option_map string_bytes name
+        ≡ settings.least_of (settings.all_flawed flaw (table_view table.now))) }
 {
     let found = least_of_table(alloc, None, flaw, Level::Top, "", table)?;
     let Some(tenants) = tenants_in(table) else {

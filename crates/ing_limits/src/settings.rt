@@ -111,7 +111,8 @@ fn tenants_of(
     common: &Rules,
     tenants: &Table,
 ) -> Result<BTreeMap<String, Rules>, AllocError>
-    ensures { IfOk result (λ held. IsTenantRules (settings.rules_by_tenant common.now (settings.entries_of (table_view tenants.now))) held) }
+    ensures { let entries = settings.entries_of (table_view tenants.now) in
+        IfOk result (IsTenantRules (settings.rules_by_tenant common.now entries)) }
 {
     let mut held = BTreeMap::new(alloc);
     for (name, value) in tenants {
@@ -150,7 +151,8 @@ fn all_tenants(
     common: &Rules,
     table: &Table,
 ) -> Result<BTreeMap<String, Rules>, AllocError>
-    ensures { IfOk result (λ held. IsTenantRules (settings.rules_by_tenant common.now (settings.entries_of (settings.members_at (codes "tenants") (table_view table.now)))) held) }
+    ensures { let tenants = settings.members_at (codes "tenants") (table_view table.now) in
+        IfOk result (IsTenantRules (settings.rules_by_tenant common.now (settings.entries_of tenants))) }
 {
     match tenants_in(table) {
         Some(tenants) => tenants_of(alloc, common, tenants),
@@ -174,7 +176,8 @@ impl Settings {
     /// and the order of the tests are own.)
     pub fn from_toml(alloc: Global, text: &str) -> Result<Settings, SettingsFault>
         ensures settings { IfOk result (λ s. settings_of text.now ≡ Ok s) }
-        ensures refused { IfErr result (λ fault. IfSome (refusal_of fault) (λ refusal. settings_of text.now ≡ Err refusal)) }
+        ensures refused { IfErr result (λ fault. IfSome (refusal_of fault) (λ refusal.
+            settings_of text.now ≡ Err refusal)) }
     {
         let table = match toml::table_from_str(alloc, text) {
             Ok(table) => table,

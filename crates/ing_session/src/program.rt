@@ -83,7 +83,8 @@ pub fn start_on<R: Read, W: Write>(
     ensures output { OnOk result (IfSome (R.remaining reader.old) (λ input.
         (settings : StoreSettings) × (started_by file.now ≡ Ok settings)
         × Appends (W.contents writer.old) (W.contents writer.new) (output_of settings input))) }
-    ensures refused { IfErr result (λ e. IfSome (refusal_of e) (λ refusal. started_by file.now ≡ Err refusal)) }
+    ensures refused { IfErr result (λ e. IfSome (refusal_of e) (λ refusal.
+        started_by file.now ≡ Err refusal)) }
     ensures input_fault { IsErrOf result Ending.InputFault → IfSome (R.remaining reader.old) (λ input.
         (settings : StoreSettings) × (started_by file.now ≡ Ok settings)
         × AnswersWhatWasRead settings input (R.remaining reader.new)
@@ -104,7 +105,8 @@ pub fn start_on<R: Read, W: Write>(
 /// The settings that the bytes of a file give, with one shard.
 fn settings_of_file(alloc: Global, file: &[u8]) -> Result<Settings, Ending>
     ensures settings { IfOk result (λ settings. started_by file.now ≡ Ok settings) }
-    ensures refused { IfErr result (λ e. IfSome (refusal_of e) (λ refusal. started_by file.now ≡ Err refusal)) }
+    ensures refused { IfErr result (λ e. IfSome (refusal_of e) (λ refusal.
+        started_by file.now ≡ Err refusal)) }
     ensures memory { IfErr result (λ e. refusal_of e ≡ None → e ≡ Ending.NoMemory) }
 {
     let Ok(text) = str::from_utf8(file) else {

@@ -84,7 +84,8 @@ fn serve<R: Read, W: Write>(
     session: &mut Session,
     replies: &mut Vec<u8>,
 ) -> Result<bool, Ending>
-    ensures served { IfOk result (λ more. (first : Option (List ℕ)) (settings : StoreSettings) (input : List ℕ) →
+    ensures served { IfOk result (λ more.
+        (first : Option (List ℕ)) (settings : StoreSettings) (input : List ℕ) →
         ServesKnown settings session.old.shard input first
         (with_replies (W.contents writer.old) replies.old.items) (is_ended lines.old)
         (left lines.old (R.remaining reader.old)) →
@@ -147,7 +148,8 @@ fn next_line<R: Read, W: Write>(
         × (read : List ℕ) × HasNoFeed read
         × Consumes (left lines.old (R.remaining reader.old)) (R.remaining reader.new) read }
     ensures short { OnOk result (vec_len line.new ≤ MAX_LINE) }
-    ensures progress { IfOk result (λ next. next ≢ NextLine.End → progress lines.old < progress lines.new) }
+    ensures progress { IfOk result (λ next. next ≢ NextLine.End →
+        progress lines.old < progress lines.new) }
     ensures ending { IfErr result (λ e. IsTrue (is_of_run e)) }
 {
     if lines.is_ended() {
@@ -165,7 +167,8 @@ fn next_line<R: Read, W: Write>(
 
 /// Writes the replies that are held back, and flushes them. After an error some of them may be written.
 fn write_out<W: Write>(writer: &mut W, replies: &mut Vec<u8>) -> Result<(), Ending>
-    ensures written { OnOk result (Appends (W.contents writer.old) (W.contents writer.new) replies.old.items) }
+    ensures written { OnOk result
+        (Appends (W.contents writer.old) (W.contents writer.new) replies.old.items) }
     ensures none { OnOk result (replies.new.items ≡ []) }
     ensures ending { IfErr result (λ e. e ≡ Ending.OutputFault) }
 {
