@@ -87,4 +87,4 @@ pub good_end : (text rest : List ℕ) (at : ℕ) (ps : List Pair) (r : Reading) 
 good_end text rest at ps r none done h =
     let whole : h.front ≡ text = sym (append-nil h.front) ∙ ap (λ x. h.front ++ x) (sym (no_length rest none)) ∙ h.spells in
     let found = labels_of_text h.front ps (h.read ∙ ap Some (is_closed r ps done)) in
-    record { in_order = found.0; labels = found.1; spelt = sym whole ∙ found.2 }
+    record { labels = record { in_order = found.0; labels = found.1 }; spelt = sym whole ∙ found.2 }

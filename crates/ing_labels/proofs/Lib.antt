@@ -1,3 +1,4 @@
+pub mod PiecesLaws
 pub mod Places
 pub mod Spelling
 pub mod Joined
@@ -8,9 +9,10 @@ pub mod Spelt
 pub mod Complete
 pub mod Chars
 pub mod Ends
-pub mod Mapped
 pub mod Looked
 pub mod Rising
+pub mod Tested
+pub mod HeldLaws
 pub mod CanonicalSpelt
 pub mod CanonicalWhole
 pub mod CanonicalChars

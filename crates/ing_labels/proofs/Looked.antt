@@ -1,24 +1,12 @@
--- The value of a label, as the entries by name give it.
-use Rattle.std.proofs.Common.{◌≡◌, ℕ, cond, List, [], ◌∷◌, Some, refl, subst, ◌∙◌, true, false}
-use Rattle.std.specs.Option.{option_map}
-use Rattle.std.specs.Ordering.{nat_cmp, is_eq}
-use Rattle.std.specs.Cmp.Lexicographic.{slice_cmp}
-use Rattle.std.specs.Map.{lookup}
-use Rattle.std.specs.String.{string_bytes}
-use Rattle.std.specs.declared.string.String.{String}
-use Rattle.std.specs.FinMap.{get, find, from_sorted, entries, entries_sorted, get-from_sorted}
-use Rattle.ing_labels.specs.Labels.{name_order, LabelMap}
-use Rattle.ing_labels.specs.Texts.{entry_texts}
+-- The value of a label among pairs.
+use Rattle.std.proofs.Common.{◌≡◌, Bool, cond, List, ℕ, ◌∷◌, Some, sym, ap, ◌∙◌}
+use Rattle.std.specs.Str.{bytes_eq}
+use Rattle.std.specs.FinMap.{find}
+use Rattle.std.proofs.lemmas.Cmp.{nat_list_eq_equiv}
+use Rattle.std.proofs.lemmas.Map.Text.{is_eq-slice_cmp}
+use Rattle.ing_labels.specs.Labels.{name_order, Pair}
 
-find_text : {Z : Type 0} (es : List (String Z × String Z)) (q : List ℕ) → find name_order q (entry_texts es) ≡ option_map string_bytes (lookup (λ k. is_eq (slice_cmp nat_cmp q (string_bytes k))) es)
-find_text [] q = refl
-find_text (e ∷ es) q =
-    elim (is_eq (slice_cmp nat_cmp q (string_bytes e.0))) as (λ b. cond b (Some (string_bytes e.1)) (find name_order q (entry_texts es)) ≡ option_map string_bytes (cond b (Some e.1) (lookup (λ k. is_eq (slice_cmp nat_cmp q (string_bytes k))) es))) [
-      | true ↦ refl
-      | false ↦ find_text es q
-    ]
-
-pub looked_up : {Z : Type 0} (es : List (String Z × String Z)) (q : List ℕ) → entries (from_sorted {R = name_order} (entry_texts es)) ≡ entry_texts es → get (from_sorted {R = name_order} (entry_texts es)) q ≡ option_map string_bytes (lookup (λ k. is_eq (slice_cmp nat_cmp q (string_bytes k))) es)
-looked_up es q in_order =
-    let m : LabelMap = from_sorted {R = name_order} (entry_texts es) in
-    subst (λ ps. get (from_sorted {R = name_order} ps) q ≡ find name_order q ps) in_order (get-from_sorted name_order (entries m) q (entries_sorted m)) ∙ find_text es q
+-- the first pair has the name, or another
+pub find_here : (name label value : List ℕ) (rest : List Pair) (same : Bool) → bytes_eq label name ≡ same → find name_order name ((label, value) ∷ rest) ≡ cond same (Some value) (find name_order name rest)
+find_here name label value rest same e =
+    ap (λ b. cond b (Some value) (find name_order name rest)) (is_eq-slice_cmp name label ∙ nat_list_eq_equiv.symm name label ∙ e)

@@ -150,3 +150,10 @@ label_set pairs good some =
       values = values-from_entries (λ v. not (length v == 0)) (with_values pairs) (all_kept has_value pairs);
       some = from_entries-some (with_values pairs) some;
     }
+
+-- where all pairs have a value, all are kept
+pub kept_all : (ps : List Pair) → list_all has_value ps ≡ true → with_values ps ≡ ps
+kept_all [] all = refl
+kept_all (p ∷ ps) all =
+    let parts = both_true _ _ all in
+    ap (λ b. cond b (p ∷ with_values ps) (with_values ps)) parts.0 ∙ ap (λ rest. p ∷ rest) (kept_all ps parts.1)

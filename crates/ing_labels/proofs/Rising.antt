@@ -1,10 +1,11 @@
 -- Pairs whose names rise.
-use Rattle.std.proofs.Common.{◌≡◌, ℕ, suc, zero, ◌+◌, ◌-◌, length, Bool, true, false, ◌&&◌, List, [], ◌∷◌, ◌++◌, Some, refl, sym, ap, subst, ◌∙◌, arith}
+use Rattle.std.proofs.Common.{◌≡◌, ℕ, suc, zero, ◌+◌, ◌-◌, ◌<◌, ◌≤◌, length, get_or, drop, Bool, true, false, not, ◌&&◌, List, [], ◌∷◌, ◌++◌, Some, refl, sym, ap, subst, ◌∙◌, arith}
 use Rattle.std.specs.declared.cmp.Ordering.{Ordering}
 use Rattle.std.specs.declared.cmp.Ordering.TheVariants.{Less, Equal, Greater}
-use Rattle.std.specs.Ordering.{is_lt, ordering_reverse}
+use Rattle.std.specs.Ordering.{is_lt, is_ge, ordering_reverse}
 use lib.Dec.{T}
 use Rattle.std.specs.List.{slice_get}
+use Rattle.std.proofs.Math.Seq.{drop-cons}
 use Rattle.std.specs.String.{string_bytes}
 use Rattle.std.specs.declared.string.String.{String}
 use Rattle.std.specs.FinMap.{put, entries, entries_sorted}
@@ -49,7 +50,7 @@ above_from : (x : List ℕ) (es : List Pair) → T (below_all name_order x es) �
 above_from x [] h = tt
 above_from x (e ∷ es) h = (is_less _ (first _ _ h), above_from x es (second _ _ h))
 
-rising_from : (es : List Pair) → T (is_sorted name_order es) → Rising es
+pub rising_from : (es : List Pair) → T (is_sorted name_order es) → Rising es
 rising_from [] h = tt
 rising_from (e ∷ es) h = (above_from e.0 es (first _ _ h), rising_from es (second _ _ h))
 
@@ -102,3 +103,47 @@ text_at (x ∷ y ∷ es) (suc i) k v n e = text_at (y ∷ es) i k v (omega arith
 pub last_text : {Z : Type 0} (es : List (String Z × String Z)) (k v : String Z) → slice_get es (length es - 1) ≡ Some (k, v) → string_bytes k ≡ last_name (entry_texts es)
 last_text [] k v e = absurd (cc)
 last_text (x ∷ es) k v e = text_at (x ∷ es) (length (x ∷ es) - 1) k v (omega arith) e
+
+-- a name above the first of some that rise
+above_all : (x y : List ℕ) (es : List Pair) → name_order x y ≡ Less → Above y es → Above x es
+above_all x y [] h above = tt
+above_all x y (e ∷ es) h above = (nat_list_cmp_total.trans x y e.0 h above.0, above_all x y es h above.1)
+
+to_true : (b : Bool) → T b → b ≡ true
+to_true true h = refl
+to_true false h = absurd h
+
+sorted_both : (r : Ordering) (above rest : Bool) → (r ≡ Less → rest ≡ true → above ≡ true) → ((is_lt r && above) && rest) ≡ (is_lt r && rest)
+sorted_both Less true rest follows = refl
+sorted_both Less false true follows = follows refl refl
+sorted_both Less false false follows = refl
+sorted_both Equal above rest follows = refl
+sorted_both Greater above rest follows = refl
+
+-- whether names rise, by the first two
+sorted_two : (p q : Pair) (ps : List Pair) → is_sorted name_order (p ∷ q ∷ ps) ≡ (is_lt (name_order p.0 q.0) && is_sorted name_order (q ∷ ps))
+sorted_two p q ps = sorted_both (name_order p.0 q.0) (below_all name_order p.0 ps) (is_sorted name_order (q ∷ ps)) (λ h e.
+    let rising = rising_from (q ∷ ps) (subst T (sym e) tt) in
+    to_true _ (above_to p.0 ps (above_all p.0 q.0 ps h rising.0)))
+
+-- and by those at an index and before it
+pub sorted_at : (ps : List Pair) (at : ℕ) (d : Pair) → 1 ≤ at → at < length ps → is_sorted name_order (drop (at - 1) ps) ≡ (is_lt (name_order (get_or ps (at - 1) d).0 (get_or ps at d).0) && is_sorted name_order (drop (at + 1 - 1) ps))
+sorted_at ps zero d some within = absurd (omega arith)
+sorted_at ps (suc k) d some within =
+    let here : suc k - 1 ≡ k = omega arith in
+    let next : suc k + 1 - 1 ≡ suc k = omega arith in
+    rw (here, next) (
+    ap (is_sorted name_order) (drop-cons ps k d (omega arith) ∙ ap (λ rest. get_or ps k d ∷ rest) (drop-cons ps (suc k) d within))
+    ∙ sorted_two (get_or ps k d) (get_or ps (suc k) d) (drop (suc (suc k)) ps)
+    ∙ ap (λ rest. is_lt (name_order (get_or ps k d).0 (get_or ps (suc k) d).0) && is_sorted name_order rest) (sym (drop-cons ps (suc k) d within)))
+
+-- one name alone rises
+pub sorted_end : (ps : List Pair) → length ps < 2 → is_sorted name_order ps ≡ true
+sorted_end [] few = refl
+sorted_end (p ∷ []) few = refl
+sorted_end (p ∷ q ∷ ps) few = absurd (omega arith)
+
+pub lt_or_ge : (r : Ordering) → is_lt r ≡ not (is_ge r)
+lt_or_ge Less = refl
+lt_or_ge Equal = refl
+lt_or_ge Greater = refl

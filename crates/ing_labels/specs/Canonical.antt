@@ -25,9 +25,13 @@ written_value = flat_map written_byte
 abbrev pub written_pair : Pair → List ℕ
 written_pair p = p.0 ++ codes "=\"" ++ written_value p.1 ++ codes "\""
 
--- the canonical name: the pairs in byte order of their names, apart by a comma and a space, in braces
+-- pairs as they are written: apart by a comma and a space, in braces
+abbrev pub written_pairs : List Pair → List ℕ
+written_pairs ps = codes "{" ++ join_by written_pair (codes ", ") ps ++ codes "}"
+
+-- the canonical name: the pairs in byte order of their names, as they are written
 abbrev pub canonical_of : LabelMap → List ℕ
-canonical_of m = codes "{" ++ join_by written_pair (codes ", ") (entries m) ++ codes "}"
+canonical_of m = written_pairs (entries m)
 
 -- two label maps have equal canonical names exactly where they are equal
 abbrev pub CanonicalNamesAreExact : Type 0

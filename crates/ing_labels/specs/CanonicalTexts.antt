@@ -1,7 +1,7 @@
 -- Canonical names as texts that are read back.
 use Rattle.std.specs.Prelude.{◌≡◌, ◌≤◌, ◌<◌, ◌+◌, ℕ, List, ◌++◌, length, take}
-use Rattle.std.specs.FinMap.{entries, from_sorted}
-use Rattle.ing_labels.specs.Labels.{LabelMap, Pair, name_order, IsLabelSet}
+use Rattle.std.specs.FinMap.{from_sorted}
+use Rattle.ing_labels.specs.Labels.{LabelMap, Pair, IsLabelSet, AreLabels}
 use Rattle.ing_labels.specs.Canonical.{canonical_of}
 use Rattle.ing_labels.specs.declared.text_fault.TextFault.{TextFault}
 use Rattle.ing_labels.specs.declared.text_fault.TextFault.TheVariants.{NoMemory, NotCanonical, BadSelector, TooWide}
@@ -27,6 +27,5 @@ IsCanonicalFault text TooWide = ⊥
 
 -- these pairs, in the order of their names, are labels whose canonical name is the text
 pub record IsRead (text : List ℕ) (ps : List Pair) : Type 0 where
-  pub in_order : entries (from_sorted {R = name_order} ps) ≡ ps
-  pub labels : IsLabelSet (from_sorted ps)
+  pub labels : AreLabels ps
   pub spelt : text ≡ canonical_of (from_sorted ps)

@@ -1,15 +1,20 @@
 -- How a `Labels` holds its map.
-use Rattle.std.specs.Prelude.{◌≡◌}
+use Rattle.std.specs.Prelude.{◌≡◌, ℕ, List, ◌∷◌, drop}
 use Rattle.std.specs.FinMap.{entries, from_sorted}
 use Rattle.ing_labels.specs.Labels.{LabelMap, IsLabelSet}
-use Rattle.ing_labels.specs.Texts.{entry_texts}
+use Rattle.ing_labels.specs.Canonical.{canonical_of}
+use Rattle.ing_labels.specs.Pieces.{named_texts, pairs_of}
 use Rattle.ing_labels.specs.declared.label_set.Labels.TheInside.{Inside}
 
--- the map that the values by name spell
-abbrev pub held_map : Inside → LabelMap
-held_map a = from_sorted (entry_texts a.values.entries)
+-- the texts that are held for a map: its canonical name, and each name and its value
+abbrev pub pieces_of : LabelMap → List (List ℕ)
+pieces_of m = canonical_of m ∷ named_texts (entries m)
 
--- the entries lie in byte order of the names, and are the labels of a stream
+-- the map that the texts after the first spell
+abbrev pub held_map : Inside → LabelMap
+held_map a = from_sorted (pairs_of (drop 1 a.pieces))
+
+-- these are the texts of a map, which is the labels of a stream
 pub record IsHeld (a : Inside) : Type 0 where
-  pub in_order : entries (held_map a) ≡ entry_texts a.values.entries
+  pub pieces : a.pieces ≡ pieces_of (held_map a)
   pub labels : IsLabelSet (held_map a)

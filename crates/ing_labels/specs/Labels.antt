@@ -5,7 +5,7 @@ use Rattle.std.specs.List.{list_any, list_all, enumerate_from, Contains}
 use Rattle.std.specs.declared.cmp.Ordering.{Ordering}
 use Rattle.std.specs.Ordering.{nat_cmp}
 use Rattle.std.specs.Cmp.Lexicographic.{slice_cmp}
-use Rattle.std.specs.FinMap.{FinMap, entries, from_entries, get, len}
+use Rattle.std.specs.FinMap.{FinMap, entries, from_entries, from_sorted, get, len}
 use Rattle.std.specs.Borrow.{Bor}
 use Rattle.std.specs.Str.{bytes_eq}
 use Rattle.ing_labels.specs.Names.{is_label_name}
@@ -72,17 +72,26 @@ abbrev pub or_else_fault : Option ℕ → (ℕ → LabelFault) → Result LabelM
 or_else_fault (Some at) fault later = Err (fault at)
 or_else_fault None fault later = later
 
--- the label map of a list of pairs, or the first fault in the order of the tests
-abbrev pub labels_of : LabelLimits → List Pair → Result LabelMap LabelFault
-labels_of limits pairs =
-    or_else_fault (first_bad_name pairs) BadName (
-    or_else_fault (first_repeated_name pairs) TwiceNamed (
+-- the label map of pairs with label names that differ, or the first fault in the order of the tests
+abbrev pub kept_labels : LabelLimits → List Pair → Result LabelMap LabelFault
+kept_labels limits pairs =
     let kept = with_values pairs in
     if length kept == 0 then Err NoLabels else
     if nat_lt limits.names (length kept) then Err TooMany else
     or_else_fault (first_long_name limits.name_bytes pairs) NameTooLong (
     or_else_fault (first_long_value limits.value_bytes pairs) ValueTooLong (
-    Ok (from_entries kept)))))
+    Ok (from_entries kept)))
+
+-- the label map of a list of pairs, or the first fault in the order of the tests
+abbrev pub labels_of : LabelLimits → List Pair → Result LabelMap LabelFault
+labels_of limits pairs =
+    or_else_fault (first_bad_name pairs) BadName (
+    or_else_fault (first_repeated_name pairs) TwiceNamed (kept_labels limits pairs))
+
+-- these pairs, in the order of their names, are the labels of a stream
+pub record AreLabels (pairs : List Pair) : Type 0 where
+  pub in_order : entries (from_sorted {R = name_order} pairs) ≡ pairs
+  pub labels : IsLabelSet (from_sorted pairs)
 
 -- a name has a value that is not empty in the map exactly where the list has the pair of the two
 abbrev pub HoldsPairs : List Pair → LabelMap → Type 0

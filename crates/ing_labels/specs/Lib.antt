@@ -4,6 +4,7 @@ pub mod Faults
 pub mod Canonical
 pub mod Rows
 pub mod Texts
+pub mod Pieces
 pub mod Held
 pub mod Selectors
 pub mod Reading

@@ -2,7 +2,7 @@
 use Rattle.std.specs.Prelude.{ℕ, ◌==◌, List, [], ◌∷◌, ◌++◌, Option, Some, None, if◌then◌else◌}
 use Rattle.std.specs.Char.{encode_utf8}
 use Rattle.ing_labels.specs.Names.{is_name_start, is_name_byte}
-use Rattle.ing_labels.specs.Selectors.{Match, match_texts, is_space}
+use Rattle.ing_labels.specs.Selectors.{Match, is_space}
 use Rattle.std.specs.String.{string_bytes}
 use Rattle.ing_labels.specs.declared.matcher.MatchOp.{MatchOp}
 use Rattle.ing_labels.specs.declared.matcher.MatchOp.TheVariants.{Equals, Differs}
@@ -103,15 +103,15 @@ run_from r (b ∷ bs) = run_from (step_from r b) bs
 abbrev pub reading_of : State → Reading
 reading_of state.Start = Start
 reading_of state.Opened = Opened
-reading_of (state.InName read name) = InName (match_texts read.items) (string_bytes name)
-reading_of (state.Named read name) = Named (match_texts read.items) (string_bytes name)
-reading_of (state.Bang read name) = Bang (match_texts read.items) (string_bytes name)
-reading_of (state.Compared read name op) = Compared (match_texts read.items) (string_bytes name) op
-reading_of (state.InValue read name op value) = InValue (match_texts read.items) (string_bytes name) op (string_bytes value)
-reading_of (state.Escaped read name op value) = Escaped (match_texts read.items) (string_bytes name) op (string_bytes value)
-reading_of (state.Matched read) = Matched (match_texts read.items)
-reading_of (state.Comma read) = Comma (match_texts read.items)
-reading_of (state.Closed read) = Closed (match_texts read.items)
+reading_of (state.InName read name) = InName read.items (string_bytes name)
+reading_of (state.Named read name) = Named read.items (string_bytes name)
+reading_of (state.Bang read name) = Bang read.items (string_bytes name)
+reading_of (state.Compared read name op) = Compared read.items (string_bytes name) op
+reading_of (state.InValue read name op value) = InValue read.items (string_bytes name) op (string_bytes value)
+reading_of (state.Escaped read name op value) = Escaped read.items (string_bytes name) op (string_bytes value)
+reading_of (state.Matched read) = Matched read.items
+reading_of (state.Comma read) = Comma read.items
+reading_of (state.Closed read) = Closed read.items
 
 -- what is read up to the next state, or not at all
 abbrev pub readings_of : Option State → Option Reading

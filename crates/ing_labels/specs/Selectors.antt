@@ -1,29 +1,19 @@
 -- Selectors: what they pick, and how they are written.
-use Rattle.std.specs.Prelude.{◌≡◌, ◌≤◌, ◌<◌, ◌+◌, ℕ, Bool, true, not, ◌||◌, ◌&&◌, ◌==◌, List, [], ◌∷◌, ◌++◌, length, map, take, codes, IsTrue}
+use Rattle.std.specs.Prelude.{◌≡◌, ◌≤◌, ◌<◌, ◌+◌, ℕ, Bool, true, not, ◌||◌, ◌&&◌, ◌==◌, List, [], ◌∷◌, ◌++◌, length, take, codes, IsTrue}
 use Rattle.std.specs.List.{list_all, list_any, join_by}
 use Rattle.std.specs.Str.{bytes_eq}
-use Rattle.std.specs.String.{string_bytes}
 use Rattle.ing_labels.specs.Names.{is_label_name}
 use Rattle.ing_labels.specs.Labels.{LabelMap}
 use Rattle.ing_labels.specs.LabelValues.{label_value}
 use Rattle.ing_labels.specs.Canonical.{written_value}
 use Rattle.ing_labels.specs.declared.matcher.MatchOp.{MatchOp}
 use Rattle.ing_labels.specs.declared.matcher.MatchOp.TheVariants.{Equals, Differs}
-use Rattle.ing_labels.specs.declared.matcher.Matcher.{Matcher}
 
 -- a matcher: the bytes of its name and value, and what it asks of the label's value
 pub record Match : Type 0 where
   pub name : List ℕ
   pub op : MatchOp
   pub value : List ℕ
-
--- the texts of a matcher
-abbrev pub match_text : Matcher → Match
-match_text m = record { name = string_bytes m.name; op = m.op; value = string_bytes m.value }
-
--- the texts of each matcher
-abbrev pub match_texts : List Matcher → List Match
-match_texts = map match_text
 
 -- what an operator asks of whether two values are equal
 abbrev pub agrees : MatchOp → Bool → Bool
@@ -45,6 +35,11 @@ asks_for_value x = agrees x.op true && not (length x.value == 0)
 -- some matcher asks for one value that is not empty
 abbrev pub is_narrow : List Match → Bool
 is_narrow = list_any asks_for_value
+
+-- the matchers of a selector that may be used: each has a label name, and one is `=` with a value
+pub record IsSelector (ms : List Match) : Type 0 where
+  pub names : IsTrue (list_all (λ x. is_label_name x.name) ms)
+  pub narrow : IsTrue (is_narrow ms)
 
 -- a space, a tab, a line feed or a carriage return
 abbrev pub is_space : ℕ → Bool

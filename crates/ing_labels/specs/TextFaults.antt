@@ -1,22 +1,17 @@
--- The numbers, names and places of the faults of texts.
-use Rattle.std.specs.Prelude.{◌≡◌, false, ℕ, List, codes, Option, Some, None}
+-- Which refusal a fault of a text is, the place that it speaks of, and what it says of the text.
+use Rattle.std.specs.Prelude.{◌≡◌, false, ℕ, List, Option, Some, None}
+use Rattle.ing_refusals.specs.declared.refusal.Refusal.{Refusal}
+use Rattle.ing_refusals.specs.declared.refusal.Refusal.TheVariants as refusal
 use Rattle.ing_labels.specs.Selectors.{Match, is_narrow, IsSelectorText, IsBadSelector}
 use Rattle.ing_labels.specs.declared.text_fault.TextFault.{TextFault}
 use Rattle.ing_labels.specs.declared.text_fault.TextFault.TheVariants.{NoMemory, NotCanonical, BadSelector, TooWide}
 
--- the number of a fault
-abbrev pub text_fault_number : TextFault → ℕ
-text_fault_number NoMemory = 0
-text_fault_number (NotCanonical _) = 7
-text_fault_number (BadSelector _) = 8
-text_fault_number TooWide = 9
-
--- the name of a fault
-abbrev pub text_fault_name : TextFault → List ℕ
-text_fault_name NoMemory = codes "NoMemory"
-text_fault_name (NotCanonical _) = codes "NotCanonical"
-text_fault_name (BadSelector _) = codes "BadSelector"
-text_fault_name TooWide = codes "TooWide"
+-- the refusal of the same name
+abbrev pub text_refusal_of : TextFault → Refusal
+text_refusal_of NoMemory = refusal.NoMemory
+text_refusal_of (NotCanonical _) = refusal.NotCanonical
+text_refusal_of (BadSelector _) = refusal.BadSelector
+text_refusal_of TooWide = refusal.TooWide
 
 -- the place in the text, of those faults that speak of one
 abbrev pub text_fault_place : TextFault → Option ℕ

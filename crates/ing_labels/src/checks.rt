@@ -1,9 +1,11 @@
 //! The tests of a list of label pairs, and the labels that it holds.
-ghost use Rattle.std.specs.Prelude.{◌≡◌, IfOk, length, None};
+ghost use Rattle.std.specs.Prelude.{◌≡◌, IfOk, MatchOption, length, None};
 ghost use Rattle.std.specs.FinMap.{entries, from_entries};
+ghost use Rattle.std.specs.FinMap.Entries.{is_sorted};
 ghost use Rattle.ing_labels.specs.Labels as labels;
 ghost use Rattle.ing_labels.specs.Texts.{entry_texts};
 
+use crate::fault::{LabelFault, LabelLimits};
 use crate::names::is_label_name;
 use std::alloc::{AllocError, Global};
 use std::collections::{BTreeMap, BTreeSet};
@@ -13,6 +15,18 @@ pub(crate) fn first_bad_name(pairs: &[(&str, &str)]) -> Option<usize>
     ensures { result ≡ labels.first_bad_name (labels.texts pairs.now) }
 {
     pairs.iter().position(|(name, _)| !is_label_name(name))
+}
+
+/// Whether each name lies above the one before it, in byte order: then none stands twice.
+pub(crate) fn names_rise(pairs: &[(&str, &str)]) -> bool
+    ensures { result ≡ is_sorted labels.name_order (labels.texts pairs.now) }
+{
+    for at in 1..pairs.len() {
+        if pairs[at - 1].0 >= pairs[at].0 {
+            return false;
+        }
+    }
+    true
 }
 
 /// The place of the first pair whose name a pair before it has.
@@ -31,15 +45,35 @@ pub(crate) fn first_repeated_name(
     Ok(None)
 }
 
+/// The fault of pairs with label names that differ, if there is one.
+pub(crate) fn kept_fault(pairs: &[(&str, &str)], limits: &LabelLimits) -> Option<LabelFault>
+    ensures { let said = labels.kept_labels limits.now (labels.texts pairs.now) in
+        let made = from_entries (labels.with_values (labels.texts pairs.now)) in
+        MatchOption result (said ≡ Ok made) (λ e. said ≡ Err e) }
+{
+    let count = value_count(pairs);
+    if count == 0 {
+        return Some(LabelFault::NoLabels);
+    }
+    if count > limits.names {
+        return Some(LabelFault::TooMany);
+    }
+    if let Some(at) = first_long_name(pairs, limits.name_bytes) {
+        return Some(LabelFault::NameTooLong { at });
+    }
+    let at = first_long_value(pairs, limits.value_bytes)?;
+    Some(LabelFault::ValueTooLong { at })
+}
+
 /// How many pairs have a value that is not empty.
-pub(crate) fn value_count(pairs: &[(&str, &str)]) -> usize
+fn value_count(pairs: &[(&str, &str)]) -> usize
     ensures { result ≡ length (labels.with_values (labels.texts pairs.now)) }
 {
     pairs.iter().filter(|(_, value)| !value.is_empty()).count()
 }
 
 /// The place of the first pair with a value and with a name of more than `most` bytes.
-pub(crate) fn first_long_name(pairs: &[(&str, &str)], most: usize) -> Option<usize>
+fn first_long_name(pairs: &[(&str, &str)], most: usize) -> Option<usize>
     ensures { result ≡ labels.first_long_name most (labels.texts pairs.now) }
 {
     pairs
@@ -48,7 +82,7 @@ pub(crate) fn first_long_name(pairs: &[(&str, &str)], most: usize) -> Option<usi
 }
 
 /// The place of the first pair whose value has more than `most` bytes, and is not empty.
-pub(crate) fn first_long_value(pairs: &[(&str, &str)], most: usize) -> Option<usize>
+fn first_long_value(pairs: &[(&str, &str)], most: usize) -> Option<usize>
     ensures { result ≡ labels.first_long_value most (labels.texts pairs.now) }
 {
     pairs
@@ -73,4 +107,18 @@ pub(crate) fn values_by_name(
         }
     }
     Ok(values)
+}
+
+/// The names and values of a map, in byte order of the names.
+pub(crate) fn text_pairs(
+    alloc: Global,
+    values: &BTreeMap<String, String>,
+) -> Result<Vec<(&str, &str)>, AllocError>
+    ensures { IfOk result (λ pairs. labels.texts pairs.items ≡ entry_texts values.now.entries) }
+{
+    let mut pairs = Vec::with_capacity(alloc, values.len())?;
+    for (name, value) in values {
+        pairs.push((name.as_str(), value.as_str()))?;
+    }
+    Ok(pairs)
 }

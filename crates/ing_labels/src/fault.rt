@@ -1,7 +1,8 @@
 //! The limits on labels, and why a list of label pairs is refused.
 ghost use Rattle.std.specs.Prelude.{◌≡◌};
-ghost use Rattle.ing_labels.specs.Faults.{fault_number, fault_name, fault_place};
+ghost use Rattle.ing_labels.specs.Faults.{refusal_of, fault_place};
 
+use ing_refusals::Refusal;
 use std::alloc::AllocError;
 use thiserror::Error;
 
@@ -37,33 +38,18 @@ pub enum LabelFault {
 }
 
 impl LabelFault {
-    /// The number by which replies name the fault, 0 to 6 (own numbering).
-    pub fn number(&self) -> u32
-        ensures { result ≡ fault_number self.now }
+    /// Which refusal the fault is. Takes no memory.
+    pub fn refusal(&self) -> Refusal
+        ensures { result ≡ refusal_of self.now }
     {
         match self {
-            LabelFault::NoMemory => 0,
-            LabelFault::BadName { .. } => 1,
-            LabelFault::TwiceNamed { .. } => 2,
-            LabelFault::NoLabels => 3,
-            LabelFault::TooMany => 4,
-            LabelFault::NameTooLong { .. } => 5,
-            LabelFault::ValueTooLong { .. } => 6,
-        }
-    }
-
-    /// The word by which replies name the fault (own).
-    pub fn name(&self) -> &'static str
-        ensures { result.now ≡ fault_name self.now }
-    {
-        match self {
-            LabelFault::NoMemory => "NoMemory",
-            LabelFault::BadName { .. } => "BadName",
-            LabelFault::TwiceNamed { .. } => "TwiceNamed",
-            LabelFault::NoLabels => "NoLabels",
-            LabelFault::TooMany => "TooMany",
-            LabelFault::NameTooLong { .. } => "NameTooLong",
-            LabelFault::ValueTooLong { .. } => "ValueTooLong",
+            LabelFault::NoMemory => Refusal::NoMemory,
+            LabelFault::BadName { .. } => Refusal::BadName,
+            LabelFault::TwiceNamed { .. } => Refusal::TwiceNamed,
+            LabelFault::NoLabels => Refusal::NoLabels,
+            LabelFault::TooMany => Refusal::TooMany,
+            LabelFault::NameTooLong { .. } => Refusal::NameTooLong,
+            LabelFault::ValueTooLong { .. } => Refusal::ValueTooLong,
         }
     }
 

@@ -1,18 +1,20 @@
 //! The labels of one stream.
-ghost use Rattle.std.specs.Prelude.{◌≡◌, ◌≢◌, IfOk, IfErr};
+ghost use Rattle.std.specs.Prelude.{◌≡◌, ◌≢◌, ◌↔◌, ℕ, Some, None, IfOk, IfErr, IsErrOf, IsTrue};
 ghost use Rattle.std.specs.String.{string_bytes};
+ghost use Rattle.std.specs.FinMap.{from_sorted};
+ghost use Rattle.std.specs.FinMap.Entries.{is_sorted};
+ghost use Rattle.ing_labels.specs.Labels.{name_order, texts, with_values, AreLabels};
 
-use crate::canonical::canonical_text;
+use crate::canonical::{canonical_text, packed};
 use crate::canonical_reader::read_pairs;
 use crate::checks::{
-    first_bad_name, first_long_name, first_long_value, first_repeated_name, value_count,
-    values_by_name,
+    first_bad_name, first_repeated_name, kept_fault, names_rise, text_pairs, values_by_name,
 };
 use crate::fault::{LabelFault, LabelLimits};
 use crate::pairs::Pairs;
+use crate::pieces::Pieces;
 use crate::text_fault::TextFault;
 use std::alloc::{AllocError, Global};
-use std::collections::BTreeMap;
 use std::marker::Model;
 
 /// The labels of one stream, seen as the map from the bytes of a name to the bytes of its value:
@@ -20,7 +22,7 @@ use std::marker::Model;
 /// labels).
 #[derive(Debug, Drop)]
 pub struct Labels {
-    values: BTreeMap<String, String>,
+    pieces: Pieces,
 }
 
 impl Model for Labels {
@@ -41,7 +43,8 @@ impl Model for Labels {
 }
 
 impl Labels {
-    ghost use Rattle.ing_labels.specs.Labels.{labels_of, texts, IsLabelSet, HoldsPairs, KeepsLimits};
+    ghost use Rattle.ing_labels.specs.Labels.{labels_of, first_bad_name, IsLabelSet, HoldsPairs, KeepsLimits};
+    ghost use Rattle.ing_labels.specs.declared.fault.LabelFault.{LabelFault};
     ghost use Rattle.ing_labels.specs.Canonical.{canonical_of};
     ghost use Rattle.ing_labels.specs.CanonicalTexts.{IsCanonicalFault};
     ghost use Rattle.ing_labels.specs.LabelValues.{label_value};
@@ -58,9 +61,11 @@ impl Labels {
     /// 5. `NameTooLong`: one of these has a name of more than `limits.name_bytes` bytes.
     /// 6. `ValueTooLong`: one of these has a value of more than `limits.value_bytes` bytes.
     ///
-    /// `NoMemory` may stand in place of any other answer. The time is n log n in the pairs, times the
-    /// length of a name. (Loki documentation: labels, and `limits_config` for the limits; the order of the
-    /// tests is this crate's own.)
+    /// `NoMemory` may stand in place of any other answer but `BadName`, and where the names rise strictly,
+    /// in place of none of these: all is tested before memory is taken. Then the time is in proportion to
+    /// the pairs and their texts, and else n log n in the pairs, times the length of a name. (Loki
+    /// documentation: labels, and `limits_config` for the limits; the order of the tests is this crate's
+    /// own.)
     pub fn of_pairs(
         alloc: Global,
         pairs: &[(&str, &str)],
@@ -68,6 +73,11 @@ impl Labels {
     ) -> Result<Labels, LabelFault>
         ensures labels { IfOk result (λ l. labels_of limits.now (texts pairs.now) ≡ Ok l) }
         ensures fault { IfErr result (λ e. e ≢ LabelFault.NoMemory → labels_of limits.now (texts pairs.now) ≡ Err e) }
+
+        // What is found before memory is taken.
+        ensures bad_name { (at : ℕ) → first_bad_name (texts pairs.now) ≡ Some at → IsErrOf result (LabelFault.BadName at) }
+        ensures rising { IsTrue (is_sorted name_order (texts pairs.now)) → (e : LabelFault) →
+            labels_of limits.now (texts pairs.now) ≡ Err e → IsErrOf result e }
 
         // What the map is, in words that do not follow the tests.
         ensures label_set { IfOk result IsLabelSet }
@@ -77,24 +87,44 @@ impl Labels {
         if let Some(at) = first_bad_name(pairs) {
             return Err(LabelFault::BadName { at });
         }
+        if names_rise(pairs) {
+            if let Some(fault) = kept_fault(pairs, limits) {
+                return Err(fault);
+            }
+            return Ok(Labels::in_order(alloc, pairs)?);
+        }
+        Labels::of_unordered(alloc, pairs, limits)
+    }
+
+    /// The same, of pairs in any order that all have label names.
+    fn of_unordered(
+        alloc: Global,
+        pairs: &[(&str, &str)],
+        limits: &LabelLimits,
+    ) -> Result<Labels, LabelFault>
+        requires { first_bad_name (texts pairs.now) ≡ None }
+        ensures labels { IfOk result (λ l. labels_of limits.now (texts pairs.now) ≡ Ok l) }
+        ensures fault { IfErr result (λ e. e ≢ LabelFault.NoMemory → labels_of limits.now (texts pairs.now) ≡ Err e) }
+    {
         if let Some(at) = first_repeated_name(alloc, pairs)? {
             return Err(LabelFault::TwiceNamed { at });
         }
-        let count = value_count(pairs);
-        if count == 0 {
-            return Err(LabelFault::NoLabels);
-        }
-        if count > limits.names {
-            return Err(LabelFault::TooMany);
-        }
-        if let Some(at) = first_long_name(pairs, limits.name_bytes) {
-            return Err(LabelFault::NameTooLong { at });
-        }
-        if let Some(at) = first_long_value(pairs, limits.value_bytes) {
-            return Err(LabelFault::ValueTooLong { at });
+        if let Some(fault) = kept_fault(pairs, limits) {
+            return Err(fault);
         }
         let values = values_by_name(alloc, pairs)?;
-        Ok(Labels { values })
+        let ordered = text_pairs(alloc, &values)?;
+        Ok(Labels::in_order(alloc, &ordered)?)
+    }
+
+    /// The labels of those pairs that have a value.
+    fn in_order(alloc: Global, pairs: &[(&str, &str)]) -> Result<Labels, AllocError>
+        requires { AreLabels (with_values (texts pairs.now)) }
+        ensures { IfOk result (λ l. l ≡ from_sorted (with_values (texts pairs.now))) }
+    {
+        let name = canonical_text(alloc, pairs)?;
+        let pieces = packed(alloc, name, pairs)?;
+        Ok(Labels { pieces })
     }
 
     /// The labels of a canonical name: exactly the texts that `canonical` writes are read, whatever their
@@ -107,17 +137,21 @@ impl Labels {
         ensures fault { IfErr result (IsCanonicalFault text.now) }
     {
         let values = read_pairs(alloc, text)?;
-        Ok(Labels { values })
+        let pairs = text_pairs(alloc, &values)?;
+        Ok(Labels::in_order(alloc, &pairs)?)
     }
 
-    /// The value of a label: the empty text where the label is absent (Loki documentation: labels).
+    /// The value of a label: the empty text where the label is absent (Loki documentation: labels). The time
+    /// is in proportion to the labels.
     pub fn value(&self, name: &str) -> &str
         ensures { result.now ≡ label_value self.now name.now }
     {
-        match self.values.get(name) {
-            Some(value) => value.as_str(),
-            None => "",
+        for (label, value) in self.pairs() {
+            if label == name {
+                return value;
+            }
         }
+        ""
     }
 
     /// The names and values, in byte order of the names. Takes no memory; the walk takes time in proportion
@@ -126,21 +160,28 @@ impl Labels {
         ensures pairs { result ≡ entries self.now }
         ensures label_set { IsLabelSet self.now }
     {
-        Pairs {
-            left: self.values.iter(),
-        }
+        Pairs::after_first(&self.pieces)
     }
 
     /// The canonical name, as `{a="x", b="y"}`: names in byte order, `, ` between pairs, and in a value a
     /// backslash, a quote and a line feed are written `\\`, `\"` and `\n` (Loki documentation: label sets
-    /// as Prometheus writes them; the three escapes are this crate's own profile).
-    pub fn canonical(&self, alloc: Global) -> Result<String, AllocError>
-        ensures text { IfOk result (λ s. string_bytes s ≡ canonical_of self.now) }
+    /// as Prometheus writes them; the three escapes are this crate's own profile). It is held: lending it
+    /// takes no memory and constant time.
+    pub fn name(&self) -> &str
+        ensures text { result.now ≡ canonical_of self.now }
 
         // Each `Labels` is one or more labels, with label names and values that are not empty.
         ensures label_set { IsLabelSet self.now }
     {
-        canonical_text(alloc, &self.values)
+        self.pieces.get(0)
+    }
+
+    /// A copy of the canonical name.
+    pub fn canonical(&self, alloc: Global) -> Result<String, AllocError>
+        ensures text { IfOk result (λ s. string_bytes s ≡ canonical_of self.now) }
+        ensures label_set { IsLabelSet self.now }
+    {
+        String::from_str(alloc, self.name())
     }
 }
 
@@ -149,7 +190,7 @@ impl Clone for Labels {
     ghost is_clone = { λ labels copy. copy ≡ labels };
 
     fn clone(&self) -> Result<Labels, AllocError> {
-        let values = self.values.clone()?;
-        Ok(Labels { values })
+        let pieces = self.pieces.clone()?;
+        Ok(Labels { pieces })
     }
 }

@@ -10,6 +10,7 @@ mod laws;
 mod matcher;
 mod names;
 mod pairs;
+mod pieces;
 mod selector;
 mod selector_reader;
 mod text_fault;

@@ -3,7 +3,7 @@ ghost use Rattle.std.specs.Prelude.{◌≡◌, IfOk, IfErr, MatchOption};
 ghost use Rattle.std.specs.Char.{encode_utf8};
 ghost use Rattle.std.specs.String.{string_bytes};
 ghost use Rattle.ing_labels.specs.Names as names;
-ghost use Rattle.ing_labels.specs.Selectors.{is_space, match_texts, IsSelectorText};
+ghost use Rattle.ing_labels.specs.Selectors.{is_space, IsSelectorText};
 ghost use Rattle.ing_labels.specs.TextFaults.{IsGrammarFault};
 ghost use Rattle.ing_labels.specs.Reading as reading;
 ghost use Rattle.ing_labels.specs.Reading.{reading_of, readings_of, step_char, Opened, InName, Compared, InValue, Escaped, Matched, Comma, closed_of};
@@ -91,7 +91,7 @@ pub(crate) fn is_in_name(c: char) -> bool
 
 /// A name that begins.
 fn new_name(alloc: Global, read: Vec<Matcher>, c: char) -> Result<State, AllocError>
-    ensures { IfOk result (λ s. reading_of s ≡ InName (match_texts read.items) (encode_utf8 c)) }
+    ensures { IfOk result (λ s. reading_of s ≡ InName read.items (encode_utf8 c)) }
 {
     let mut name = String::new(alloc);
     name.push(c)?;
@@ -116,7 +116,7 @@ fn after_open(alloc: Global, c: char) -> Result<Option<State>, AllocError>
 
 /// What follows a comma.
 fn after_comma(alloc: Global, read: Vec<Matcher>, c: char) -> Result<Option<State>, AllocError>
-    ensures { IfOk result (λ s. readings_of s ≡ step_char (Comma (match_texts read.items)) c) }
+    ensures { IfOk result (λ s. readings_of s ≡ step_char (Comma read.items) c) }
 {
     if starts_name(c) {
         return Ok(Some(new_name(alloc, read, c)?));
@@ -129,7 +129,7 @@ fn after_comma(alloc: Global, read: Vec<Matcher>, c: char) -> Result<Option<Stat
 
 /// What follows a name.
 fn after_name(read: Vec<Matcher>, name: String, c: char) -> Option<State>
-    ensures { readings_of result ≡ reading.after_name (match_texts read.items) (string_bytes name) c }
+    ensures { readings_of result ≡ reading.after_name read.items (string_bytes name) c }
 {
     match c {
         '=' => Some(State::Compared {
@@ -145,7 +145,7 @@ fn after_name(read: Vec<Matcher>, name: String, c: char) -> Option<State>
 
 /// What follows an operator.
 fn after_op(alloc: Global, read: Vec<Matcher>, name: String, op: MatchOp, c: char) -> Option<State>
-    ensures { readings_of result ≡ step_char (Compared (match_texts read.items) (string_bytes name) op) c }
+    ensures { readings_of result ≡ step_char (Compared read.items (string_bytes name) op) c }
 {
     match c {
         '"' => Some(State::InValue {
@@ -167,11 +167,11 @@ fn in_value(
     mut value: String,
     c: char,
 ) -> Result<Option<State>, AllocError>
-    ensures { IfOk result (λ s. readings_of s ≡ step_char (InValue (match_texts read.items) (string_bytes name) op (string_bytes value)) c) }
+    ensures { IfOk result (λ s. readings_of s ≡ step_char (InValue read.items (string_bytes name) op (string_bytes value)) c) }
 {
     match c {
         '"' => {
-            read.push(Matcher { name, op, value })?;
+            read.push(Matcher::new(name, op, value))?;
             Ok(Some(State::Matched { read }))
         }
         '\\' => Ok(Some(State::Escaped {
@@ -213,7 +213,7 @@ fn after_backslash(
     mut value: String,
     c: char,
 ) -> Result<Option<State>, AllocError>
-    ensures { IfOk result (λ s. readings_of s ≡ step_char (Escaped (match_texts read.items) (string_bytes name) op (string_bytes value)) c) }
+    ensures { IfOk result (λ s. readings_of s ≡ step_char (Escaped read.items (string_bytes name) op (string_bytes value)) c) }
 {
     let Some(meant) = unescaped(c) else {
         return Ok(None);
@@ -229,7 +229,7 @@ fn after_backslash(
 
 /// What follows a matcher.
 fn after_matcher(read: Vec<Matcher>, c: char) -> Option<State>
-    ensures { readings_of result ≡ step_char (Matched (match_texts read.items)) c }
+    ensures { readings_of result ≡ step_char (Matched read.items) c }
 {
     match c {
         ',' => Some(State::Comma { read }),
@@ -281,7 +281,7 @@ impl State {
 
     /// The matchers, where the selector is read whole.
     fn closed(self) -> Option<Vec<Matcher>>
-        ensures { MatchOption result (closed_of (reading_of self) ≡ None) (λ v. closed_of (reading_of self) ≡ Some (match_texts v.items)) }
+        ensures { MatchOption result (closed_of (reading_of self) ≡ None) (λ v. closed_of (reading_of self) ≡ Some v.items) }
     {
         match self {
             State::Closed { read } => Some(read),
@@ -292,7 +292,7 @@ impl State {
 
 /// The matchers of a selector text, in its order.
 pub(crate) fn read_matchers(alloc: Global, text: &str) -> Result<Vec<Matcher>, TextFault>
-    ensures ok { IfOk result (λ v. IsSelectorText (match_texts v.items) text.now) }
+    ensures ok { IfOk result (λ v. IsSelectorText v.items text.now) }
     ensures fault { IfErr result (IsGrammarFault text.now) }
 {
     let mut state = State::Start;

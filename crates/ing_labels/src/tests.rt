@@ -18,19 +18,15 @@ const NARROW: LabelLimits = LabelLimits {
 #[test]
 fn empty_values_are_absent(rt: HostRuntime) -> Result<(), Fail> {
     let labels = Labels::of_pairs(rt.alloc(), &[("b", "2"), ("a", "1"), ("c", "")], &WIDE)?;
-    assert_eq!(rt;
-        labels.canonical(rt.alloc())?.as_str(),
-        "{a=\"1\", b=\"2\"}"
-    );
+    assert_eq!(rt; labels.name(), "{a=\"1\", b=\"2\"}");
     Ok(())
 }
 
 #[test]
 fn canonical_escapes(rt: HostRuntime) -> Result<(), Fail> {
     let labels = Labels::of_pairs(rt.alloc(), &[("m", "a\"b\\c\nd")], &WIDE)?;
-    let name = labels.canonical(rt.alloc())?;
     assert_eq!(rt;
-        name.as_bytes(),
+        labels.name().as_bytes(),
         b"\x7b\x6d\x3d\x22\x61\x5c\x22\x62\x5c\x5c\x63\x5c\x6e\x64\x22\x7d".as_slice()
     );
     Ok(())
@@ -45,10 +41,7 @@ fn other_characters_stay(rt: HostRuntime) -> Result<(), Fail> {
         value_bytes: 7,
     };
     let labels = Labels::of_pairs(rt.alloc(), &[("_Z9", "\té€'"), ("Z_", "{}=,")], &limits)?;
-    assert_eq!(rt;
-        labels.canonical(rt.alloc())?.as_str(),
-        "{Z_=\"{}=,\", _Z9=\"\té€'\"}"
-    );
+    assert_eq!(rt; labels.name(), "{Z_=\"{}=,\", _Z9=\"\té€'\"}");
     Ok(())
 }
 
@@ -81,10 +74,9 @@ fn refusals_come_in_order(rt: HostRuntime) {
 }
 
 #[test]
-fn faults_have_numbers_and_names(rt: HostRuntime) -> Result<(), Fail> {
+fn faults_say_what_and_where(rt: HostRuntime) -> Result<(), Fail> {
     let fault = LabelFault::TwiceNamed { at: 1 };
-    assert_eq!(rt; fault.number(), 2);
-    assert_eq!(rt; fault.name(), "TwiceNamed");
+    assert_eq!(rt; fault.refusal().name(), "TwiceNamed");
     assert_eq!(rt; fault.at(), Some(1));
     assert_eq!(rt;
         format!(in rt.alloc(); "{fault}")?.as_str(),
@@ -140,10 +132,9 @@ fn selectors_are_refused(rt: HostRuntime) {
 }
 
 #[test]
-fn text_faults_have_numbers_and_names(rt: HostRuntime) -> Result<(), Fail> {
+fn text_faults_say_what_and_where(rt: HostRuntime) -> Result<(), Fail> {
     let fault = TextFault::BadSelector { at: 3 };
-    assert_eq!(rt; fault.number(), 8);
-    assert_eq!(rt; fault.name(), "BadSelector");
+    assert_eq!(rt; fault.refusal().name(), "BadSelector");
     assert_eq!(rt; fault.at(), Some(3));
     assert_eq!(rt;
         format!(in rt.alloc(); "{fault}")?.as_str(),
@@ -158,7 +149,7 @@ fn canonical_names_are_read_back(rt: HostRuntime) -> Result<(), Fail> {
     let labels = Labels::parse_canonical(rt.alloc(), text)?;
     assert_eq!(rt; labels.value("m"), "a\"b\\c\nd");
     assert_eq!(rt; labels.value("n"), "");
-    assert_eq!(rt; labels.canonical(rt.alloc())?.as_str(), text);
+    assert_eq!(rt; labels.name(), text);
     Ok(())
 }
 
@@ -207,5 +198,152 @@ fn a_copy_has_the_same_pairs(rt: HostRuntime) -> Result<(), Fail> {
     assert_eq!(rt; pairs.next(), Some(("a", "1")));
     assert_eq!(rt; pairs.next(), Some(("b", "2")));
     assert_eq!(rt; pairs.next(), None);
+    Ok(())
+}
+
+// A place counts bytes, also where characters of several come before it.
+#[test]
+fn places_count_bytes(rt: HostRuntime) {
+    assert_eq!(rt;
+        canonical_fault(&rt, "{a=\"é€\", a=\"x\"}"),
+        Some(TextFault::NotCanonical { at: 13 })
+    );
+    assert_eq!(rt;
+        canonical_fault(&rt, "{a=\"é€\"é"),
+        Some(TextFault::NotCanonical { at: 10 })
+    );
+    assert_eq!(rt;
+        selector_fault(&rt, "{a=\"é€\"é"),
+        Some(TextFault::BadSelector { at: 10 })
+    );
+}
+
+// Each front of a canonical name ends too early, and so does it as a selector.
+#[test]
+fn a_front_ends_too_early(rt: HostRuntime) -> Result<(), Fail> {
+    let text = "{a=\"é\\\"€\", b=\"\\n\"}";
+    assert_eq!(rt;
+        Labels::parse_canonical(rt.alloc(), text)?.value("a"),
+        "é\"€"
+    );
+    for (at, _) in text.char_indices() {
+        let front = text.get(..at).ok_or("no front")?;
+        assert_eq!(rt;
+            canonical_fault(&rt, front),
+            Some(TextFault::NotCanonical { at })
+        );
+        assert_eq!(rt;
+            selector_fault(&rt, front),
+            Some(TextFault::BadSelector { at })
+        );
+    }
+    Ok(())
+}
+
+// A text of so many bytes that begins as given.
+fn long_text(rt: &HostRuntime, start: &str, bytes: usize) -> Result<String, Fail> {
+    let mut text = String::from_str(rt.alloc(), start)?;
+    for _ in start.len()..bytes {
+        text.push('x')?;
+    }
+    Ok(text)
+}
+
+// 64 names of 1024 bytes, in rising order.
+fn long_names(rt: &HostRuntime) -> Result<Vec<String>, Fail> {
+    let mut names = Vec::new(rt.alloc());
+    for number in 10..74u32 {
+        let start = format!(in rt.alloc(); "n{number}")?;
+        names.push(long_text(rt, start.as_str(), 1024)?)?;
+    }
+    Ok(names)
+}
+
+// Each name with this value, in rising or in falling order.
+fn paired<'a>(
+    rt: &HostRuntime,
+    names: &'a [String],
+    value: &'a str,
+    is_rising: bool,
+) -> Result<Vec<(&'a str, &'a str)>, Fail> {
+    let mut pairs = Vec::new(rt.alloc());
+    for name in names {
+        pairs.push((name.as_str(), value))?;
+    }
+    if !is_rising {
+        pairs.reverse();
+    }
+    Ok(pairs)
+}
+
+const LONG: LabelLimits = LabelLimits {
+    names: 64,
+    name_bytes: 1024,
+    value_bytes: 2048,
+};
+
+// 64 labels with names of 1024 bytes and values of 2048: a canonical name of 196,928 bytes.
+#[test]
+fn labels_at_their_limits(rt: HostRuntime) -> Result<(), Fail> {
+    let names = long_names(&rt)?;
+    let value = long_text(&rt, "é", 2048)?;
+    let rising = paired(&rt, &names, value.as_str(), true)?;
+    let labels = Labels::of_pairs(rt.alloc(), &rising, &LONG)?;
+    assert_eq!(rt; labels.name().len(), 196_928);
+    let read = Labels::parse_canonical(rt.alloc(), labels.name())?;
+    assert_eq!(rt; read.name(), labels.name());
+    let falling = paired(&rt, &names, value.as_str(), false)?;
+    let turned = Labels::of_pairs(rt.alloc(), &falling, &LONG)?;
+    assert_eq!(rt; turned.name(), labels.name());
+    Ok(())
+}
+
+// The fault of 64 labels with long names and values, in rising or in falling order.
+fn long_fault(
+    rt: &HostRuntime,
+    limits: &LabelLimits,
+    is_rising: bool,
+) -> Result<Option<LabelFault>, Fail> {
+    let names = long_names(rt)?;
+    let value = long_text(rt, "é", 2048)?;
+    let pairs = paired(rt, &names, value.as_str(), is_rising)?;
+    Ok(Labels::of_pairs(rt.alloc(), &pairs, limits).err())
+}
+
+#[test]
+fn one_more_is_too_much(rt: HostRuntime) -> Result<(), Fail> {
+    let fewer = LabelLimits { names: 63, ..LONG };
+    assert_eq!(rt; long_fault(&rt, &fewer, true)?, Some(LabelFault::TooMany));
+    let shorter = LabelLimits {
+        name_bytes: 1023,
+        ..LONG
+    };
+    assert_eq!(rt;
+        long_fault(&rt, &shorter, false)?,
+        Some(LabelFault::NameTooLong { at: 0 })
+    );
+    let smaller = LabelLimits {
+        value_bytes: 2047,
+        ..LONG
+    };
+    assert_eq!(rt;
+        long_fault(&rt, &smaller, true)?,
+        Some(LabelFault::ValueTooLong { at: 0 })
+    );
+    Ok(())
+}
+
+#[test]
+fn a_selector_of_a_hundred_matchers(rt: HostRuntime) -> Result<(), Fail> {
+    let mut text = String::from_str(rt.alloc(), "{b=\"x y\"")?;
+    for number in 0..99u32 {
+        text.push_str(format!(in rt.alloc(); ", a!=\"{number}\"")?.as_str())?;
+    }
+    text.push_str("}")?;
+    let selector = Selector::parse(rt.alloc(), text.as_str())?;
+    assert_eq!(rt; selector.matchers().len(), 100);
+    let labels = Labels::of_pairs(rt.alloc(), &[("a", "99"), ("b", "x y")], &WIDE)?;
+    assert!(rt; selector.matches(&labels));
+    assert_eq!(rt; is_match(&rt, text.as_str())?, false);
     Ok(())
 }

@@ -1,7 +1,8 @@
 //! Why a text is refused.
 ghost use Rattle.std.specs.Prelude.{◌≡◌};
-ghost use Rattle.ing_labels.specs.TextFaults.{text_fault_number, text_fault_name, text_fault_place};
+ghost use Rattle.ing_labels.specs.TextFaults.{text_refusal_of, text_fault_place};
 
+use ing_refusals::Refusal;
 use std::alloc::AllocError;
 use thiserror::Error;
 
@@ -24,27 +25,15 @@ pub enum TextFault {
 }
 
 impl TextFault {
-    /// The number by which replies name the fault: 0, or 7 to 9 (own numbering, after `LabelFault`'s).
-    pub fn number(&self) -> u32
-        ensures { result ≡ text_fault_number self.now }
+    /// Which refusal the fault is. Takes no memory.
+    pub fn refusal(&self) -> Refusal
+        ensures { result ≡ text_refusal_of self.now }
     {
         match self {
-            TextFault::NoMemory => 0,
-            TextFault::NotCanonical { .. } => 7,
-            TextFault::BadSelector { .. } => 8,
-            TextFault::TooWide => 9,
-        }
-    }
-
-    /// The word by which replies name the fault (own).
-    pub fn name(&self) -> &'static str
-        ensures { result.now ≡ text_fault_name self.now }
-    {
-        match self {
-            TextFault::NoMemory => "NoMemory",
-            TextFault::NotCanonical { .. } => "NotCanonical",
-            TextFault::BadSelector { .. } => "BadSelector",
-            TextFault::TooWide => "TooWide",
+            TextFault::NoMemory => Refusal::NoMemory,
+            TextFault::NotCanonical { .. } => Refusal::NotCanonical,
+            TextFault::BadSelector { .. } => Refusal::BadSelector,
+            TextFault::TooWide => Refusal::TooWide,
         }
     }
 

@@ -3,9 +3,7 @@ use Rattle.std.proofs.Common.{◌≡◌, ℕ, ◌+◌, ◌<◌, ◌≤◌, lengt
 use Rattle.std.specs.List.{filter_map, slice_get, cons_option}
 use Rattle.std.proofs.lemmas.List.{take_more, map-append, get_or-take}
 use Rattle.std.proofs.lemmas.List.Elements.{All-more, All-weaker, filter_map-append, filter-append}
-use Rattle.std.specs.String.{string_bytes}
-use Rattle.ing_labels.specs.Selectors.{Match, selects, match_text, asks_for_value}
-use Rattle.ing_labels.specs.declared.matcher.Matcher.{Matcher}
+use Rattle.ing_labels.specs.Selectors.{Match, selects, asks_for_value}
 use Rattle.ing_postings.specs.declared.listed.Listed.{Listed}
 use Rattle.ing_postings.specs.Streams.{numbers_of, selected}
 use Rattle.ing_postings.specs.Index.{Index, list_at, Narrows, IsNoLonger}
@@ -44,17 +42,17 @@ none_whole P None xs n end all = all_whole P xs n end all
 none_whole P (Some l) xs n end all = all
 
 -- the shortest list that the first n matchers name
-pub record IsShortest (index : Index) (ms : List Matcher) (n : ℕ) (o : Option (Bor (List ℕ))) : Type 0 where
+pub record IsShortest (index : Index) (ms : List Match) (n : ℕ) (o : Option (Bor (List ℕ))) : Type 0 where
   pub named : IfSome o (λ list. Any (Narrows index list.now) ms)
   pub shortest : IfSome o (λ list. All (IsNoLonger index list.now) (take n ms))
-  pub none : IfNone o (All (λ m. asks_for_value (match_text m) ≡ false) (take n ms))
+  pub none : IfNone o (All (λ m. asks_for_value m ≡ false) (take n ms))
 
 -- a matcher that asks for no value
-pub shortest_skips : (index : Index) (ms : List Matcher) (n : ℕ) (o : Option (Bor (List ℕ))) (m : Matcher) → IsShortest index ms n o → n < length ms → m ≡ get_or ms n m → asks_for_value (match_text m) ≡ false → IsShortest index ms (n + 1) o
+pub shortest_skips : (index : Index) (ms : List Match) (n : ℕ) (o : Option (Bor (List ℕ))) (m : Match) → IsShortest index ms n o → n < length ms → m ≡ get_or ms n m → asks_for_value m ≡ false → IsShortest index ms (n + 1) o
 shortest_skips index ms n None m before within here asks = record {
   named = before.named;
   shortest = before.shortest;
-  none = All-more (λ x. asks_for_value (match_text x) ≡ false) ms n m within before.none (subst (λ x. asks_for_value (match_text x) ≡ false) here asks);
+  none = All-more (λ x. asks_for_value x ≡ false) ms n m within before.none (subst (λ x. asks_for_value x ≡ false) here asks);
 }
 shortest_skips index ms n (Some l) m before within here asks = record {
   named = before.named;
@@ -63,7 +61,7 @@ shortest_skips index ms n (Some l) m before within here asks = record {
 }
 
 -- one that names a list
-pub shortest_more : (index : Index) (ms : List Matcher) (n : ℕ) (o : Option (Bor (List ℕ))) (m : Matcher) (list next : Bor (List ℕ)) → IsShortest index ms n o → n < length ms → m ≡ get_or ms n m → asks_for_value (match_text m) ≡ true → list.now ≡ list_at index (string_bytes m.name) (string_bytes m.value) → MatchOption o (next.now ≡ list.now) (λ l. (next.now ≡ l.now) ⊎ (next.now ≡ list.now)) → length next.now ≤ length list.now → IfSome o (λ l. length next.now ≤ length l.now) → IsShortest index ms (n + 1) (Some next)
+pub shortest_more : (index : Index) (ms : List Match) (n : ℕ) (o : Option (Bor (List ℕ))) (m : Match) (list next : Bor (List ℕ)) → IsShortest index ms n o → n < length ms → m ≡ get_or ms n m → asks_for_value m ≡ true → list.now ≡ list_at index m.name m.value → MatchOption o (next.now ≡ list.now) (λ l. (next.now ≡ l.now) ⊎ (next.now ≡ list.now)) → length next.now ≤ length list.now → IfSome o (λ l. length next.now ≤ length l.now) → IsShortest index ms (n + 1) (Some next)
 shortest_more index ms n o m list next before within here asks is one fits fits_before =
     let new : next.now ≡ list.now → Any (Narrows index next.now) ms = λ e. (n, m, within, sym here, (asks, e ∙ is)) in
     let last : IsNoLonger index next.now (get_or ms n m) = subst (IsNoLonger index next.now) here (λ _. subst (λ l. length next.now ≤ length l) is fits) in
@@ -73,8 +71,8 @@ shortest_more index ms n o m list next before within here asks is one fits fits_
         | Some l ↦ λ one h. elim one as (λ _. Any (Narrows index next.now) ms) [ inl e ↦ subst (λ x. Any (Narrows index x) ms) (sym e) h | inr e ↦ new e ]
       ] one before.named;
       shortest = All-more (IsNoLonger index next.now) ms n m within (
-          elim o as (λ o. IfSome o (λ l. length next.now ≤ length l.now) → IfSome o (λ l. All (IsNoLonger index l.now) (take n ms)) → IfNone o (All (λ m. asks_for_value (match_text m) ≡ false) (take n ms)) → All (IsNoLonger index next.now) (take n ms)) [
-            | None ↦ λ fits some none. All-weaker (λ x. asks_for_value (match_text x) ≡ false) (IsNoLonger index next.now) (λ x h g. absurd (cc (sym g ∙ h))) (take n ms) none
+          elim o as (λ o. IfSome o (λ l. length next.now ≤ length l.now) → IfSome o (λ l. All (IsNoLonger index l.now) (take n ms)) → IfNone o (All (λ m. asks_for_value m ≡ false) (take n ms)) → All (IsNoLonger index next.now) (take n ms)) [
+            | None ↦ λ fits some none. All-weaker (λ x. asks_for_value x ≡ false) (IsNoLonger index next.now) (λ x h g. absurd (cc (sym g ∙ h))) (take n ms) none
             | Some l ↦ λ fits some none. All-weaker (IsNoLonger index l.now) (IsNoLonger index next.now) (λ x h g. let k = h g in omega arith) (take n ms) some
           ] fits_before before.shortest before.none) last;
       none = tt;

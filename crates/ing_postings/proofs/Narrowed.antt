@@ -3,7 +3,6 @@ use Rattle.std.proofs.Common.{◌≡◌, ℕ, suc, zero, ◌<◌, length, get_or
 use Rattle.std.specs.List.{list_any, filter_map, slice_get}
 use Rattle.std.specs.Option.{unwrap_or}
 use Rattle.std.specs.Str.{bytes_eq}
-use Rattle.std.specs.String.{string_bytes}
 use Rattle.std.specs.Ordering.{is_eq}
 use lib.Dec.{T}
 use Rattle.std.specs.FinMap.{entries, entries_sorted, find, get-entries}
@@ -12,9 +11,8 @@ use Rattle.std.proofs.lemmas.Cmp.{nat_list_eq_equiv}
 use Rattle.std.proofs.lemmas.Map.Text.{is_eq-slice_cmp}
 use Rattle.std.proofs.lemmas.Slice.Eq.{bytes_eq-Decides}
 use Rattle.ing_labels.specs.Labels.{LabelMap, Pair, name_order}
-use Rattle.ing_labels.specs.Selectors.{Match, match_text, match_texts, match_holds, selects, asks_for_value, agrees}
+use Rattle.ing_labels.specs.Selectors.{Match, match_holds, selects, asks_for_value, agrees}
 use Rattle.ing_labels.specs.LabelValues.{label_value}
-use Rattle.ing_labels.specs.declared.matcher.Matcher.{Matcher}
 use Rattle.ing_labels.specs.declared.matcher.MatchOp.{MatchOp}
 use Rattle.ing_labels.specs.declared.matcher.MatchOp.TheVariants.{Equals, Differs}
 use Rattle.ing_postings.specs.declared.listed.Listed.{Listed}
@@ -59,9 +57,9 @@ match_has m x asks holds =
     let parts = both_parts _ _ asks in
     has_looked m x.name x.value ((bytes_eq-Decides (label_value m x.name) x.value).0 (asks_equals x.op _ parts.0 holds)) parts.1
 
-one_holds : (ms : List Matcher) (k : ℕ) (x : Matcher) (m : LabelMap) → k < length ms → get_or ms k x ≡ x → selects (match_texts ms) m ≡ true → match_holds m (match_text x) ≡ true
+one_holds : (ms : List Match) (k : ℕ) (x : Match) (m : LabelMap) → k < length ms → get_or ms k x ≡ x → selects ms m ≡ true → match_holds m x ≡ true
 one_holds [] k x m within is holds = absurd (omega arith)
-one_holds (y ∷ ms) zero x m within is holds = subst (λ z. match_holds m (match_text z) ≡ true) is (both_parts _ _ holds).0
+one_holds (y ∷ ms) zero x m within is holds = subst (λ z. match_holds m z ≡ true) is (both_parts _ _ holds).0
 one_holds (y ∷ ms) (suc k) x m within is holds = one_holds ms k x m (omega arith) is (both_parts _ _ holds).1
 
 filter_twice : (p q : Listed → Bool) (xs : List Listed) → ((s : Listed) → p s ≡ true → q s ≡ true) → filter p (filter q xs) ≡ filter p xs
@@ -74,13 +72,13 @@ filter_twice p q (x ∷ xs) weaker =
     ] refl
 
 -- a walk over the list of such a matcher finds all that the selector picks
-pub walk_finds : (index : Index) (ms : List Matcher) (xs : List Listed) (list : List ℕ) → ((name value : List ℕ) → list_at index name value ≡ places_of name value xs) → Any (Narrows index list) ms → selected (match_texts ms) (filter_map (slice_get xs) list) ≡ selected (match_texts ms) xs
+pub walk_finds : (index : Index) (ms : List Match) (xs : List Listed) (list : List ℕ) → ((name value : List ℕ) → list_at index name value ≡ places_of name value xs) → Any (Narrows index list) ms → selected ms (filter_map (slice_get xs) list) ≡ selected ms xs
 walk_finds index ms xs list indexed (k, x, within, is, (asks, named)) =
-    let name = string_bytes x.name in
-    let value = string_bytes x.value in
-    ap (λ ps. selected (match_texts ms) (filter_map (slice_get xs) ps)) (named ∙ indexed name value)
-    ∙ ap (selected (match_texts ms)) (places_read name value xs)
-    ∙ filter_twice (λ s. selects (match_texts ms) s.labels) (λ s. has_label name value s.labels) xs (λ s h. match_has s.labels (match_text x) asks (one_holds ms k x s.labels within is h))
+    let name = x.name in
+    let value = x.value in
+    ap (λ ps. selected ms (filter_map (slice_get xs) ps)) (named ∙ indexed name value)
+    ∙ ap (selected ms) (places_read name value xs)
+    ∙ filter_twice (λ s. selects ms s.labels) (λ s. has_label name value s.labels) xs (λ s h. match_has s.labels x asks (one_holds ms k x s.labels within is h))
 
 filter_kept : (p q : Listed → Bool) (xs : List Listed) → ((s : Listed) → q s ≡ true → p s ≡ true) → filter p (filter q xs) ≡ filter q xs
 filter_kept p q [] stronger = refl
@@ -116,30 +114,30 @@ has_match m x asks has =
     ap (agrees x.op) ((bytes_eq-Decides (label_value m x.name) x.value).1 is) ∙ (both_parts _ _ asks).0
 
 -- where there is no other matcher, all streams in the list are picked
-pub one_picks : (index : Index) (ms : List Matcher) (xs : List Listed) (list : List ℕ) → ((name value : List ℕ) → list_at index name value ≡ places_of name value xs) → Any (Narrows index list) ms → length ms ≡ 1
-    → selected (match_texts ms) (filter_map (slice_get xs) list) ≡ filter_map (slice_get xs) list
+pub one_picks : (index : Index) (ms : List Match) (xs : List Listed) (list : List ℕ) → ((name value : List ℕ) → list_at index name value ≡ places_of name value xs) → Any (Narrows index list) ms → length ms ≡ 1
+    → selected ms (filter_map (slice_get xs) list) ≡ filter_map (slice_get xs) list
 one_picks index [] xs list indexed named one = absurd (no_element named) where
   no_element : Any (Narrows index list) [] → ⊥
   no_element (k, x, within, is, h) = omega (arith, within)
 one_picks index (x ∷ y ∷ ms) xs list indexed named one = absurd (omega (arith, one))
 one_picks index (x ∷ []) xs list indexed (k, y, within, is, (asks, named)) one =
     let same : y ≡ x = first_only k within is in
-    let name = string_bytes y.name in
-    let value = string_bytes y.value in
+    let name = y.name in
+    let value = y.value in
     let read : filter_map (slice_get xs) list ≡ filter (λ s. has_label name value s.labels) xs = ap (filter_map (slice_get xs)) (named ∙ indexed name value) ∙ places_read name value xs in
-    ap (selected (match_texts (x ∷ []))) read
-    ∙ filter_kept (λ s. selects (match_texts (x ∷ [])) s.labels) (λ s. has_label name value s.labels) xs
-    (λ s h. both _ true (subst (λ z. match_holds s.labels (match_text z) ≡ true) same (has_match s.labels (match_text y) asks h)) refl)
+    ap (selected (x ∷ [])) read
+    ∙ filter_kept (λ s. selects (x ∷ []) s.labels) (λ s. has_label name value s.labels) xs
+    (λ s h. both _ true (subst (λ z. match_holds s.labels z ≡ true) same (has_match s.labels y asks h)) refl)
     ∙ sym read where
       first_only : (k : ℕ) → k < length (x ∷ []) → get_or (x ∷ []) k y ≡ y → y ≡ x
       first_only zero within is = sym is
       first_only (suc k) within is = absurd (omega (arith, within))
 
 -- each place in such a list is that of a stream
-pub walk_within : (index : Index) (ms : List Matcher) (xs : List Listed) (list : List ℕ) → ((name value : List ℕ) → list_at index name value ≡ places_of name value xs) → Any (Narrows index list) ms → All (λ p. p < length xs) list
+pub walk_within : (index : Index) (ms : List Match) (xs : List Listed) (list : List ℕ) → ((name value : List ℕ) → list_at index name value ≡ places_of name value xs) → Any (Narrows index list) ms → All (λ p. p < length xs) list
 walk_within index ms xs list indexed (k, x, within, is, (asks, named)) =
-    let e : list ≡ places_of (string_bytes x.name) (string_bytes x.value) xs = named ∙ indexed (string_bytes x.name) (string_bytes x.value) in
-    subst (All (λ p. p < length xs)) (sym e) (places_within (string_bytes x.name) (string_bytes x.value) xs)
+    let e : list ≡ places_of x.name x.value xs = named ∙ indexed x.name x.value in
+    subst (All (λ p. p < length xs)) (sym e) (places_within x.name x.value xs)
 
 -- what follows from what a clause says of the value in an `Ok`
 pub ok_then : {X E : Type 0} (r : Result X E) (P Q : X → Type 0) → ((x : X) → P x → Q x) → IfOk r P → IfOk r Q

@@ -5,9 +5,7 @@ use Rattle.std.specs.BTreeMap.{BTreeMap, get_by_text}
 use Rattle.std.specs.declared.alloc.Global.{Global}
 use Rattle.std.specs.List.{list_any}
 use Rattle.ing_labels.specs.Labels.{Pair}
-use Rattle.ing_labels.specs.Selectors.{match_text, asks_for_value}
-use Rattle.ing_labels.specs.declared.matcher.Matcher.{Matcher}
-use Rattle.std.specs.String.{string_bytes}
+use Rattle.ing_labels.specs.Selectors.{Match, asks_for_value}
 use Rattle.ing_postings.specs.Streams.{is_pair}
 use Rattle.std.specs.declared.string.String.{String}
 
@@ -40,11 +38,11 @@ abbrev pub HasRooms : Index → List Pair → Type 0
 HasRooms index pairs = (name value : List ℕ) → IsTrue (list_any (is_pair name value) pairs) → IsTrue (has_room index name value)
 
 -- the matcher is `=` with a value, and the list is that of its name and value
-abbrev pub Narrows : Index → List ℕ → Matcher → Type 0
+abbrev pub Narrows : Index → List ℕ → Match → Type 0
 Narrows index list m =
-    (asks_for_value (match_text m) ≡ true) × (list ≡ list_at index (string_bytes m.name) (string_bytes m.value))
+    (asks_for_value m ≡ true) × (list ≡ list_at index m.name m.value)
 
 -- the list is no longer than the one of the matcher, if it is `=` with a value
-abbrev pub IsNoLonger : Index → List ℕ → Matcher → Type 0
+abbrev pub IsNoLonger : Index → List ℕ → Match → Type 0
 IsNoLonger index list m =
-    asks_for_value (match_text m) ≡ true → length list ≤ length (list_at index (string_bytes m.name) (string_bytes m.value))
+    asks_for_value m ≡ true → length list ≤ length (list_at index m.name m.value)

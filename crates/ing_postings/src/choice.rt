@@ -1,7 +1,7 @@
 //! Which streams a walk visits, and which of these it keeps.
 ghost use Rattle.std.specs.Prelude.{◌≡◌, ◌≤◌, ◌<◌, ◌⊎◌, IfOk, IfSome, IfNone, MatchOption, All, Any, false, length};
 ghost use Rattle.std.specs.List.{filter_map, slice_get};
-ghost use Rattle.ing_labels.specs.Selectors.{match_text, match_texts, asks_for_value};
+ghost use Rattle.ing_labels.specs.Selectors.{asks_for_value};
 ghost use Rattle.ing_postings.specs.Streams.{numbers_of, selected};
 ghost use Rattle.ing_postings.specs.Index.{Narrows, IsNoLonger};
 
@@ -27,12 +27,12 @@ fn shorter<'a>(before: Option<&'a [usize]>, list: &'a [usize]) -> &'a [usize]
 pub(crate) fn shortest_list<'a>(index: &'a Index, matchers: &[Matcher]) -> Option<&'a [usize]>
     ensures named { IfSome result (λ list. Any (Narrows index.now list.now) matchers.now) }
     ensures shortest { IfSome result (λ list. All (IsNoLonger index.now list.now) matchers.now) }
-    ensures none { IfNone result (All (λ m. asks_for_value (match_text m) ≡ false) matchers.now) }
+    ensures none { IfNone result (All (λ m. asks_for_value m ≡ false) matchers.now) }
 {
     let mut shortest = None;
     for matcher in matchers {
         if matcher.asks_for_value() {
-            let list = list_at(index, matcher.name.as_str(), matcher.value.as_str());
+            let list = list_at(index, matcher.name(), matcher.value());
             shortest = Some(shorter(shortest, list));
         }
     }
@@ -48,10 +48,10 @@ pub(crate) fn selected_at(
     selector: &Selector,
 ) -> Result<Vec<StreamNo>, AllocError>
     requires within { All (λ place. place < length streams.now) places.now }
-    requires one { length selector.now.matchers.items ≡ 1 → selected (match_texts selector.now.matchers.items) (filter_map (slice_get streams.now) places.now) ≡ filter_map (slice_get streams.now) places.now }
-    ensures { IfOk result (λ found. found.items ≡ numbers_of (selected (match_texts selector.now.matchers.items) (filter_map (slice_get streams.now) places.now))) }
+    requires one { length selector.now ≡ 1 → selected selector.now (filter_map (slice_get streams.now) places.now) ≡ filter_map (slice_get streams.now) places.now }
+    ensures { IfOk result (λ found. found.items ≡ numbers_of (selected selector.now (filter_map (slice_get streams.now) places.now))) }
 {
-    if selector.matchers.len() == 1 {
+    if selector.matchers().len() == 1 {
         return numbers_at(alloc, streams, places);
     }
     let mut found = Vec::new(alloc);
@@ -70,7 +70,7 @@ pub(crate) fn selected_of_all(
     streams: &[Listed],
     selector: &Selector,
 ) -> Result<Vec<StreamNo>, AllocError>
-    ensures { IfOk result (λ found. found.items ≡ numbers_of (selected (match_texts selector.now.matchers.items) streams.now)) }
+    ensures { IfOk result (λ found. found.items ≡ numbers_of (selected selector.now streams.now)) }
 {
     streams
         .iter()

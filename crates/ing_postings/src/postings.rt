@@ -4,7 +4,6 @@ ghost use Rattle.std.specs.List.{slice_get};
 ghost use Rattle.std.specs.List.Sorted.{IsStrictlyIncreasing};
 ghost use Rattle.std.specs.Option.{option_map};
 ghost use Rattle.ing_labels.specs.Labels.{IsLabelSet};
-ghost use Rattle.ing_labels.specs.Selectors.{match_texts};
 ghost use Rattle.ing_postings.specs.Streams.{numbers_of, selected, posted, postings_of};
 
 use crate::choice::{numbers_at, selected_at, selected_of_all, shortest_list};
@@ -118,10 +117,10 @@ impl Postings {
     /// such a matcher, which `Selector::parse` refuses, is tested on all streams. (Loki documentation: log
     /// stream selector; the walk is own.)
     pub fn select(&self, alloc: Global, selector: &Selector) -> Result<Vec<StreamNo>, AllocError>
-        ensures found { IfOk result (λ found. found.items ≡ numbers_of (selected (match_texts selector.now.matchers.items) self.now)) }
+        ensures found { IfOk result (λ found. found.items ≡ numbers_of (selected selector.now self.now)) }
         ensures rising { IfOk result (λ found. IsStrictlyIncreasing found.items) }
     {
-        match shortest_list(&self.index, &selector.matchers) {
+        match shortest_list(&self.index, selector.matchers()) {
             Some(places) => selected_at(alloc, &self.streams, places, selector),
             None => selected_of_all(alloc, &self.streams, selector),
         }

@@ -1,6 +1,6 @@
 //! Worked selections.
 use crate::{Postings, StreamNo};
-use ing_labels::{LabelLimits, Labels, MatchOp, Matcher, Selector};
+use ing_labels::{LabelLimits, Labels, Selector};
 use std::test::Fail;
 
 const WIDE: LabelLimits = LabelLimits {
@@ -93,26 +93,6 @@ fn all_matchers_hold(rt: HostRuntime) -> Result<(), Fail> {
     assert_eq!(rt;
         picked(&rt, &postings, "{app=\"web\", app=\"db\"}")?.as_slice(),
         [].as_slice()
-    );
-    Ok(())
-}
-
-// A selector that no text spells is tested on all streams.
-#[test]
-fn a_wide_selector_walks_over_all(rt: HostRuntime) -> Result<(), Fail> {
-    let postings = four_streams(&rt).ok_or("no memory")?;
-    let matcher = Matcher {
-        name: String::from_str(rt.alloc(), "env")?,
-        op: MatchOp::Differs,
-        value: String::from_str(rt.alloc(), "dev")?,
-    };
-    let mut matchers = Vec::new(rt.alloc());
-    matchers.push(matcher)?;
-    let selector = Selector { matchers };
-    let found = postings.select(rt.alloc(), &selector)?;
-    assert_eq!(rt;
-        found.as_slice(),
-        [StreamNo::new(3), StreamNo::new(7)].as_slice()
     );
     Ok(())
 }

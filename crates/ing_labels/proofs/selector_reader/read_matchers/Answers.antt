@@ -1,5 +1,4 @@
 use Rattle.std.proofs.Common.{◌+◌, ap, sym, ◌∙◌}
-use Rattle.ing_labels.specs.Selectors.{match_texts}
 use Rattle.ing_labels.specs.Reading.{readings_of, reading_of}
 use Rattle.ing_labels.proofs.Chars.{some_bytes}
 use Rattle.ing_labels.proofs.Ends.{one_more, bad_here, bad_end, good_end}
@@ -15,7 +14,7 @@ loop-c-preserved c =
 
 pub returns-in-Some-closed-clause-ok : goal.returns-in-Some-closed-clause-ok
 returns-in-Some-closed-clause-ok c =
-    good_end c.args.text.now _ _ (match_texts c.in-Some-closed.read.items) (reading_of c.loop-c.state) c.in-None.ensures.steps.0.0 c.in-Some-closed.ensures c.loop-c.invariant
+    good_end c.args.text.now _ _ c.in-Some-closed.read.items (reading_of c.loop-c.state) c.in-None.ensures.steps.0.0 c.in-Some-closed.ensures c.loop-c.invariant
 
 pub returns-in-None-closed-clause-fault : goal.returns-in-None-closed-clause-fault
 returns-in-None-closed-clause-fault c =

@@ -1,44 +1,40 @@
-use Rattle.std.proofs.Common.{◌≡◌, ◌≢◌, ◌==◌, false, length, None, Ok, arith, sym, ap, subst, ◌∙◌}
-use Rattle.std.specs.FinMap.{entries, from_entries, from_sorted}
-use Rattle.ing_labels.specs.Labels.{name_order, texts, with_values, first_bad_name, labels_of, IsLabelSet, HoldsPairs, KeepsLimits, first_repeated_name, first_long_name, first_long_value}
-use Rattle.ing_labels.proofs.Kept.{holds_pairs, keeps_limits}
-use Rattle.ing_labels.specs.Texts.{entry_texts}
-use Rattle.ing_labels.proofs.Made.{from_sorted-entries, label_set}
+use Rattle.std.proofs.Common.{◌≡◌, Ok, Err, refl, sym, ◌∙◌}
+use Rattle.ing_labels.specs.Labels.{LabelMap, texts, labels_of, HoldsPairs, KeepsLimits}
+use Rattle.ing_labels.specs.declared.fault.LabelFault.{LabelFault}
+use Rattle.ing_labels.proofs.Tested.{in_order, labels_in_order, labels_of-kept, made_in_order, tested, ok_then, not_both}
 use Rattle.ing_labels.proofs.label_set.Labels.of_pairs.Goals as goal
 
--- the map that the values spell
-held : (c : goal.In_ok-values) → from_sorted (entry_texts c.in_ok-values.values.entries) ≡ from_entries {R = name_order} (with_values (texts c.args.pairs.now))
-held c = ap from_sorted c.in_ok-values.ensures ∙ from_sorted-entries (from_entries (with_values (texts c.args.pairs.now)))
+pub returns-in-Some-kept_fault-clause-fault : goal.returns-in-Some-kept_fault-clause-fault
+returns-in-Some-kept_fault-clause-fault c = λ _.
+    labels_of-kept c.args.limits.now (texts c.args.pairs.now) _ (sym c.first_bad_name.ensures ∙ c.in_default.is) (in_order (texts c.args.pairs.now) (sym c.names_rise.ensures ∙ c.if-names_rise.true)).apart c.in-Some-kept_fault.ensures
 
-made_labels : (c : goal.In_ok-values) → IsLabelSet (from_sorted (entry_texts c.in_ok-values.values.entries))
-made_labels c =
-    let pairs = texts c.args.pairs.now in
-    let good : first_bad_name pairs ≡ None = sym c.first_bad_name.ensures ∙ c.in_default.is in
-    let counted : length (with_values pairs) ≢ 0 = omega arith in
-    let some : (length (with_values pairs) == 0) ≡ false = grind (arith, counted) in
-    subst IsLabelSet (sym (held c)) (label_set pairs good some)
+pub returns-in-Some-kept_fault-clause-rising : goal.returns-in-Some-kept_fault-clause-rising
+returns-in-Some-kept_fault-clause-rising c = λ _ e said.
+    sym (labels_of-kept c.args.limits.now (texts c.args.pairs.now) _ (sym c.first_bad_name.ensures ∙ c.in_default.is) (in_order (texts c.args.pairs.now) (sym c.names_rise.ensures ∙ c.if-names_rise.true)).apart c.in-Some-kept_fault.ensures) ∙ said
 
-pub invariant_of-result : goal.invariant_of-result
-invariant_of-result c = record { in_order = ap entries (held c) ∙ sym c.in_ok-values.ensures; labels = made_labels c }
+pub in_order-requires : goal.in_order-requires
+in_order-requires c =
+    labels_in_order c.args.limits.now (texts c.args.pairs.now) (sym c.first_bad_name.ensures ∙ c.in_default.is) (sym c.names_rise.ensures ∙ c.if-names_rise.true) c.in_default-kept_fault.ensures
 
-pub returns-clause-labels : goal.returns-clause-labels
-returns-clause-labels c =
-    let made : labels_of c.args.limits.now (texts c.args.pairs.now) ≡ Ok (from_entries (with_values (texts c.args.pairs.now))) = grind arith in
-    made ∙ ap Ok (sym (held c))
+pub returns-in_err-in_order-clause-rising : goal.returns-in_err-in_order-clause-rising
+returns-in_err-in_order-clause-rising c = λ _ e said.
+    absurd (not_both _ e (made_in_order c.args.limits.now (texts c.args.pairs.now) _ (sym c.first_bad_name.ensures ∙ c.in_default.is) (sym c.names_rise.ensures ∙ c.if-names_rise.true) c.in_default-kept_fault.ensures refl) said)
 
-pub returns-clause-label_set : goal.returns-clause-label_set
-returns-clause-label_set c = made_labels c
+pub returns-then-names_rise-clause-labels : goal.returns-then-names_rise-clause-labels
+returns-then-names_rise-clause-labels c =
+    made_in_order c.args.limits.now (texts c.args.pairs.now) _ (sym c.first_bad_name.ensures ∙ c.in_default.is) (sym c.names_rise.ensures ∙ c.if-names_rise.true) c.in_default-kept_fault.ensures c.in_ok-in_order.ensures
+
+pub returns-then-names_rise-clause-rising : goal.returns-then-names_rise-clause-rising
+returns-then-names_rise-clause-rising c = λ _ e said. absurd (not_both _ e (returns-then-names_rise-clause-labels c) said)
+
+pub returns-then-names_rise-clause-pairs : goal.returns-then-names_rise-clause-pairs
+returns-then-names_rise-clause-pairs c = (tested c.args.limits.now (texts c.args.pairs.now) _ (returns-then-names_rise-clause-labels c)).pairs
+
+pub returns-then-names_rise-clause-limits : goal.returns-then-names_rise-clause-limits
+returns-then-names_rise-clause-limits c = (tested c.args.limits.now (texts c.args.pairs.now) _ (returns-then-names_rise-clause-labels c)).kept
 
 pub returns-clause-pairs : goal.returns-clause-pairs
-returns-clause-pairs c =
-    let pairs = texts c.args.pairs.now in
-    let apart : first_repeated_name pairs ≡ None = sym c.in_ok-at.ensures ∙ c.in_default-2.is in
-    subst (HoldsPairs pairs) (sym (held c)) (holds_pairs pairs apart)
+returns-clause-pairs c = ok_then c.of_unordered.result _ (HoldsPairs (texts c.args.pairs.now)) (λ m said. (tested _ _ m said).pairs) c.of_unordered.ensures.labels
 
 pub returns-clause-limits : goal.returns-clause-limits
-returns-clause-limits c =
-    let limits = c.args.limits.now in
-    let pairs = texts c.args.pairs.now in
-    let names : first_long_name limits.name_bytes pairs ≡ None = sym c.first_long_name.ensures ∙ c.in_default-first_long_name.is in
-    let values : first_long_value limits.value_bytes pairs ≡ None = sym c.first_long_value.ensures ∙ c.in_default-first_long_value.is in
-    subst (KeepsLimits limits) (sym (held c)) (keeps_limits limits pairs (omega arith) names values)
+returns-clause-limits c = ok_then c.of_unordered.result _ (KeepsLimits c.args.limits.now) (λ m said. (tested c.args.limits.now (texts c.args.pairs.now) m said).kept) c.of_unordered.ensures.labels
