@@ -1,7 +1,7 @@
 # run: the program on standard input, with SETTINGS=FILE by that settings file.   build: the program, with all that it calls proved.
-# test: the whole gate, from nothing.   check: proves what has changed, while editing.
+# test: the whole gate, from nothing, after a look that the documents show their cases.   check: proves what has changed, while editing.
 # bench: figures of time, to be read (bench/README.md).
-.PHONY: run build check test bench
+.PHONY: run build check test bench documents
 program = crates/ingestd/out/ingestd
 postings_figures = crates/bench_postings/out/bench_postings
 sources = crates.txt $(shell find crates -name out -prune -o \( -name '*.rt' -o -name '*.antt' \) -print)
@@ -19,8 +19,19 @@ $(program): $(sources)
 check:
 	rt all check
 
-test:
+test: documents
 	rt ci
+
+# A case with a file `document` stands in that page: each line of it, indented by four spaces.
+documents:
+	@for page in crates/ing_cases/data/*/document; do \
+	  folder=$${page%/document}; \
+	  for file in settings.toml input.jsonl output.jsonl; do \
+	    [ ! -e "$$folder/$$file" ] || sed '/^$$/d; s/^/    /' "$$folder/$$file" | while IFS= read -r line || [ -n "$$line" ]; do \
+	      grep -qxF -e "$$line" "$$(cat "$$page")" || { echo "$$(cat "$$page") does not show $$folder/$$file"; exit 1; }; \
+	    done || exit 1; \
+	  done; \
+	done
 
 bench: $(postings_figures)
 	@$(postings_figures) times 10000 30000 100000

@@ -12,23 +12,16 @@ pub struct Case {
     output: Vec<u8>,
     /// The exit status, a line feed, and what is written to standard error.
     ending: Vec<u8>,
-    /// The document that shows the case, if one does.
-    document: Option<Vec<u8>>,
 }
 
 impl Case {
     /// The case in the folder of this name.
     pub fn read<F: Files + AllocGlobal>(rt: &F, name: &str) -> Result<Case> {
-        let document = match text_at(rt, name, "document") {
-            Ok(shown_in) => Some(text_at(rt, "documents", shown_in.as_str())?.into_bytes()),
-            Err(_) => None,
-        };
         Ok(Case {
             settings: bytes_or(rt, name, "settings.toml", b"")?,
             input: bytes_at(rt, name, "input.jsonl")?,
             output: bytes_at(rt, name, "output.jsonl")?,
             ending: bytes_or(rt, name, "ending", b"0\n")?,
-            document,
         })
     }
 
@@ -47,35 +40,8 @@ impl Case {
         if ending != self.ending {
             return Ok(Some("ending"));
         }
-        if !self.is_shown() {
-            return Ok(Some("document"));
-        }
         Ok(None)
     }
-
-    /// Whether the document, if there is one, has each line.
-    fn is_shown(&self) -> bool {
-        match &self.document {
-            Some(document) => {
-                shows(document, &self.settings)
-                    && shows(document, &self.input)
-                    && shows(document, &self.output)
-            }
-            None => true,
-        }
-    }
-}
-
-/// Whether a document has each of these lines, indented by four spaces. Empty lines do not count.
-fn shows(document: &[u8], lines: &[u8]) -> bool {
-    lines
-        .split(|byte| *byte == b'\n')
-        .all(|line| line.is_empty() || has_line(document, line))
-}
-
-fn has_line(document: &[u8], line: &[u8]) -> bool {
-    document.split(|byte| *byte == b'\n').any(|shown| shown.strip_prefix(b"    ".as_slice())
-        == Some(line))
 }
 
 fn bytes_at<F: Files + AllocGlobal>(rt: &F, folder: &str, file: &str) -> io::Result<Vec<u8>> {
@@ -93,9 +59,4 @@ fn bytes_or<F: Files + AllocGlobal>(
         Err(error) if error.kind() == io::ErrorKind::NotFound => { Ok(absent.to_vec(rt.alloc())?) }
         read => read,
     }
-}
-
-fn text_at<F: Files + AllocGlobal>(rt: &F, folder: &str, file: &str) -> io::Result<String> {
-    let path = format!(in rt.alloc(); "{folder}/{file}")?;
-    fs::read_to_string(rt, path.as_str())
 }

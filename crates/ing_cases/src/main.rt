@@ -1,7 +1,7 @@
 //! Runs the cases in the folder that it is started in, and says how many there are. A case is a folder with
-//! `input.jsonl` and `output.jsonl`, what a session reads and writes, and where there is more to say `settings.toml`,
-//! `ending` (the exit status, and then what standard error gets) and `document` (the file in the folder `documents` in
-//! which each line of input, settings and output stands, indented by four spaces).
+//! `input.jsonl` and `output.jsonl`, what a session reads and writes, and where there is more to say `settings.toml` and
+//! `ending` (the exit status, and then what standard error gets). A file `document` names a page that shows the case, which
+//! `make test` looks after.
 #![tactic(auto)]
 
 mod case;
@@ -12,9 +12,6 @@ use anyhow::{Result, bail};
 use case::Case;
 use std::fs;
 use std::rt::Files;
-
-/// The folder of the documents: no case.
-const DOCUMENTS: &str = "documents";
 
 fn main(rt: HostRuntime) -> Result<()> {
     let names = case_names(&rt)?;
@@ -36,10 +33,7 @@ fn main(rt: HostRuntime) -> Result<()> {
 fn case_names<F: Files + AllocGlobal + Clone + Drop>(rt: &F) -> Result<Vec<String>> {
     let mut names = Vec::new(rt.alloc());
     for entry in fs::read_dir(rt, ".")? {
-        let entry = entry?;
-        if entry.file_name() != DOCUMENTS {
-            names.push(String::from_str(rt.alloc(), entry.file_name())?)?;
-        }
+        names.push(String::from_str(rt.alloc(), entry?.file_name())?)?;
     }
     names.sort()?;
     Ok(names)

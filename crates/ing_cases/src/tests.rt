@@ -1,6 +1,9 @@
 //! What no file can say: readers and writers that fail or watch one another, settings files, lines of 16 MiB, and a
 //! refused allocation.
+mod labels;
+mod postings;
 mod settings;
+mod shard;
 
 use ing_limits::Settings;
 use ing_session::{Ending, conclude, run, start};

@@ -24,6 +24,3 @@ pub use matcher::{MatchOp, Matcher};
 pub use pairs::Pairs;
 pub use selector::Selector;
 pub use text_fault::TextFault;
-
-#[cfg(test)]
-mod tests;

@@ -10,6 +10,3 @@ mod stream_no;
 pub use listed::Listed;
 pub use postings::Postings;
 pub use stream_no::StreamNo;
-
-#[cfg(test)]
-mod tests;

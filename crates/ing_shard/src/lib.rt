@@ -6,6 +6,3 @@ mod shard;
 
 pub use fault::PushFault;
 pub use shard::{Pushed, Shard};
-
-#[cfg(test)]
-mod tests;

@@ -1,6 +1,6 @@
 //! Worked selections.
-use crate::{Postings, StreamNo};
 use ing_labels::{LabelLimits, Labels, Selector};
+use ing_postings::{Postings, StreamNo};
 use std::test::Fail;
 
 const WIDE: LabelLimits = LabelLimits {

@@ -1,5 +1,5 @@
 //! Worked lists of pairs, and worked texts.
-use crate::{LabelFault, LabelLimits, Labels, Selector, TextFault};
+use ing_labels::{LabelFault, LabelLimits, Labels, Selector, TextFault};
 use std::test::Fail;
 
 const WIDE: LabelLimits = LabelLimits {

@@ -1,9 +1,9 @@
 //! The calls that take memory, once each, what a refusal leaves, and pushes of the sizes at the ends of their range.
-use super::*;
 use ing_labels::{LabelLimits, Labels};
 use ing_limits::Settings;
 use ing_refusals::Refusal;
 use ing_rows::{Entry, Line, Stamp, Tenant, Verdict};
+use ing_shard::{PushFault, Shard};
 use std::alloc::Global;
 use std::test::Fail;
 
