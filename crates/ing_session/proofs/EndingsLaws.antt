@@ -1,5 +1,5 @@
 -- Faults as the endings that they become.
-use Rattle.std.proofs.Common.{◌≡◌, ◌≢◌, Result, Ok, Err, sym, ◌∙◌}
+use Rattle.std.proofs.Common.{◌≡◌, ◌≢◌, Result, Err}
 use Rattle.ing_session.specs.declared.lines.LineError.{LineError}
 use Rattle.ing_session.specs.declared.lines.LineError.TheVariants as lines
 use Rattle.ing_session.specs.declared.ending.Ending.{Ending}

@@ -1,5 +1,5 @@
 -- One more line of the input is answered, or the run ends.
-use Rattle.std.proofs.Common.{◌≡◌, ℕ, ◌<◌, ◌≤◌, Bool, true, false, List, [], ◌∷◌, ◌++◌, length, refl, sym, ap, subst, ◌∙◌, arith, append_assoc, append-nil, None, Some}
+use Rattle.std.proofs.Common.{◌≡◌, ℕ, ◌<◌, Bool, true, false, List, [], ◌∷◌, ◌++◌, length, refl, sym, ap, subst, ◌∙◌, arith, append_assoc, append-nil, None, Some}
 use Rattle.std.specs.Prelude.{Option}
 use Rattle.std.specs.List.{AllByRecursion, flat_map}
 use Rattle.std.specs.Io.KnownBytes.{Appends, Keeps, Consumes, IsAtEnd}
@@ -10,7 +10,7 @@ use Rattle.ing_rows.specs.Rows.{State, empty_state}
 use Rattle.ing_shard.specs.Contents.{Contents, Stands}
 use Rattle.ing_session.specs.declared.command.fault.LineFault.TheVariants.{BadCommand}
 use Rattle.ing_session.specs.declared.lines.NextLine.TheVariants.{Line, TooLong, End}
-use Rattle.ing_session.specs.Lines.{lines_of, with_feed, EndsLine, TakesFirst, TakesLine}
+use Rattle.ing_session.specs.Lines.{lines_of, with_feed, EndsLine, TakesLine}
 use Rattle.ing_session.specs.Parts.{HasNoFeed, max_line}
 use Rattle.ing_session.specs.Replies.{line_text}
 use Rattle.ing_session.specs.Session.{is_long, line_fault, answer_to, after_line, report_of, answers_from, answers_of, state_after, output_of}

@@ -1,5 +1,5 @@
 -- What a run has written by the time it ends, and while it goes on.
-use Rattle.std.specs.Prelude.{◌≡◌, ℕ, false, true, Bool, List, [], ◌++◌, Option, Some, None, ⊤}
+use Rattle.std.specs.Prelude.{◌≡◌, ℕ, false, true, Bool, List, [], ◌++◌, Option, Some, None}
 use Rattle.std.specs.List.{AllByRecursion, flat_map}
 use Rattle.std.specs.Io.KnownBytes.{Appends, Consumes, append_known}
 use Rattle.ing_rows.specs.Rows.{empty_state}
@@ -7,7 +7,7 @@ use Rattle.ing_limits.specs.Settings.{StoreSettings}
 use Rattle.ing_shard.specs.Contents.{Contents, Stands}
 use Rattle.ing_session.specs.Lines.{lines_of, with_feed}
 use Rattle.ing_session.specs.Parts.{HasNoFeed}
-use Rattle.ing_session.specs.Session.{answers_of, state_after, output_of}
+use Rattle.ing_session.specs.Session.{answers_of, state_after}
 
 -- Where a read failed: the answers to all lines that were read whole, with their line feeds, and nothing else.
 pub record AnswersWhatWasRead (settings : StoreSettings) (input : List ℕ) (rest old new : Option (List ℕ)) : Type 0 where

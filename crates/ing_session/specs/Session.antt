@@ -1,7 +1,6 @@
 -- What is written for an input: by the model alone, from the bytes read to the bytes written.
-use Rattle.std.specs.Prelude.{◌≡◌, ℕ, ◌+◌, ◌-◌, ◌^◌, List, [], ◌∷◌, ◌++◌, length, codes, Bool, false, ◌||◌, ◌==◌, nat_lt, if◌then◌else◌, Option, Some, None, Result, Ok, Err}
+use Rattle.std.specs.Prelude.{ℕ, ◌-◌, List, [], ◌∷◌, ◌++◌, length, Bool, false, ◌||◌, ◌==◌, nat_lt, if◌then◌else◌, None, Result, Ok, Err}
 use Rattle.std.specs.List.{list_all}
-use Rattle.std.specs.Io.KnownBytes.{Appends}
 use Rattle.serde_json.specs.Data.{Data}
 use Rattle.ing_labels.specs.declared.fault.LabelLimits.{LabelLimits}
 use Rattle.ing_labels.specs.declared.fault.LabelFault.{LabelFault}
@@ -12,7 +11,6 @@ use Rattle.ing_rows.specs.declared.rules.Rules.{Rules}
 use Rattle.ing_rows.specs.Rows.{State, empty_state}
 use Rattle.ing_rows.specs.Events.{is_full}
 use Rattle.ing_rows.specs.Steps.{verdicts_of, after_push}
-use Rattle.ing_shard.specs.Contents.{Stands}
 use Rattle.ing_limits.specs.Settings.{StoreSettings}
 use Rattle.ing_limits.specs.Ranges.{rules_for}
 use Rattle.ing_shard.specs.Contents.{stream_of, stored_count}
@@ -22,7 +20,7 @@ use Rattle.ing_session.specs.declared.command.fault.LineFault.TheVariants.{BadCo
 use Rattle.ing_session.specs.Faults.{refusal_of}
 use Rattle.ing_refusals.specs.declared.refusal.Refusal.TheVariants.{TooManyEntries, CounterFull}
 use Rattle.ing_session.specs.Commands.{Command, Push, command_of}
-use Rattle.ing_session.specs.PushCommands.{PushCommand, StreamEntries}
+use Rattle.ing_session.specs.PushCommands.{StreamEntries}
 use Rattle.ing_session.specs.Lines.{lines_of}
 use Rattle.ing_session.specs.Parts.{max_line}
 use Rattle.ing_session.specs.Replies.{fault_data, judged_data, push_data, report_data, line_text}

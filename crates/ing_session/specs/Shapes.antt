@@ -1,5 +1,5 @@
 -- Which texts, arrays and objects stand where in a JSON value. Another shape is a bad command.
-use Rattle.std.specs.Prelude.{ℕ, List, [], ◌∷◌, option_and_then, Result, Ok, Err}
+use Rattle.std.specs.Prelude.{ℕ, List, [], ◌∷◌, option_and_then, Result, Ok}
 use Rattle.std.specs.Option.{ok_or}
 use Rattle.serde_json.specs.Data.{Data, Items, no_items, item, Members}
 use Rattle.serde_json.specs.Find.{get, as_str, as_array, as_object}

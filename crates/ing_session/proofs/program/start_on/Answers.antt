@@ -1,4 +1,4 @@
-use Rattle.std.proofs.Common.{◌≡◌, inr, Ok, Err}
+use Rattle.std.proofs.Common.{◌≡◌, inr, Ok}
 use Rattle.std.proofs.lemmas.Result.{on_ok_weaker}
 use Rattle.std.specs.Io.KnownBytes.{Appends}
 use Rattle.ing_limits.specs.Settings.{StoreSettings}

@@ -1,4 +1,4 @@
-use Rattle.std.proofs.Common.{◌≡◌, ◌-◌, ◌^◌, List, []}
+use Rattle.std.proofs.Common.{◌-◌, ◌^◌}
 use Rattle.std.specs.Prelude.{IfSome}
 use Rattle.ing_session.specs.Runs.{with_replies, ServesKnown}
 use Rattle.ing_session.specs.Unread.{left, is_ended, progress}

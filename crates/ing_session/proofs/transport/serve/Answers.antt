@@ -1,7 +1,6 @@
-use Rattle.std.proofs.Common.{◌≡◌, ◌++◌, sym, subst}
+use Rattle.std.proofs.Common.{◌≡◌, ◌++◌, subst}
 use Rattle.std.proofs.lemmas.Result.{err_from_is_err_and}
 use Rattle.ing_shard.specs.Contents.{Stands}
-use Rattle.ing_session.specs.Runs.{with_replies}
 use Rattle.ing_session.specs.Session.{answer_to, after_line}
 use Rattle.ing_session.specs.Unread.{left, is_ended}
 use Rattle.ing_session.proofs.EndingsLaws.{no_output}

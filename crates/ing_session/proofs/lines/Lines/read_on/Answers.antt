@@ -1,8 +1,8 @@
-use Rattle.std.proofs.Common.{◌≡◌, [], false, sym, ◌∙◌, arith}
+use Rattle.std.proofs.Common.{◌∙◌, arith}
 use Rattle.std.proofs.lemmas.Result.{err_from_is_err_and}
 use Rattle.std.specs.Io.KnownBytes.{prepend_known}
-use Rattle.ing_session.specs.Unread.{unread, left, is_ended}
-use Rattle.ing_session.proofs.LinesLaws.{starts, keeps_left, filled, goes_on, ends, is_last, passed_more, passed_kept, passed_known}
+use Rattle.ing_session.specs.Unread.{unread, left}
+use Rattle.ing_session.proofs.LinesLaws.{keeps_left, filled, goes_on, ends, is_last, passed_more, passed_kept}
 use Rattle.ing_session.proofs.lines.Lines.read_on.Goals as goal
 
 -- the read failed, and what was read before it has no line feed
