@@ -22,8 +22,13 @@ check:
 test: documents
 	rt ci
 
-# A case with a file `document` stands in that page: each line of it, indented by four spaces.
+# A case with a file `document` stands in that page: each line of it, indented by four spaces. An example is the input of a
+# case.
 documents:
+	@for example in examples/*.jsonl; do \
+	  cmp "$$example" "crates/ing_cases/data/example_$$(basename "$$example" .jsonl)/input.jsonl" || exit 1; \
+	done
+	@cmp examples/settings.toml crates/ing_cases/data/example_first_push/settings.toml
 	@for page in crates/ing_cases/data/*/document; do \
 	  folder=$${page%/document}; \
 	  for file in settings.toml input.jsonl output.jsonl; do \
