@@ -11,6 +11,6 @@ mod session;
 mod transport;
 
 pub use ending::Ending;
-pub use lines::{LineError, Lines, NextLine, lines_end_at_line_feeds};
+pub use lines::{LineError, Lines, NextLine, Part, lines_end_at_line_feeds};
 pub use program::{conclude, start, start_on};
 pub use transport::run;
