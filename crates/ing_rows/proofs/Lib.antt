@@ -1,7 +1,12 @@
+mod ApartLaws
 mod Digits
+mod FactLaws
 mod Keys
-mod PlainLaws
+mod MarkLaws
+mod PartLaws
 mod PushLaws
 mod Reordered
 mod SameLaws
+mod SealLaws
 mod SoundLaws
+mod TurnLaws

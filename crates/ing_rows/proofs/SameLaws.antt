@@ -22,7 +22,7 @@ use Rattle.ing_rows.proofs.SoundLaws.{count_reordered, entry_sound}
 
 -- ---- the greatest stamp
 
-greatest_reordered : (xs ys : List Row) → IsPermutation xs ys → greatest_stamp xs ≡ greatest_stamp ys
+pub greatest_reordered : (xs ys : List Row) → IsPermutation xs ys → greatest_stamp xs ≡ greatest_stamp ys
 greatest_reordered = same_value greatest_stamp (λ a x y h. ap (max a.entry.stamp) h) (λ a b l. exchanged a.entry.stamp b.entry.stamp (greatest_stamp l)) where
   exchanged : (a b c : ℕ) → max a (max b c) ≡ max b (max a c)
   exchanged a b c = omega arith
@@ -213,7 +213,7 @@ full_same a b s more same =
 
 -- ---- where an entry goes
 
-short_same : {X : Type 0} (xs ys : List X) → IsPermutation xs ys → length xs ≤ 1 → xs ≡ ys
+pub short_same : {X : Type 0} (xs ys : List X) → IsPermutation xs ys → length xs ≤ 1 → xs ≡ ys
 short_same {X} =
     along (λ x y. length x ≤ 1 → x ≡ y) (λ l short. refl) skip exchange (λ x y z h k short. h short ∙ k (subst (λ l. length l ≤ 1) (h short) short)) where
       skip : (a : X) (x y : List X) → (length x ≤ 1 → x ≡ y) → length (a ∷ x) ≤ 1 → a ∷ x ≡ a ∷ y
@@ -222,7 +222,7 @@ short_same {X} =
       exchange : (a b : X) (l : List X) → length (a ∷ b ∷ l) ≤ 1 → a ∷ b ∷ l ≡ b ∷ a ∷ l
       exchange a b l short = absurd (omega arith)
 
-abbrev first : {X : Type 0} → List X → Option X
+abbrev pub first : {X : Type 0} → List X → Option X
 first [] = None
 first (x ∷ xs) = Some x
 
@@ -306,7 +306,7 @@ module _ (rules : Rules) (s : StreamKey) (now : ℕ) where
         marks = IsPermutation-map (λ m. cond (is_mark_of s chunk m) (record m { reason = Some Full }) m) a.marks b.marks same.marks;
       }) same
 
-  accepted_same : (e : Entry) (a b : State) → IsSound a → IsSame a b → IsSame (accepted rules s e now a) (accepted rules s e now b)
+  pub accepted_same : (e : Entry) (a b : State) → IsSound a → IsSame a b → IsSame (accepted rules s e now a) (accepted rules s e now b)
   accepted_same e a b sound same =
       let chunk = chunk_for a s in
       subst (λ k. IsSame (accepted rules s e now a) (filled rules s k (cut rules s k (added b s e now)))) (chunk_same a b sound same)

@@ -14,7 +14,7 @@ use Rattle.ing_rows.specs.declared.verdict.Verdict.{Verdict}
 use Rattle.ing_rows.specs.Rows.{StreamKey, Row, Mark, State, IsSame, same_stream, rows_of, count_of, empty_state}
 use Rattle.ing_rows.specs.Verdicts.{verdict_of, accepted_number}
 use Rattle.ing_rows.specs.Gauges.{spots_of, StandsOnce}
-use Rattle.ing_rows.specs.Steps.{moved, is_growing, is_mark_of, in_head, chunk_for, marks_for, added, cut, filled, after_entry, after_push}
+use Rattle.ing_rows.specs.Steps.{moved, is_growing, is_mark_of, in_head, chunk_for, marks_for, added, cut, filled, accepted, after_entry, after_push}
 use Rattle.ing_rows.specs.Sound.{IsSound}
 use Rattle.ing_rows.proofs.Keys.{stream_same}
 use Rattle.ing_rows.proofs.Reordered.{filter_reordered}
@@ -89,7 +89,7 @@ module _ (test : Row → Bool) (place : Place) where
   pub moved_count : (rows : List Row) (s : StreamKey) → count_of (moved test place rows) s ≡ count_of rows s
   moved_count rows s = count_mapped (λ r. same_stream r.stream s) put (stays_for (λ r. same_stream r.stream s) (λ r. refl)) rows
 
-  moved_once : (rows : List Row) → ((s : StreamKey) → StandsOnce rows s (count_of rows s)) → (s : StreamKey) → StandsOnce (moved test place rows) s (count_of (moved test place rows) s)
+  pub moved_once : (rows : List Row) → ((s : StreamKey) → StandsOnce rows s (count_of rows s)) → (s : StreamKey) → StandsOnce (moved test place rows) s (count_of (moved test place rows) s)
   moved_once rows once s q =
       let p : Row → Bool = λ r. same_stream r.stream s && nat_eq r.number q in
       count_mapped p put (stays_for p (λ r. refl)) rows ∙ once s q ∙ ap (λ n. cond (nat_lt q n) 1 0) (sym (moved_count rows s))
@@ -152,10 +152,13 @@ module _ (rules : Rules) (s : StreamKey) (now : ℕ) where
       cond_sound _ _ st
       (record { once = moved_once (in_head s chunk) Block st.rows h.once; one_growing = λ t. sealed_grow s chunk Full t st.marks (h.one_growing t) }) h
 
-  pub entry_sound : (e : Entry) (v : Verdict) (old : State) → IsSound old → IsSound (after_entry rules s e now v old)
-  entry_sound e v old h =
+  pub accepted_sound : (e : Entry) (old : State) → IsSound old → IsSound (accepted rules s e now old)
+  accepted_sound e old h =
       let chunk = chunk_for old s in
-      cond_sound (is_some (accepted_number v)) _ old (filled_sound chunk (cut rules s chunk (added old s e now)) (cut_sound chunk (added old s e now) (added_sound e old h))) h
+      filled_sound chunk (cut rules s chunk (added old s e now)) (cut_sound chunk (added old s e now) (added_sound e old h))
+
+  pub entry_sound : (e : Entry) (v : Verdict) (old : State) → IsSound old → IsSound (after_entry rules s e now v old)
+  entry_sound e v old h = cond_sound (is_some (accepted_number v)) _ old (accepted_sound e old h) h
 
   pub push_sound : (es : List Entry) (old : State) → IsSound old → IsSound (after_push rules s now es old)
   push_sound [] old h = h

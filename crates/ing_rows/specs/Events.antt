@@ -2,11 +2,11 @@
 -- What names no section of the Loki documentation is own.
 use Rattle.std.specs.Prelude.{◌≡◌, ℕ, ◌+◌, ◌-◌, ◌^◌, ◌<◌, ◌≤◌, Bool, true, false, ◌&&◌, ◌||◌, List, [], ◌∷◌, ◌++◌, filter, length, ◌==◌, nat_lt, nat_le, is_some, Option, Some, None}
 use Rattle.ing_rows.specs.declared.entry.Entry.{Entry}
-use Rattle.ing_rows.specs.declared.place.SealReason.TheVariants.{Forced}
+use Rattle.ing_rows.specs.declared.place.SealReason.{SealReason}
 use Rattle.ing_rows.specs.declared.rules.Rules.{Rules}
 use Rattle.ing_rows.specs.declared.verdict.Verdict.{Verdict}
 use Rattle.ing_rows.specs.Rows.{StreamKey, Mark, State, IsSame, count_of, streams_of, chunk_starts}
-use Rattle.ing_rows.specs.Steps.{Pushes, due_of, seal_of, Sweeps, SealsAll, Claims, ClaimsNone, Finishes, GivesBack}
+use Rattle.ing_rows.specs.Steps.{Pushes, due_by, seal_of, forced, Sweeps, SealsAll, Claims, ClaimsNone, Finishes, GivesBack}
 use Rattle.ing_rows.specs.Verdicts.{accepted_number}
 use Rattle.ing_rows.specs.Kept.{Numbered}
 
@@ -43,13 +43,17 @@ is_full st s more =
 abbrev pub due_count : (Mark → Bool) → List Mark → ℕ
 due_count is_due marks = length (filter is_due marks)
 
+-- how many of the growing chunks have a reason
+abbrev pub sealed_count : (Mark → Option SealReason) → List Mark → ℕ
+sealed_count why marks = due_count (λ m. is_some (seal_of why m)) marks
+
 -- From old, the shard may give this reply to the event and go on to new; rules gives each tenant's, by its bytes.
 abbrev pub Step : (List ℕ → Rules) → State → Event → Reply → State → Type 0
 Step rules old (Push s now es) TooManyEntries new = ((rules s.tenant).max_entries_per_push < length es) × IsSame new old
 Step rules old (Push s now es) CounterFull new = (length es ≤ (rules s.tenant).max_entries_per_push) × (is_full old s (length es) ≡ true) × IsSame new old
 Step rules old (Push s now es) (Judged vs) new = (length es ≤ (rules s.tenant).max_entries_per_push) × (is_full old s (length es) ≡ false) × Pushes (rules s.tenant) s now es vs old new
-Step rules old (Sweep now) (Sealed n) new = (n ≡ due_count (λ m. is_some (seal_of (λ k. due_of (rules k.stream.tenant) now old.rows k) m)) old.marks) × Sweeps rules now old new
-Step rules old SealAll (Sealed n) new = (n ≡ due_count (λ m. is_some (seal_of (λ k. Some Forced) m)) old.marks) × SealsAll old new
+Step rules old (Sweep now) (Sealed n) new = (n ≡ sealed_count (due_by rules now old.rows) old.marks) × Sweeps rules now old new
+Step rules old SealAll (Sealed n) new = (n ≡ sealed_count forced old.marks) × SealsAll old new
 Step rules old (Claim s) (Claimed chunk f) new = Claims s chunk f old new
 Step rules old (Claim s) NothingToClaim new = ClaimsNone s old new
 Step rules old (Finish s chunk f key) Finished new = Finishes s chunk f key old new

@@ -1,21 +1,10 @@
 -- Gauges as sums over all rows, and where a number of a stream is found.
 -- What names no section of the Loki documentation is own.
 use Rattle.std.specs.Prelude.{◌≡◌, ℕ, Bool, ◌&&◌, List, filter, length, bytes_eq, ◌==◌, nat_lt, if◌then◌else◌}
+use Rattle.ing_rows.specs.declared.gauges.Gauge.{Gauge}
+use Rattle.ing_rows.specs.declared.gauges.Gauges.{Gauges}
 use Rattle.ing_rows.specs.declared.place.Place.{Place}
 use Rattle.ing_rows.specs.Rows.{StreamKey, Row, is_head, is_block, is_in_flight, is_stored, same_stream, size_of_rows, live_streams}
-
--- entries, and their sizes in bytes (own)
-pub record Gauge : Type 0 where
-  pub entries : ℕ
-  pub bytes : ℕ
-
--- of one tenant: its live streams, and its entries by the kind of their place
-pub record Gauges : Type 0 where
-  pub streams : ℕ
-  pub head : Gauge
-  pub block : Gauge
-  pub flight : Gauge
-  pub stored : Gauge
 
 -- the tenant's rows whose place passes the test
 abbrev pub gauge_of : (Place → Bool) → List Row → List ℕ → Gauge

@@ -5,10 +5,10 @@ pub mod Faults
 pub mod Gauges
 pub mod Kept
 pub mod Placement
-pub mod Plain
 pub mod Rows
 pub mod Sound
 pub mod Steps
 pub mod Texts
+pub mod Turns
 pub mod Verdicts
 pub mod Worked

@@ -11,6 +11,9 @@ pub record StreamKey : Type 0 where
   pub tenant : List ℕ
   pub name : List ℕ
 
+abbrev pub stream : List ℕ → List ℕ → StreamKey
+stream tenant name = record { tenant = tenant; name = name }
+
 -- An accepted entry: chunk is the first number of its chunk; block is the index of its block in it, and in the head the
 -- count of closed blocks (Loki documentation: architecture, chunks; the numbers are own).
 pub record Row : Type 0 where

@@ -32,24 +32,36 @@ abbrev pub blocks_of : List Row → ℕ
 blocks_of [] = 0
 blocks_of (r ∷ rows) = if is_block r.place then max (r.block + 1) (blocks_of rows) else blocks_of rows
 
--- where the next accepted entry of the stream goes: the growing chunk, or a new one that begins with it
-abbrev pub chunk_for : State → StreamKey → ℕ
-chunk_for old s = unwrap_or (option_map (λ m. m.chunk) (find (is_growing s) old.marks)) (count_of old.rows s)
+-- the chunk that the entry with this number goes to: the growing one, or a new one that begins with it
+abbrev pub chunk_at : StreamKey → ℕ → List Mark → ℕ
+chunk_at s n marks = unwrap_or (option_map (λ m. m.chunk) (find (is_growing s) marks)) n
 
--- the growing chunk is updated now, or a new one grows
-abbrev pub marks_for : State → StreamKey → ℕ → List Mark
-marks_for old s now =
-    if list_any (is_growing s) old.marks then map (λ m. if is_growing s m then record m { last_update = now } else m) old.marks
-    else record { stream = s; chunk = count_of old.rows s; last_update = now; reason = None } ∷ old.marks
+-- the growing chunk is updated now, or a new one grows from this number on
+abbrev pub marks_at : StreamKey → ℕ → ℕ → List Mark → List Mark
+marks_at s n now marks =
+    if list_any (is_growing s) marks then map (λ m. if is_growing s m then record m { last_update = now } else m) marks
+    else record { stream = s; chunk = n; last_update = now; reason = None } ∷ marks
 
--- one more entry, in the head
-abbrev pub added : State → StreamKey → Entry → ℕ → State
-added old s e now =
-    let chunk = chunk_for old s in
+-- one more entry, in the head, under this number
+abbrev pub added_as : ℕ → State → StreamKey → Entry → ℕ → State
+added_as n old s e now =
+    let chunk = chunk_at s n old.marks in
     record {
-      rows = record { stream = s; number = count_of old.rows s; entry = e; chunk = chunk; block = blocks_of (rows_of_chunk s chunk old.rows); place = Head } ∷ old.rows;
-      marks = marks_for old s now;
+      rows = record { stream = s; number = n; entry = e; chunk = chunk; block = blocks_of (rows_of_chunk s chunk old.rows); place = Head } ∷ old.rows;
+      marks = marks_at s n now old.marks;
     }
+
+-- where the next accepted entry of the stream goes
+abbrev pub chunk_for : State → StreamKey → ℕ
+chunk_for old s = chunk_at s (count_of old.rows s) old.marks
+
+-- the marks with which it grows
+abbrev pub marks_for : State → StreamKey → ℕ → List Mark
+marks_for old s now = marks_at s (count_of old.rows s) now old.marks
+
+-- one more entry: its number is how many the stream has had
+abbrev pub added : State → StreamKey → Entry → ℕ → State
+added old s e now = added_as (count_of old.rows s) old s e now
 
 -- a row in the head of the chunk
 abbrev pub in_head : StreamKey → ℕ → Row → Bool
@@ -73,9 +85,18 @@ abbrev pub filled : Rules → StreamKey → ℕ → State → State
 filled rules s chunk st =
     if nat_le rules.chunk_target_size (size_of_rows (rows_of_chunk s chunk st.rows)) then sealed Full s chunk st else st
 
+-- the state after an acceptance under this number
+abbrev pub accepted_as : ℕ → Rules → StreamKey → Entry → ℕ → State → State
+accepted_as n rules s e now old = let chunk = chunk_at s n old.marks in filled rules s chunk (cut rules s chunk (added_as n old s e now))
+
 -- the state after an acceptance
 abbrev pub accepted : Rules → StreamKey → Entry → ℕ → State → State
-accepted rules s e now old = let chunk = chunk_for old s in filled rules s chunk (cut rules s chunk (added old s e now))
+accepted rules s e now old = accepted_as (count_of old.rows s) rules s e now old
+
+-- the state after these entries are accepted one after another, the first under this number
+abbrev pub accepted_in_turn : ℕ → Rules → StreamKey → ℕ → List Entry → State → State
+accepted_in_turn n rules s now [] st = st
+accepted_in_turn n rules s now (e ∷ es) st = accepted_in_turn (n + 1) rules s now es (accepted_as n rules s e now st)
 
 -- the state after an entry with this verdict
 abbrev pub after_entry : Rules → StreamKey → Entry → ℕ → Verdict → State → State
@@ -131,28 +152,44 @@ abbrev pub is_sealed_now : (Mark → Option SealReason) → List Mark → Row �
 is_sealed_now why [] r = false
 is_sealed_now why (m ∷ ms) r = if is_of_chunk m.stream m.chunk r then is_some (seal_of why m) else is_sealed_now why ms r
 
--- the mark with that reason
+-- the mark with the reason, where there is one
+abbrev pub given : Option SealReason → Mark → Mark
+given None m = m
+given (Some reason) m = record m { reason = Some reason }
+
+-- the mark with the reason that it is given
 abbrev pub seal_mark : (Mark → Option SealReason) → Mark → Mark
-seal_mark why m = given (seal_of why m) where
-  given : Option SealReason → Mark
-  given None = m
-  given (Some reason) = record m { reason = Some reason }
+seal_mark why m = given (seal_of why m) m
+
+-- the state after each growing chunk that has a reason is sealed
+abbrev pub sealed_by : (Mark → Option SealReason) → State → State
+sealed_by why st =
+    record {
+      rows = moved (λ r. is_head r.place && is_sealed_now why st.marks r) Block st.rows;
+      marks = map (seal_mark why) st.marks;
+    }
 
 -- each growing chunk that has a reason is sealed
 abbrev pub Seals : (Mark → Option SealReason) → State → State → Type 0
-Seals why old new =
-    IsSame new (record {
-      rows = moved (λ r. is_head r.place && is_sealed_now why old.marks r) Block old.rows;
-      marks = map (seal_mark why) old.marks;
-    })
+Seals why old new = IsSame new (sealed_by why old)
 
--- the rules of a mark's tenant, by the tenants' bytes
+-- why the chunk of a mark is due, by the rules of its tenant, which are told by the tenants' bytes
+abbrev pub due_by : (List ℕ → Rules) → ℕ → List Row → Mark → Option SealReason
+due_by rules now rows m = due_of (rules m.stream.tenant) now rows m
+
+-- the state after each growing chunk that is due is sealed
+abbrev pub swept : (List ℕ → Rules) → ℕ → State → State
+swept rules now st = sealed_by (due_by rules now st.rows) st
+
 abbrev pub Sweeps : (List ℕ → Rules) → ℕ → State → State → Type 0
-Sweeps rules now old new = Seals (λ m. due_of (rules m.stream.tenant) now old.rows m) old new
+Sweeps rules now old new = IsSame new (swept rules now old)
 
 -- each growing chunk is sealed by force
+abbrev pub forced : Mark → Option SealReason
+forced m = Some Forced
+
 abbrev pub SealsAll : State → State → Type 0
-SealsAll old new = Seals (λ m. Some Forced) old new
+SealsAll old new = Seals forced old new
 
 -- ---- flushing
 

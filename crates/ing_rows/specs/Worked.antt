@@ -1,10 +1,12 @@
 -- Worked values of the definitions.
-use Rattle.std.specs.Prelude.{◌≡◌, ℕ, List, [], ◌∷◌, codes, take, length, filter}
+use Rattle.std.specs.Prelude.{◌≡◌, ℕ, List, [], ◌∷◌, codes, take, length, filter, map, Option, Some, None}
 use Rattle.ing_rows.specs.declared.entry.Entry.{Entry}
+use Rattle.ing_rows.specs.declared.place.SealReason.{SealReason}
+use Rattle.ing_rows.specs.declared.place.SealReason.TheVariants.{Idle, MaxAge}
 use Rattle.ing_rows.specs.declared.rules.Rules.{Rules}
 use Rattle.ing_rows.specs.declared.verdict.Verdict.TheVariants.{Accepted, Duplicate, TooFarBehind}
 use Rattle.ing_rows.specs.Rows.{StreamKey, State, empty_state, rows_of_chunk, is_head}
-use Rattle.ing_rows.specs.Steps.{blocks_of, chunk_for, after_push, verdicts_of}
+use Rattle.ing_rows.specs.Steps.{blocks_of, chunk_for, due_of, after_push, verdicts_of}
 use Rattle.ing_rows.specs.Gauges.{gauges_of}
 use Rattle.ing_rows.specs.Defaults.{defaults}
 
@@ -52,3 +54,19 @@ chunks_grow =
     × (chunk_for (after_first 4) web ≡ 4)
     × (shape (after_first 5) 4 ≡ (1, 0))
     × (gauges_of (after_first 5).rows (codes "t") ≡ record { streams = 1; head = record { entries = 1; bytes = 20 }; block = record { entries = 4; bytes = 80 }; flight = record { entries = 0; bytes = 0 }; stored = record { entries = 0; bytes = 0 } })
+
+-- why chunks are due at a time, after one push at time 1000 of entries with these stamps
+abbrev pub due_after : ℕ → List ℕ → List (Option SealReason)
+due_after now stamps =
+    let st = after_push defaults web 1000 (map (λ stamp. at stamp (codes "x")) stamps) empty_state in
+    map (due_of defaults now st.rows) st.marks
+
+-- a chunk is due when nothing came for longer than the idle period, and when its stamps lie further apart than the maximum
+-- age; a time before the last update is none
+abbrev pub chunks_fall_due : Type 0
+chunks_fall_due =
+    (due_after 1800000001000 (0 ∷ []) ≡ None ∷ [])
+    × (due_after 1800000001001 (0 ∷ []) ≡ Some Idle ∷ [])
+    × (due_after 999 (0 ∷ []) ≡ None ∷ [])
+    × (due_after 1000 (0 ∷ 7200000000000 ∷ []) ≡ None ∷ [])
+    × (due_after 1000 (0 ∷ 7200000000001 ∷ []) ≡ Some MaxAge ∷ [])

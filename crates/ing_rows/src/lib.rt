@@ -1,13 +1,13 @@
-//! The model of the store's rows, the types that it speaks of, and `Plain`, the slow program that is the model.
+//! The model of the store's rows, and the types that it speaks of.
 #![tactic(auto)]
 
 mod entry;
 mod fault;
+mod gauges;
 mod laws;
 mod line;
 mod place;
 mod placement;
-mod plain;
 mod rules;
 mod stamp;
 mod tenant;
@@ -15,14 +15,15 @@ mod verdict;
 
 pub use entry::Entry;
 pub use fault::RowFault;
+pub use gauges::{Gauge, Gauges};
 pub use laws::{
-    a_push_adds_what_it_accepts, each_push_is_a_run_of_entries, order_does_not_count,
-    pushes_keep_states_sound, worked_rows,
+    a_push_adds_what_it_accepts, acceptances_in_turn, chunks_are_apart, chunks_have_one_mark,
+    each_push_is_a_run_of_entries, facts_suffice, order_does_not_count, parts_are_apart,
+    pushes_keep_states_sound, seals_are_apart, seals_have_no_order, worked_rows,
 };
 pub use line::Line;
 pub use place::{Place, SealReason};
 pub use placement::shard_of;
-pub use plain::Plain;
 pub use rules::Rules;
 pub use stamp::{Stamp, value_of_digits, window_limit};
 pub use tenant::{Tenant, is_tenant_id};

@@ -1,7 +1,7 @@
 -- A code, by which a proof tells the contents of shards apart.
 use Rattle.std.specs.Prelude.{refl}
 use Rattle.std.specs.Coded.{Coded, code_by, coded×}
-use Rattle.ing_rows.specs.contracts.plain.Plain as plain
+use Rattle.ing_plain.specs.contracts.plain.Plain as plain
 use Rattle.ing_rows.specs.Rows.{State}
 use Rattle.ing_limits.specs.Settings.{StoreSettings}
 use Rattle.ing_limits.specs.Coded.{settings_code}

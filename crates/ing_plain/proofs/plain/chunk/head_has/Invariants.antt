@@ -1,0 +1,8 @@
+use Rattle.std.proofs.Common.{◌≡◌, ◌-◌, filter, take, reverse}
+use Rattle.ing_rows.specs.Rows.{size_of_rows, stream}
+use Rattle.ing_rows.specs.Steps.{in_head}
+use Rattle.ing_plain.proofs.plain.chunk.head_has.Given as goal
+
+-- what is left of the size after the rows so far
+abbrev pub invariant-loop-row : goal.invariant-loop-row
+invariant-loop-row l = l.left ≡ l.size - size_of_rows (filter (in_head (stream l.tenant l.name) l.chunk) (reverse (take l.row-index l.rows)))

@@ -1,0 +1,8 @@
+use Rattle.std.proofs.Common.{◌≡◌, take, reverse}
+use Rattle.ing_rows.specs.Rows as model
+use Rattle.ing_rows.specs.Rows.{stream}
+use Rattle.ing_plain.proofs.plain.judge.highest_of.Given as goal
+
+-- the greatest stamp of the rows so far
+abbrev pub invariant-loop-row : goal.invariant-loop-row
+invariant-loop-row l = l.highest ≡ model.highest_of (reverse (take l.row-index l.rows)) (stream l.tenant l.name)
