@@ -10,3 +10,4 @@ mod SameLaws
 mod SealLaws
 mod SoundLaws
 mod TurnLaws
+mod StartLaws

@@ -128,7 +128,7 @@ module _ (rules : Rules) (s : StreamKey) (now : ℕ) where
       (moved_marked (in_head s chunk) Block st.rows (map seal st.marks)
       (marks_marked seal (cond_keeps (is_mark_of s chunk) (λ m. record m { reason = Some Full }) (record { stream = λ m. refl; chunk = λ m. refl })) st.rows st.marks h)) h
 
-  accepted_marked : (e : Entry) (old : State) → IsMarked old → IsMarked (accepted rules s e now old)
+  pub accepted_marked : (e : Entry) (old : State) → IsMarked old → IsMarked (accepted rules s e now old)
   accepted_marked e old h =
       let chunk = chunk_for old s in
       filled_marked chunk (cut rules s chunk (added old s e now)) (cut_marked chunk (added old s e now) (added_marked e old h))

@@ -4,7 +4,7 @@ use Rattle.std.specs.Prelude.{◌≡◌, ℕ, ◌+◌, ◌<◌, ◌≤◌, max, 
 use Rattle.ing_rows.specs.declared.entry.Entry.{Entry}
 use Rattle.ing_rows.specs.declared.rules.Rules.{Rules}
 use Rattle.ing_rows.specs.declared.verdict.Verdict.{Verdict}
-use Rattle.ing_rows.specs.Rows.{StreamKey, Row, Mark, State, same_stream, is_of_chunk, count_of}
+use Rattle.ing_rows.specs.Rows.{StreamKey, Row, Mark, State, same_stream, is_of_chunk, count_of, chunk_starts}
 use Rattle.ing_rows.specs.Facts.{Facts}
 use Rattle.ing_rows.specs.Verdicts.{verdict_by, accepted_number}
 use Rattle.ing_rows.specs.Steps.{is_growing, is_mark_of}
@@ -63,3 +63,7 @@ OneMarkEach marks = (s : StreamKey) (chunk : ℕ) → length (filter (is_mark_of
 pub record IsMarked (st : State) : Type 0 where
   pub one : OneMarkEach st.marks
   pub known : All (λ m. m.chunk < count_of st.rows m.stream) st.marks
+
+-- a stream has as many chunks that begin with one of its rows as it has marks
+abbrev pub BeginsWithMarks : StreamKey → State → Type 0
+BeginsWithMarks s st = length (chunk_starts s st.rows) ≡ length (filter (λ m. same_stream m.stream s) st.marks)

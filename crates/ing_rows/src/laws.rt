@@ -8,7 +8,7 @@ ghost use Rattle.ing_rows.specs.Sound.{IsSound};
 ghost use Rattle.ing_rows.specs.Facts.{facts_of};
 ghost use Rattle.ing_rows.specs.Steps.{Pushes, accepted, accepted_in_turn, is_growing, is_mark_of, seal_of, chunk_at, verdicts_of, after_push, due_of, due_by, sealed_by, swept};
 ghost use Rattle.ing_rows.specs.Kept.{numbered};
-ghost use Rattle.ing_rows.specs.Turns.{facts_with, facts_with_all, verdicts_by, accepted_among, beside, IsOlder, NoneMarked, OneMarkEach, IsMarked};
+ghost use Rattle.ing_rows.specs.Turns.{facts_with, facts_with_all, verdicts_by, accepted_among, beside, IsOlder, NoneMarked, OneMarkEach, IsMarked, BeginsWithMarks};
 ghost use Rattle.ing_rows.specs.Events.{accepted_entries, is_full, due_count, sealed_count};
 ghost use Rattle.ing_rows.specs.Worked.{window_moves_with_greatest_stamp, duplicate_of_last_only, chunks_grow, chunks_fall_due};
 
@@ -193,4 +193,11 @@ pub fn chunks_have_one_mark()
     ensures parts { (a b : State) →
         All (λ m. All (λ k. is_mark_of m.stream m.chunk k ≡ false) b.marks) a.marks →
         IsMarked a → IsMarked b → IsMarked (beside a b) }
+{}
+
+/// Where no chunk is stored, the chunks of a stream begin one by one with their marks, and go on so.
+pub fn chunks_begin_with_marks()
+    ensures { (rules : rules.Rules) (s : StreamKey) (now : ℕ) (es : List Entry) (old : State) →
+        IsMarked old → BeginsWithMarks s old →
+        BeginsWithMarks s (accepted_in_turn (count_of old.rows s) rules s now es old) }
 {}

@@ -1,0 +1,51 @@
+-- Entries that are put into a copy beside the chunks that wait.
+use Rattle.std.proofs.Common.{◌≡◌, ℕ, ◌+◌, ◌≤◌, ◌^◌, Bool, true, false, List, [], ◌∷◌, ◌++◌, length, refl, sym, ap, subst, ◌∙◌, arith, append_assoc, append-nil}
+use Rattle.std.specs.Prelude.{sum_by}
+use Rattle.std.proofs.lemmas.List.Sums.{sum_by_push}
+use Rattle.ing_rows.specs.declared.entry.Entry.{Entry}
+use Rattle.ing_rows.specs.declared.rules.Rules.{Rules}
+use Rattle.ing_chunk.specs.declared.numbered.Numbered.{Numbered}
+use Rattle.ing_chunk.specs.Chunks.{ChunkContents, ChunksContents, count_in, with_entry, chunk_to_grow, settled, placed, is_full, is_to_cut, TakesOne, Takes, AreChunks}
+use Rattle.ing_chunk.proofs.Taken.{chunks_one, next_one}
+use Rattle.ing_chunk.proofs.Added.{count_done, first_done}
+
+-- with these chunks before those that wait
+abbrev pub framed : List ChunkContents → ChunksContents → ChunksContents
+framed before c = record c { waiting = before ++ c.waiting }
+
+placed_framed : (full cuts : Bool) (block : List Numbered) (g : ChunkContents) (before : List ChunkContents) (c : ChunksContents) → framed before (placed full cuts block g c) ≡ placed full cuts block g (framed before c)
+placed_framed true cuts block g before c = ap (λ (l : List ChunkContents). record { next = c.next + 1; waiting = l; growing = (placed true cuts block g c).growing }) (sym (append_assoc before c.waiting (settled true cuts block g ∷ [])))
+placed_framed false cuts block g before c = refl
+
+takes_framed : (rules : Rules) (now : ℕ) (es : List Entry) (before : List ChunkContents) (c d : ChunksContents) → Takes rules now es c d → Takes rules now es (framed before c) (framed before d)
+takes_framed rules now [] before c d takes = ap (framed before) takes
+takes_framed rules now (e ∷ es) before c d (mid, one, rest) =
+    let g = with_entry e c.next now (chunk_to_grow c) in
+    let is = ap (framed before) one.is ∙ placed_framed (is_full rules g) (is_to_cut rules g) one.block g before c in
+    (framed before mid, record { block = one.block; reorders = one.reorders; is = is }, takes_framed rules now es before mid d rest)
+
+-- the entries of the chunks that wait come before the first of the chunk that grows
+count_one : (rules : Rules) (now : ℕ) (e : Entry) (c d : ChunksContents) → AreChunks c → TakesOne rules now e c d → sum_by count_in d.waiting + (chunk_to_grow c).first ≡ sum_by count_in c.waiting + (chunk_to_grow d).first
+count_one rules now e c d good one = ap (λ (x : ChunksContents). sum_by count_in x.waiting + (chunk_to_grow c).first) one.is ∙ placed_is (is_full rules g) refl ∙ ap (λ (x : ChunksContents). sum_by count_in c.waiting + (chunk_to_grow x).first) (sym one.is) where
+  g : ChunkContents
+  g = with_entry e c.next now (chunk_to_grow c)
+
+  placed_is : (full : Bool) → is_full rules g ≡ full → sum_by count_in (placed full (is_to_cut rules g) one.block g c).waiting + (chunk_to_grow c).first ≡ sum_by count_in c.waiting + (chunk_to_grow (placed full (is_to_cut rules g) one.block g c)).first
+  placed_is true is_so =
+      let done = settled true (is_to_cut rules g) one.block g in
+      let count = count_done rules now e c g done refl (one.block, one.reorders, ap (λ t. settled t (is_to_cut rules g) one.block g) (sym is_so)) good in
+      omega (arith, sum_by_push count_in c.waiting done, count)
+  placed_is false is_so =
+      let done = settled false (is_to_cut rules g) one.block g in
+      ap (λ n. sum_by count_in c.waiting + n) (sym (first_done rules now e c g done refl (one.block, one.reorders, ap (λ t. settled t (is_to_cut rules g) one.block g) (sym is_so))))
+
+pub count_all : (rules : Rules) (now : ℕ) (es : List Entry) (c d : ChunksContents) → AreChunks c → c.next + length es ≤ 2 ^ 62 → Takes rules now es c d → sum_by count_in d.waiting + (chunk_to_grow c).first ≡ sum_by count_in c.waiting + (chunk_to_grow d).first
+count_all rules now [] c d good room takes = ap (λ (x : ChunksContents). sum_by count_in x.waiting + (chunk_to_grow c).first) takes ∙ ap (λ (x : ChunksContents). sum_by count_in c.waiting + (chunk_to_grow x).first) (sym takes)
+count_all rules now (e ∷ es) c d good room (mid, one, rest) =
+    let next = next_one rules now e c mid one in
+    omega (arith, count_one rules now e c mid good one, count_all rules now es mid d (chunks_one rules now e c mid good (omega arith) one) (omega arith) rest)
+
+pub takes_aside : (rules : Rules) (now : ℕ) (es : List Entry) (c start aside new : ChunksContents) → start ≡ record c { waiting = [] } → Takes rules now es start aside → new ≡ framed c.waiting aside → Takes rules now es c new
+takes_aside rules now es c start aside new begun takes is =
+    let whole : framed c.waiting start ≡ c = ap (framed c.waiting) begun ∙ (λ i. record c { waiting = append-nil c.waiting i }) in
+    subst (λ x. Takes rules now es c x) (sym is) (subst (λ x. Takes rules now es x (framed c.waiting aside)) whole (takes_framed rules now es c.waiting start aside takes))

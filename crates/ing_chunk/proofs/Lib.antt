@@ -1,0 +1,12 @@
+mod Added
+mod Aside
+mod Begun
+mod Due
+mod Followed
+mod Gauged
+mod Sealed
+mod Sums
+mod Taken
+mod Together
+mod Turned
+mod Whole

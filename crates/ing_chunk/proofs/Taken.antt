@@ -1,0 +1,165 @@
+-- Accepted entries, put into the chunks of their stream one after another.
+use Rattle.std.proofs.Common.{◌≡◌, ◌≢◌, ℕ, ◌+◌, ◌<◌, ◌≤◌, ◌^◌, Bool, true, false, List, [], ◌∷◌, ◌++◌, length, refl, sym, ap, subst, ◌∙◌, arith, nat_le, append_assoc, Some, None, length-append, cond, min, nat_eq}
+use Rattle.std.proofs.lemmas.Bool.Decides.{nat_tests}
+use Rattle.std.proofs.lemmas.List.Sums.{sum_by_push}
+use Rattle.std.specs.Prelude.{Option, IsPermutation}
+use Rattle.std.specs.Option.{unwrap_or}
+use Rattle.std.proofs.lemmas.List.Elements.{All-nil, All-weaker, All-push}
+use Rattle.std.proofs.lemmas.List.Sorted.{IsPermutation-refl, IsPermutation-append}
+use Rattle.ing_rows.specs.declared.entry.Entry.{Entry}
+use Rattle.ing_rows.specs.declared.place.SealReason.TheVariants.{Full}
+use Rattle.ing_rows.specs.declared.rules.Rules.{Rules}
+use Rattle.ing_rows.specs.Rows.{StreamKey, State, IsSame}
+use Rattle.ing_rows.specs.Steps.{accepted_as, accepted_in_turn}
+use Rattle.ing_chunk.specs.declared.numbered.Numbered.{Numbered}
+use Rattle.ing_chunk.specs.Chunks.{ChunkContents, ChunksContents, size_of_entries, size_of_chunk, count_in, block_rows, head_rows, chunks_state, growing_state, stream_state, with_entry, with_block, chunk_to_grow, empty_chunk, placed, TakesOne, Takes, AreBlocks, AreChunks, IsWaiting, Waits, GrowsIfAny, starts_in}
+use Rattle.ing_chunk.proofs.Sums.{block_count-more, block_starts-more, blocks-more}
+use Rattle.ing_chunk.proofs.Followed.{Reads, all_blocks, reads_one}
+
+-- ---- what holds of chunks is kept
+
+-- the chunk that the next entry goes to
+pub record Next (c : ChunksContents) (g : ChunkContents) : Type 0 where
+  pub open_yet : g.reason ≡ None
+  pub up_to : g.first + count_in g ≡ c.next
+  pub blocks : AreBlocks g.blocks
+  pub begins : starts_in g ≡ min 1 (count_in g)
+
+pub next_of : (c : ChunksContents) → AreChunks c → Next c (chunk_to_grow c)
+next_of c good = of_growing c.growing good.growing where
+  of_growing : (o : Option ChunkContents) → GrowsIfAny c.next o → Next c (unwrap_or o (empty_chunk c.next))
+  of_growing None h = record { open_yet = refl; up_to = omega arith; blocks = All-nil (λ (b : List Numbered). b ≢ []); begins = omega arith }
+  of_growing (Some g) h = record { open_yet = h.open_yet; up_to = h.up_to; blocks = h.blocks; begins = omega (arith, h.begins, h.some) }
+
+pub waits_longer : (first later : ℕ) (cs : List ChunkContents) → first ≤ later → Waits first cs → Waits later cs
+waits_longer first later cs h all = All-weaker (IsWaiting first) (IsWaiting later) (λ w x. record { older = omega (arith, x.older); sealed = x.sealed; closed = x.closed; begins = x.begins }) cs all
+
+placed_next : (full cuts : Bool) (block : List Numbered) (g : ChunkContents) (c : ChunksContents) → (placed full cuts block g c).next ≡ c.next + 1
+placed_next true cuts block g c = refl
+placed_next false true block g c = refl
+placed_next false false block g c = refl
+
+pub next_one : (rules : Rules) (now : ℕ) (e : Entry) (c d : ChunksContents) → TakesOne rules now e c d → d.next ≡ c.next + 1
+next_one rules now e c d takes =
+    let g = with_entry e c.next now (chunk_to_grow c) in
+    ap (λ (x : ChunksContents). x.next) takes.is
+    ∙ placed_next (nat_le rules.chunk_target_size (size_of_chunk g)) (nat_le rules.chunk_block_size (size_of_entries g.head)) takes.block g c
+
+-- the first number is that of the first entry alone
+first_is : (n first count begun : ℕ) (b : Bool) → nat_eq n first ≡ b → first + count ≡ n → begun ≡ min 1 count → begun + cond b 1 0 ≡ 1
+first_is n first count begun true same up_to h = let eq : n ≡ first = grind (arith, nat_tests) in omega arith
+first_is n first count begun false other up_to h = let ne : n ≢ first = grind (arith, nat_tests) in omega arith
+
+module _ (e : Entry) (now : ℕ) (c : ChunksContents) (good : AreChunks c) (room : c.next < 2 ^ 62) (block : List Numbered)
+    (moved : IsPermutation (with_entry e c.next now (chunk_to_grow c)).head block) where
+  abbrev g : ChunkContents
+  g = with_entry e c.next now (chunk_to_grow c)
+
+  more : length g.head ≡ length (chunk_to_grow c).head + 1
+  more = length-append (chunk_to_grow c).head (record { number = c.next; entry = e } ∷ [])
+
+  begins : starts_in g ≡ 1
+  begins =
+      let known = next_of c good in
+      let start : ℕ = cond (nat_eq c.next (chunk_to_grow c).first) 1 0 in
+      let one : starts_in (chunk_to_grow c) + start ≡ 1 = first_is c.next (chunk_to_grow c).first (count_in (chunk_to_grow c)) (starts_in (chunk_to_grow c)) (nat_eq c.next (chunk_to_grow c).first) refl known.up_to known.begins in
+      omega (arith, one, sum_by_push (λ (x : Numbered). cond (nat_eq x.number (chunk_to_grow c).first) 1 0) (chunk_to_grow c).head (record { number = c.next; entry = e }))
+
+  begins_closed : starts_in (with_block block g) ≡ 1
+  begins_closed = omega (arith, begins, block_starts-more g.blocks g.head block moved g.first)
+
+  placed_chunks : (full cuts : Bool) → AreChunks (placed full cuts block g c)
+  placed_chunks true cuts = record {
+    growing = tt;
+    waiting =
+        let known = next_of c good in
+        All-push (IsWaiting (c.next + 1)) c.waiting (record (with_block block g) { reason = Some Full })
+        (waits_longer g.first (c.next + 1) c.waiting (omega (arith, known.up_to)) good.waiting)
+        (record { older = omega (arith, known.up_to); sealed = refl; closed = refl; begins = begins_closed });
+    few = omega arith;
+  }
+  placed_chunks false true =
+      let known = next_of c good in
+      let many = block_count-more g.blocks g.head block moved in
+      record {
+        growing = record {
+          open_yet = known.open_yet;
+          some = omega (arith, many, more);
+          up_to = omega (arith, many, more, known.up_to);
+          blocks = blocks-more g.blocks g.head block moved (omega (arith, more)) known.blocks;
+          begins = begins_closed;
+        };
+        waiting = good.waiting;
+        few = omega arith;
+      }
+  placed_chunks false false =
+      let known = next_of c good in
+      record {
+        growing = record { open_yet = known.open_yet; some = omega (arith, more); up_to = omega (arith, more, known.up_to); blocks = known.blocks; begins = begins };
+        waiting = good.waiting;
+        few = omega arith;
+      }
+
+pub chunks_one : (rules : Rules) (now : ℕ) (e : Entry) (c d : ChunksContents) → AreChunks c → c.next < 2 ^ 62 → TakesOne rules now e c d → AreChunks d
+chunks_one rules now e c d good room takes =
+    subst AreChunks (sym takes.is)
+    (placed_chunks e now c good room takes.block takes.reorders
+    (nat_le rules.chunk_target_size (size_of_chunk (with_entry e c.next now (chunk_to_grow c))))
+    (nat_le rules.chunk_block_size (size_of_entries (with_entry e c.next now (chunk_to_grow c)).head)))
+
+-- ---- the state follows
+
+reads_start : (s : StreamKey) (c : ChunksContents) → AreChunks c → Reads s c (stream_state s c)
+reads_start s c good = record {
+  h = head_rows s (chunk_to_grow c);
+  b = block_rows s (chunk_to_grow c).first 0 (chunk_to_grow c).blocks;
+  w = (chunks_state s c.waiting).rows;
+  m = (chunks_state s c.waiting).marks;
+  rows = apart c.growing;
+  marks = refl;
+  heads = IsPermutation-refl (head_rows s (chunk_to_grow c));
+  blocks = IsPermutation-refl (block_rows s (chunk_to_grow c).first 0 (chunk_to_grow c).blocks);
+  others = IsPermutation-refl (chunks_state s c.waiting).rows;
+  sealed = IsPermutation-refl (chunks_state s c.waiting).marks;
+  many = all_blocks s (chunk_to_grow c).first (chunk_to_grow c).blocks (next_of c good).blocks;
+} where
+  apart : (o : Option ChunkContents) → (growing_state s o).rows ++ (chunks_state s c.waiting).rows ≡ head_rows s (unwrap_or o (empty_chunk c.next)) ++ (block_rows s (unwrap_or o (empty_chunk c.next)).first 0 (unwrap_or o (empty_chunk c.next)).blocks ++ (chunks_state s c.waiting).rows)
+  apart None = refl
+  apart (Some g) = append_assoc (head_rows s g) (block_rows s g.first 0 g.blocks) (chunks_state s c.waiting).rows
+
+reads_same : (s : StreamKey) (c : ChunksContents) (st : State) → Reads s c st → IsSame (stream_state s c) st
+reads_same s c st reads = record {
+  rows =
+      subst (λ l. IsPermutation l st.rows) (sym (apart c.growing))
+      (subst (IsPermutation (head_rows s (chunk_to_grow c) ++ (block_rows s (chunk_to_grow c).first 0 (chunk_to_grow c).blocks ++ (chunks_state s c.waiting).rows))) (sym reads.rows)
+      (IsPermutation-append (head_rows s (chunk_to_grow c)) reads.h (block_rows s (chunk_to_grow c).first 0 (chunk_to_grow c).blocks ++ (chunks_state s c.waiting).rows) (reads.b ++ reads.w) reads.heads
+      (IsPermutation-append (block_rows s (chunk_to_grow c).first 0 (chunk_to_grow c).blocks) reads.b (chunks_state s c.waiting).rows reads.w reads.blocks reads.others)));
+  marks =
+      subst (IsPermutation ((growing_state s c.growing).marks ++ (chunks_state s c.waiting).marks)) (sym reads.marks)
+      (IsPermutation-append (growing_state s c.growing).marks (growing_state s c.growing).marks (chunks_state s c.waiting).marks reads.m (IsPermutation-refl (growing_state s c.growing).marks) reads.sealed);
+} where
+  apart : (o : Option ChunkContents) → (growing_state s o).rows ++ (chunks_state s c.waiting).rows ≡ head_rows s (unwrap_or o (empty_chunk c.next)) ++ (block_rows s (unwrap_or o (empty_chunk c.next)).first 0 (unwrap_or o (empty_chunk c.next)).blocks ++ (chunks_state s c.waiting).rows)
+  apart None = refl
+  apart (Some g) = append_assoc (head_rows s g) (block_rows s g.first 0 g.blocks) (chunks_state s c.waiting).rows
+
+reads_all : (rules : Rules) (s : StreamKey) (now : ℕ) (es : List Entry) (c d : ChunksContents) (st : State) → AreChunks c → c.next + length es ≤ 2 ^ 62 → Takes rules now es c d → Reads s c st → Reads s d (accepted_in_turn c.next rules s now es st)
+reads_all rules s now [] c d st good room takes reads = subst (λ x. Reads s x st) (sym takes) reads
+reads_all rules s now (e ∷ es) c d st good room (mid, one, rest) reads =
+    let next = next_one rules now e c mid one in
+    subst (λ n. Reads s d (accepted_in_turn n rules s now es (accepted_as c.next rules s e now st))) next
+    (reads_all rules s now es mid d (accepted_as c.next rules s e now st) (chunks_one rules now e c mid good (omega arith) one) (omega arith) rest
+    (reads_one rules s now e c mid st good one reads))
+
+-- what the chunks show after taking entries is what the model makes of what they showed before
+pub taken_is_accepted : (rules : Rules) (now : ℕ) (es : List Entry) (c d : ChunksContents) → AreChunks c → c.next + length es ≤ 2 ^ 62 → Takes rules now es c d → (s : StreamKey) → IsSame (stream_state s d) (accepted_in_turn c.next rules s now es (stream_state s c))
+taken_is_accepted rules now es c d good room takes s = reads_same s d _ (reads_all rules s now es c d (stream_state s c) good room takes (reads_start s c good))
+
+pub next_all : (rules : Rules) (now : ℕ) (es : List Entry) (c d : ChunksContents) → Takes rules now es c d → d.next ≡ c.next + length es
+next_all rules now [] c d takes = ap (λ (x : ChunksContents). x.next) takes ∙ omega arith
+next_all rules now (e ∷ es) c d (mid, one, rest) = omega (arith, next_all rules now es mid d rest, next_one rules now e c mid one)
+
+pub chunks_all : (rules : Rules) (now : ℕ) (es : List Entry) (c d : ChunksContents) → AreChunks c → c.next + length es ≤ 2 ^ 62 → Takes rules now es c d → AreChunks d
+chunks_all rules now [] c d good room takes = subst AreChunks (sym takes) good
+chunks_all rules now (e ∷ es) c d good room (mid, one, rest) =
+    let next = next_one rules now e c mid one in
+    chunks_all rules now es mid d (chunks_one rules now e c mid good (omega arith) one) (omega arith) rest

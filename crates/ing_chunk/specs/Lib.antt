@@ -1,0 +1,3 @@
+pub mod Chunks
+pub mod Kept
+pub mod KeptChunks

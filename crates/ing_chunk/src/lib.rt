@@ -1,0 +1,16 @@
+//! Heads, blocks and chunks: the entries of a stream in memory.
+#![tactic(auto)]
+
+mod block;
+mod chunk;
+mod chunks;
+mod numbered;
+mod run;
+
+pub use block::Block;
+pub use chunk::Chunk;
+pub use chunks::Chunks;
+pub use numbered::Numbered;
+
+#[cfg(test)]
+mod tests;
