@@ -38,8 +38,9 @@ documents:
 	  done; \
 	done
 
-bench: $(postings_figures)
+bench: $(postings_figures) $(program)
 	@$(postings_figures) times 10000 30000 100000
+	@bench/pushes.sh $(program)
 
 $(postings_figures): $(sources)
 	@cd crates/bench_postings && rt run -- counts 100 >&2

@@ -1,1 +1,14 @@
+mod Alike
+mod CountLaws
+mod HeldLaws
+mod JudgeLaws
+mod Parts
+mod PositionLaws
+mod PushLaws
+mod WholeLaws
+mod StreamLaws
+mod SumLaws
+mod TakeLaws
+mod TenantLaws
+mod ReadLaws
 mod ShardLaws

@@ -1,6 +1,9 @@
 pub mod Coded
 pub mod Contents
 pub mod Faults
+pub mod KeptFacts
+pub mod Tenants
+pub mod Streams
 pub use Rattle.ing_rows.specs.Rows
 pub use Rattle.ing_rows.specs.Verdicts
 pub use Rattle.ing_rows.specs.Steps

@@ -2,7 +2,11 @@
 #![tactic(auto)]
 
 mod fault;
+mod judge;
 mod shard;
+mod stream;
+mod streams;
+mod tenants;
 
 pub use fault::PushFault;
 pub use shard::{Pushed, Shard};

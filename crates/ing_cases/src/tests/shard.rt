@@ -1,8 +1,10 @@
-//! The calls that take memory, once each, what a refusal leaves, and pushes of the sizes at the ends of their range.
+//! The calls that take memory, once each, what a refusal leaves, pushes of the sizes at the ends of their range, worked
+//! blocks, and pushes drawn by lot beside the slow program.
 use ing_labels::{LabelLimits, Labels};
 use ing_limits::Settings;
+use ing_plain::Plain;
 use ing_refusals::Refusal;
-use ing_rows::{Entry, Line, Stamp, Tenant, Verdict};
+use ing_rows::{Entry, Gauge, Gauges, Line, Stamp, Tenant, Verdict};
 use ing_shard::{PushFault, Shard};
 use std::alloc::Global;
 use std::test::Fail;
@@ -106,5 +108,155 @@ fn pushes_of_no_entry_and_of_the_most(rt: HostRuntime) -> Result<(), Fail> {
         assert_eq!(rt; numbers.next(), None, "{name}");
         assert_eq!(rt; shard.totals(), (total, 0), "{name}");
     }
+    Ok(())
+}
+
+#[test]
+fn two_lines_fill_a_block_and_two_blocks_a_chunk(rt: HostRuntime) -> Result<(), Fail> {
+    let text = "chunk_block_size = 40\nchunk_target_size = 80\n";
+    let mut shard = Shard::fresh(rt.alloc(), Settings::from_toml(rt.alloc(), text)?);
+    let tenant = Tenant::of_text(rt.alloc(), "acme")?;
+    let labels = Labels::of_pairs(rt.alloc(), &[("app", "web")], &LIMITS)?;
+    for (nanoseconds, in_head, in_blocks) in [
+        (1, 1, 0),
+        (2, 0, 2),
+        (3, 1, 2),
+        (4, 0, 4),
+        (5, 1, 4),
+    ] {
+        let mut entries = Vec::new(rt.alloc());
+        entries.push(Entry {
+            stamp: stamp(nanoseconds)?,
+            line: Line::of_text(rt.alloc(), "abcd")?,
+        })?;
+        shard.push(rt.alloc(), &tenant, &labels, entries, stamp(nanoseconds)?)?;
+        let gauges = shard.gauges(&tenant);
+        assert_eq!(rt; gauges.head.entries, in_head, "{nanoseconds}");
+        assert_eq!(rt; gauges.block.entries, in_blocks, "{nanoseconds}");
+    }
+    let wanted = Gauges {
+        streams: 1,
+        head: Gauge {
+            entries: 1,
+            bytes: 20,
+        },
+        block: Gauge {
+            entries: 4,
+            bytes: 80,
+        },
+        ..Gauges::default()
+    };
+    assert_eq!(rt; shard.gauges(&tenant), wanted);
+    Ok(())
+}
+
+/// Numbers by lot, the same in each run (xorshift of 64 bits).
+#[derive(Drop)]
+struct Lots {
+    state: u64,
+}
+
+impl Lots {
+    fn draw(&mut self) -> u64 {
+        let mut state = self.state;
+        state ^= state << 13;
+        state ^= state >> 7;
+        state ^= state << 17;
+        self.state = state;
+        state
+    }
+}
+
+/// How often each verdict was given.
+#[derive(Debug, Default, Drop)]
+struct Given {
+    accepted: u64,
+    duplicate: u64,
+    line_too_long: u64,
+    too_far_behind: u64,
+    too_many_streams: u64,
+}
+
+impl Given {
+    fn count(&mut self, verdict: &Verdict) {
+        let counter = match verdict {
+            Verdict::Accepted { number: _ } => &mut self.accepted,
+            Verdict::Duplicate => &mut self.duplicate,
+            Verdict::LineTooLong => &mut self.line_too_long,
+            Verdict::TooFarBehind { limit: _ } => &mut self.too_far_behind,
+            Verdict::TooManyStreams { live: _ } => &mut self.too_many_streams,
+        };
+        *counter = counter.saturating_add(1);
+    }
+}
+
+/// Small blocks and chunks, short lines, a window of 8 nanoseconds, and fewer streams than there are sets of labels.
+const SMALL: &str =
+    "chunk_block_size = 40\nchunk_target_size = 100\nmax_chunk_age = \"16ns\"\nmax_line_size = 6\nmax_streams_per_tenant = 6\n[tenants.b]\nmax_line_size = 3\nmax_streams_per_tenant = 2\n";
+
+/// One to five entries whose stamps lie up to 11 nanoseconds after this time.
+fn drawn_entries(alloc: Global, lots: &mut Lots, time: u64) -> Result<Vec<Entry>, Fail> {
+    let texts = ["", "a", "abc", "abcd", "abcdef", "abcdefg"];
+    let mut entries = Vec::new(alloc);
+    let count = 1 + lots.draw() % 5;
+    for _ in 0..count {
+        let text = texts[(lots.draw() % 6) as usize];
+        entries.push(Entry {
+            stamp: stamp(time.saturating_add(lots.draw() % 12))?,
+            line: Line::of_text(alloc, text)?,
+        })?;
+    }
+    Ok(entries)
+}
+
+#[test]
+fn drawn_pushes_are_answered_as_by_the_slow_program(rt: HostRuntime) -> Result<(), Fail> {
+    let settings = Settings::from_toml(rt.alloc(), SMALL)?;
+    let mut shard = Shard::fresh(rt.alloc(), Settings::from_toml(rt.alloc(), SMALL)?);
+    let mut plain = Plain::new(rt.alloc());
+    let mut tenants = Vec::new(rt.alloc());
+    for id in ["a", "b", "c"] {
+        tenants.push(Tenant::of_text(rt.alloc(), id)?)?;
+    }
+    let mut streams = Vec::new(rt.alloc());
+    for app in ["0", "1", "2", "3", "4", "5", "6", "7"] {
+        streams.push(Labels::of_pairs(rt.alloc(), &[("app", app)], &LIMITS)?)?;
+    }
+    let mut lots = Lots { state: 20_261_122 };
+    let mut given = Given::default();
+    let mut most_in_heads = 0;
+    let mut most_in_blocks = 0;
+    let mut time: u64 = 100;
+    for turn in 0..500 {
+        time = time.saturating_add(lots.draw() % 2);
+        let tenant = tenants.get((lots.draw() % 3) as usize).ok_or("a tenant")?;
+        let labels = streams.get((lots.draw() % 8) as usize).ok_or("labels")?;
+        let entries = drawn_entries(rt.alloc(), &mut lots, time)?;
+        let mut same = Vec::new(rt.alloc());
+        for entry in &entries {
+            same.push(entry.try_clone(rt.alloc())?)?;
+        }
+        let pushed = shard.push(rt.alloc(), tenant, labels, entries, stamp(time)?)?;
+        let rules = settings.for_tenant(tenant);
+        let wanted = plain.push(rt.alloc(), rules, tenant, labels.name(), same, time)?;
+        assert_eq!(rt; pushed.verdicts.as_slice(), wanted.as_slice(), "{turn}");
+        for verdict in &wanted {
+            given.count(verdict);
+        }
+        assert_eq!(rt; shard.totals(), (plain.len() as u64, 0), "{turn}");
+        for tenant in &tenants {
+            let gauges = plain.gauges(tenant);
+            assert_eq!(rt; shard.gauges(tenant), gauges, "{turn}");
+            most_in_heads = gauges.head.entries.max(most_in_heads);
+            most_in_blocks = gauges.block.entries.max(most_in_blocks);
+        }
+    }
+    assert!(rt; given.accepted > 0, "{given:?}");
+    assert!(rt; given.duplicate > 0, "{given:?}");
+    assert!(rt; given.line_too_long > 0, "{given:?}");
+    assert!(rt; given.too_far_behind > 0, "{given:?}");
+    assert!(rt; given.too_many_streams > 0, "{given:?}");
+    assert!(rt; most_in_heads > 0);
+    assert!(rt; most_in_blocks > 0);
     Ok(())
 }

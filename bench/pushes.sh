@@ -1,0 +1,124 @@
+#!/bin/sh
+# bench/pushes.sh PROGRAM
+#
+# What pushes cost: feeds PROGRAM (ingestd) inputs that it makes in a folder of its own, and prints a table. Every entry must
+# be accepted, or it stops. Processor time is user and system together, by /usr/bin/time where it is there and else by the
+# shell. Both count in hundredths of a second, so inputs below a million entries are run five times together, and the figure
+# is a fifth of the time; it is the least of three such. Peak memory is known by /usr/bin/time alone.
+set -eu
+LC_ALL=C
+export LC_ALL
+program=$1
+folder=$(mktemp -d)
+trap 'rm -rf "$folder"' EXIT
+trap 'exit 1' HUP INT TERM
+printf 'max_streams_per_tenant = 100000\n' >"$folder/settings.toml"
+
+# make_input ENTRIES STREAMS ENTRIES_A_PUSH BYTES_A_LINE in|out: the input, as push lines. An entry a push goes to the streams
+# in turn; more go as many to a stream as it ever gets. A millisecond lies between stamps; `out` sets each back by up to 999
+# seconds, which the window of an hour allows.
+make_input() {
+  awk -v entries="$1" -v streams="$2" -v per_push="$3" -v bytes="$4" -v order="$5" 'BEGIN {
+    run = entries / streams
+    if (run > per_push) run = per_push
+    padding = "x"
+    while (length(padding) < bytes) padding = padding padding
+    padding = substr(padding, 1, bytes - 8)
+    for (i = 0; i < entries; i++) {
+      place = i % per_push
+      if (place == 0) printf "%s", "{\"cmd\":\"push\",\"tenant\":\"t\",\"now\":\"2000000000000000\",\"streams\":["
+      if (place % run == 0) {
+        if (place > 0) printf "%s", ","
+        printf "{\"stream\":{\"app\":\"web\",\"pod\":\"p%d\"},\"values\":[", int(i / run) % streams
+      } else printf "%s", ","
+      seconds = 1000000 + int(i / 1000)
+      if (order == "out") seconds -= (i * 7919) % 1000
+      printf "[\"%d%03d000000\",\"%08d", seconds, i % 1000, i
+      printf "%s", padding
+      printf "%s", "\"]"
+      if (place % run == run - 1) printf "%s", "]}"
+      if (place == per_push - 1) print "]}"
+    }
+  }'
+}
+
+# The runs that are timed together; $0 is the program.
+cat >"$folder/runs.sh" <<'END'
+for _ in $4; do
+  "$0" "$1" <"$2" >"$3" || exit 1
+done
+END
+
+# run INPUT TURNS: runs as often as there are words in TURNS. Sets `seconds`, of one run, and `kibibytes` (`-` where it is not
+# known); the output goes to the file `out`.
+run() {
+  if [ -x /usr/bin/time ] && /usr/bin/time -f '%U %S %M' -o "$folder/cost" true 2>/dev/null; then
+    /usr/bin/time -f '%U %S %M' -o "$folder/cost" \
+      sh -c "$(cat "$folder/runs.sh")" "$program" "$folder/settings.toml" "$1" "$folder/out" "$2"
+  else
+    (
+      sh -c "$(cat "$folder/runs.sh")" "$program" "$folder/settings.toml" "$1" "$folder/out" "$2"
+      times >"$folder/times"
+    )
+    awk 'NR == 2 { split($1, u, /[ms]/); split($2, s, /[ms]/); print u[1] * 60 + u[2], s[1] * 60 + s[2], "-" }' \
+      "$folder/times" >"$folder/cost"
+  fi
+  read -r user system kibibytes <"$folder/cost"
+  seconds=$(awk -v u="$user" -v s="$system" -v turns="$2" 'BEGIN { print (u + s) / split(turns, turn) }')
+}
+
+# least INPUT TURNS: sets `least_seconds` and `least_kibibytes`, the least of three.
+least() {
+  least_seconds=
+  least_kibibytes=
+  for _ in 1 2 3; do
+    run "$1" "$2"
+    least_seconds=$(printf '%s\n' "${least_seconds:-$seconds}" "$seconds" | sort -n | head -n 1)
+    least_kibibytes=$(printf '%s\n' "${least_kibibytes:-$kibibytes}" "$kibibytes" | sort -n | head -n 1)
+  done
+}
+
+# row ENTRIES STREAMS ENTRIES_A_PUSH BYTES_A_LINE in|out: measures, and prints a line of the table. The last figure is that
+# of the same lines under a command that there is none of: they are read, and refused.
+row() {
+  turns='1 2 3 4 5'
+  [ "$1" -lt 1000000 ] || turns=1
+  make_input "$@" >"$folder/input"
+  least "$folder/input" "$turns"
+  accepted=$(sed -n '$s/.*"accepted":\([0-9]*\),.*/\1/p' "$folder/out")
+  if [ "$accepted" != "$1" ]; then
+    echo "of $1 entries ${accepted:-none} accepted: $*" >&2
+    exit 1
+  fi
+  push_seconds=$least_seconds
+  push_kibibytes=$least_kibibytes
+  sed 's/^{"cmd":"push"/{"cmd":"none"/' "$folder/input" >"$folder/refused"
+  rm "$folder/input"
+  least "$folder/refused" "$turns"
+  rm "$folder/refused"
+  awk -v entries="$1" -v streams="$2" -v per_push="$3" -v bytes="$4" -v order="$5" -v seconds="$push_seconds" \
+    -v kibibytes="$push_kibibytes" -v refused="$least_seconds" 'BEGIN {
+      a_second = seconds > 0 ? sprintf("%.0f", entries / seconds) : "-"
+      memory = kibibytes == "-" ? "-" : sprintf("%.2f", kibibytes * 1024 / (entries * (16 + bytes)))
+      printf "| %d | %d | %d | %d | %s | %s | %.2f | %.2f | %s |\n", entries, streams, per_push, bytes, order, a_second,
+        seconds * 1000000 / entries, refused * 1000000 / entries, memory
+    }'
+}
+
+echo '| Entries | streams | entries a push | bytes a line | stamps in or out of order | entries a second | microseconds an entry | of these read and refused | peak memory by held bytes |'
+echo '|---|---|---|---|---|---|---|---|---|'
+for order in in out; do
+  for streams in 1 1000 100000; do
+    for per_push in 1 100; do
+      row 100000 "$streams" "$per_push" 120 "$order"
+    done
+  done
+done
+for order in in out; do
+  for streams in 1 1000; do
+    for per_push in 1 100; do
+      row 20000 "$streams" "$per_push" 4096 "$order"
+    done
+  done
+done
+row 1000000 1000 1 120 in

@@ -1,0 +1,130 @@
+-- What is held beside the streams, after one more is listed and after one has changed.
+use Rattle.std.proofs.Common.{◌≡◌, ℕ, ◌+◌, ◌^◌, ◌<◌, ◌≤◌, Bool, List, [], ◌∷◌, ◌++◌, length, cond, true, false, ◌&&◌, nat_lt, Some, None, ap, sym, ◌∙◌, subst, arith, filter, append-nil}
+use Rattle.std.specs.Prelude.{All, bytes_eq, sum_by}
+use Rattle.std.proofs.lemmas.List.Elements.{All-append, All-cons, All-head, All-nil, All-tail, All-weaker}
+use Rattle.std.proofs.lemmas.Bool.{lt-ltb}
+use Rattle.ing_labels.specs.Canonical.{canonical_of}
+use Rattle.ing_rows.specs.Rows.{empty_state, is_head, is_block, same_stream}
+use Rattle.ing_rows.specs.Gauges.{gauge_of}
+use Rattle.ing_rows.specs.Turns.{beside}
+use Rattle.ing_shard.specs.declared.stream.Stream.{Stream}
+use Rattle.ing_shard.specs.declared.streams.Streams.{Streams}
+use Rattle.ing_shard.specs.declared.tenants.TenantKept.{TenantKept}
+use Rattle.ing_shard.specs.Tenants.{find_of, is_known, kept_of, changed, nothing_kept}
+use Rattle.ing_shard.specs.Streams.{key_of, part_of, whole, IsKept, AreDistinct, AreHeld, position_of, measure_of, measures_of, sum_of}
+use Rattle.ing_shard.proofs.PositionLaws.{none_others, position_more, distinct_more, position_same, distinct_same}
+use Rattle.ing_shard.proofs.SumLaws.{sum_split, chosen_split, count_split, measures_changed}
+
+-- ---- one more stream, without entries
+
+pub whole_more : (sts : List Stream) (st : Stream) → part_of st ≡ empty_state → whole (sts ++ st ∷ []) ≡ whole sts
+whole_more [] st none = ap (λ p. beside p empty_state) none
+whole_more (f ∷ sts) st none = ap (beside (part_of f)) (whole_more sts st none)
+
+measures_nothing : (st : Stream) → part_of st ≡ empty_state → st.chunks.next ≡ 0 → measure_of st ≡ nothing_kept
+measures_nothing st none next = λ i. record {
+  live = cond (nat_lt 0 (next i)) 1 0;
+  head_entries = (gauge_of is_head (none i).rows st.tenant).entries;
+  head_bytes = (gauge_of is_head (none i).rows st.tenant).bytes;
+  block_entries = (gauge_of is_block (none i).rows st.tenant).entries;
+  block_bytes = (gauge_of is_block (none i).rows st.tenant).bytes;
+}
+
+none_more : (b : Bool) (n r : ℕ) → n ≡ 0 → r ≡ cond b n 0 + r
+none_more true n r none = omega (arith, none)
+none_more false n r none = omega arith
+
+sum_more : (f : TenantKept → ℕ) (t : List ℕ) (sts : List Stream) (st : Stream) → f (measure_of st) ≡ 0 → sum_of f t sts ≡ sum_of f t (sts ++ st ∷ [])
+sum_more f t sts st none =
+    none_more (bytes_eq st.tenant t) (f (measure_of st)) (sum_of f t sts) none
+    ∙ ap (λ l. cond (bytes_eq st.tenant t) (f (measure_of st)) 0 + sum_of f t l) (sym (append-nil sts))
+    ∙ sym (chosen_split (λ o. bytes_eq o.tenant t) (λ o. f (measure_of o)) sts st [])
+
+measures_more : (t : List ℕ) (sts : List Stream) (st : Stream) → measure_of st ≡ nothing_kept → measures_of t sts ≡ measures_of t (sts ++ st ∷ [])
+measures_more t sts st none = λ i. record {
+  live = sum_more (λ k. k.live) t sts st (ap (λ k. k.live) none) i;
+  head_entries = sum_more (λ k. k.head_entries) t sts st (ap (λ k. k.head_entries) none) i;
+  head_bytes = sum_more (λ k. k.head_bytes) t sts st (ap (λ k. k.head_bytes) none) i;
+  block_entries = sum_more (λ k. k.block_entries) t sts st (ap (λ k. k.block_entries) none) i;
+  block_bytes = sum_more (λ k. k.block_bytes) t sts st (ap (λ k. k.block_bytes) none) i;
+}
+
+pub held_more : (old new : Streams) (st : Stream) → AreHeld old → new.list.items ≡ old.list.items ++ st ∷ [] → IsKept st → st.chunks.next ≡ 0 → part_of st ≡ empty_state
+    → position_of (key_of st) old.list.items ≡ None
+    → ((t n : List ℕ) → find_of new.tenants t n ≡ cond (bytes_eq st.tenant t && bytes_eq (canonical_of st.labels) n) (Some (length old.list.items)) (find_of old.tenants t n))
+    → is_known new.tenants st.tenant ≡ true
+    → ((t : List ℕ) → is_known old.tenants t ≡ true → is_known new.tenants t ≡ true)
+    → ((t : List ℕ) → kept_of new.tenants t ≡ kept_of old.tenants t)
+    → new.entries ≡ old.entries → new.active ≡ old.active → AreHeld new
+held_more old new st held is kept next none absent find known stay same entries active =
+    let sts = old.list.items in
+    let s = key_of st in
+    let others = none_others s sts absent in
+    let Known : Stream → Type 0 = λ o. is_known new.tenants o.tenant ≡ true in
+    let nothing = measures_nothing st none next in
+    let next_sum : ◌≡◌ {A = ℕ} old.entries (sum_by (λ o. o.chunks.next) (sts ++ st ∷ [])) =
+    held.entries ∙ none_more true st.chunks.next (sum_by (λ o. o.chunks.next) sts) next
+    ∙ ap (λ l. st.chunks.next + sum_by (λ o. o.chunks.next) l) (sym (append-nil sts)) ∙ sym (sum_split (λ o. o.chunks.next) sts st []) in
+    let counted : ◌≡◌ {A = ℕ} old.active (length (filter (λ o. nat_lt 0 o.chunks.next) (sts ++ st ∷ []))) =
+    held.active ∙ none_more true (cond (nat_lt 0 st.chunks.next) 1 0) (length (filter (λ o. nat_lt 0 o.chunks.next) sts)) (ap (λ n. cond (nat_lt 0 n) 1 0) next)
+    ∙ ap (λ l. cond (nat_lt 0 st.chunks.next) 1 0 + length (filter (λ o. nat_lt 0 o.chunks.next) l)) (sym (append-nil sts)) ∙ sym (count_split (λ o. nat_lt 0 o.chunks.next) sts st []) in
+    let bound = held.few in
+    record {
+      kept = subst (All IsKept) (sym is) (All-append IsKept sts (st ∷ []) held.kept (All-cons IsKept st [] kept (All-nil IsKept)));
+      distinct = subst AreDistinct (sym is) (distinct_more sts st held.distinct others);
+      found = λ k. find k.tenant k.name ∙ ap (cond (same_stream s k) (Some (length sts))) (held.found k) ∙ sym (position_more sts st others k) ∙ ap (position_of k) (sym is);
+      known = subst (All Known) (sym is) (All-append Known sts (st ∷ []) (All-weaker (λ (o : Stream). is_known old.tenants o.tenant ≡ true) Known (λ o. stay o.tenant) sts held.known) (All-cons Known st [] known (All-nil Known)));
+      sums = λ t. same t ∙ held.sums t ∙ measures_more t sts st nothing ∙ ap (measures_of t) (sym is);
+      entries = entries ∙ next_sum ∙ ap (sum_by (λ o. o.chunks.next)) (sym is);
+      active = active ∙ counted ∙ ap (λ l. length (filter (λ o. nat_lt 0 o.chunks.next) l)) (sym is);
+      few = omega (arith, entries, bound);
+    }
+
+-- ---- a stream has changed
+
+pub replaced : (P : Stream → Type 0) (front : List Stream) (st new : Stream) (back : List Stream) → All P (front ++ st ∷ back) → P new → All P (front ++ new ∷ back)
+replaced P [] st new back h p = All-cons P new back p (All-tail P st back h)
+replaced P (f ∷ front) st new back h p = All-cons P f (front ++ new ∷ back) (All-head P f (front ++ st ∷ back) h) (replaced P front st new back (All-tail P f (front ++ st ∷ back) h) p)
+
+pub middle : (P : Stream → Type 0) (front : List Stream) (st : Stream) (back : List Stream) → All P (front ++ st ∷ back) → P st
+middle P [] st back h = All-head P st back h
+middle P (f ∷ front) st back h = middle P front st back (All-tail P f (front ++ st ∷ back) h)
+
+active_case : (was is : Bool) (rest old new all : ℕ) → is ≡ true → old ≡ cond was 1 0 + rest → new ≡ cond was 0 1 + old → all ≡ cond is 1 0 + rest → new ≡ all
+active_case true is rest old new all live before now after = let one = after ∙ ap (λ b. cond b 1 0 + rest) live in omega (arith, before, now, one)
+active_case false is rest old new all live before now after = let one = after ∙ ap (λ b. cond b 1 0 + rest) live in omega (arith, before, now, one)
+
+pub held_changed : (old new : Streams) (front : List Stream) (st now : Stream) (back : List Stream) (more : ℕ) → AreHeld old
+    → old.list.items ≡ front ++ st ∷ back → new.list.items ≡ front ++ now ∷ back → IsKept now → now.tenant ≡ st.tenant → now.labels ≡ st.labels
+    → now.chunks.next ≡ st.chunks.next + more → 0 < more
+    → ((t n : List ℕ) → find_of new.tenants t n ≡ find_of old.tenants t n)
+    → ((t : List ℕ) → is_known new.tenants t ≡ is_known old.tenants t)
+    → ((t : List ℕ) → kept_of new.tenants t ≡ cond (bytes_eq st.tenant t) (changed (kept_of old.tenants st.tenant) (measure_of st) (measure_of now)) (kept_of old.tenants t))
+    → new.entries ≡ old.entries + more → new.active ≡ cond (nat_lt 0 st.chunks.next) 0 1 + old.active → new.entries ≤ 2 ^ 62 → AreHeld new
+held_changed old new front st now back more held was is kept tenant labels next some find known sums entries active few =
+    let key : key_of now ≡ key_of st = λ i. record { tenant = tenant i; name = canonical_of (labels i) } in
+    let all = subst (All IsKept) was held.kept in
+    let Known : Stream → Type 0 = λ o. is_known new.tenants o.tenant ≡ true in
+    let known_before : All Known (front ++ st ∷ back) = subst (All Known) was (All-weaker (λ (o : Stream). is_known old.tenants o.tenant ≡ true) Known (λ o h. known o.tenant ∙ h) old.list.items held.known) in
+    let next_sum : ◌≡◌ {A = ℕ} new.entries (sum_by (λ o. o.chunks.next) (front ++ now ∷ back)) =
+    let before = held.entries ∙ ap (sum_by (λ o. o.chunks.next)) was ∙ sum_split (λ o. o.chunks.next) front st back in
+    let after = sum_split (λ o. o.chunks.next) front now back in
+    omega (arith, before, after, entries, next) in
+    let counted : ◌≡◌ {A = ℕ} new.active (length (filter (λ o. nat_lt 0 o.chunks.next) (front ++ now ∷ back))) =
+    active_case (nat_lt 0 st.chunks.next) (nat_lt 0 now.chunks.next) (length (filter (λ o. nat_lt 0 o.chunks.next) (front ++ back))) old.active new.active
+    (length (filter (λ o. nat_lt 0 o.chunks.next) (front ++ now ∷ back)))
+    (lt-ltb 0 now.chunks.next (omega (arith, next, some)))
+    (held.active ∙ ap (λ l. length (filter (λ o. nat_lt 0 o.chunks.next) l)) was ∙ count_split (λ o. nat_lt 0 o.chunks.next) front st back)
+    active (count_split (λ o. nat_lt 0 o.chunks.next) front now back) in
+    record {
+      kept = subst (All IsKept) (sym is) (replaced IsKept front st now back all kept);
+      distinct = subst AreDistinct (sym is) (distinct_same front st now back key (subst AreDistinct was held.distinct));
+      found = λ k. find k.tenant k.name ∙ held.found k ∙ ap (position_of k) was ∙ sym (position_same front st now back key k) ∙ ap (position_of k) (sym is);
+      known = subst (All Known) (sym is) (replaced Known front st now back known_before (ap (is_known new.tenants) tenant ∙ middle Known front st back known_before));
+      sums = λ t. sums t
+          ∙ (λ i. cond (bytes_eq st.tenant t) (changed ((held.sums st.tenant ∙ ap (measures_of st.tenant) was) i) (measure_of st) (measure_of now)) ((held.sums t ∙ ap (measures_of t) was) i))
+          ∙ sym (measures_changed front st now back tenant t) ∙ ap (measures_of t) (sym is);
+      entries = next_sum ∙ ap (sum_by (λ o. o.chunks.next)) (sym is);
+      active = counted ∙ ap (λ l. length (filter (λ o. nat_lt 0 o.chunks.next) l)) (sym is);
+      few = few;
+    }

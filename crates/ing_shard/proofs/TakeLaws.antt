@@ -1,0 +1,110 @@
+-- A stream takes accepted entries: what that does to what is held.
+use Rattle.std.proofs.Common.{◌≡◌, ℕ, ◌+◌, ◌-◌, ◌*◌, ◌^◌, ◌<◌, ◌≤◌, ◌==◌, Bool, List, [], ◌∷◌, ◌++◌, length, cond, true, false, ◌&&◌, nat_lt, refl, ap, sym, ◌∙◌, subst, arith, filter}
+use Rattle.std.specs.Prelude.{All, bytes_eq, sum_by}
+use Rattle.std.proofs.lemmas.Bool.{eqb-true, ltb-false, ltb-true}
+use Rattle.std.proofs.lemmas.List.Elements.{All-weaker}
+use Rattle.std.proofs.lemmas.Slice.Eq.{bytes_eq-Decides}
+use Rattle.std.specs.Prelude.{◌||◌, is_some, nat_le}
+use Rattle.ing_rows.specs.declared.entry.Entry.{Entry}
+use Rattle.ing_rows.specs.declared.verdict.Verdict.{Verdict}
+use Rattle.ing_rows.specs.Events.{is_full}
+use Rattle.ing_rows.specs.Turns.{accepted_among}
+use Rattle.ing_rows.specs.Verdicts.{accepted_number}
+use Rattle.ing_rows.specs.Rows.{StreamKey, Row, State, chunk_starts, count_of, streams_of, is_head, is_block, same_stream}
+use Rattle.ing_shard.specs.declared.stream.Stream.{Stream}
+use Rattle.ing_shard.specs.declared.streams.Streams.{Streams}
+use Rattle.ing_shard.specs.Tenants.{Fits, changed, find_of, is_known, kept_of}
+use Rattle.ing_shard.specs.Streams.{part_of, IsKept, AreDistinct, AreHeld, measure_of, measures_of, position_of}
+use Rattle.ing_shard.proofs.CountLaws.{filter_short, part_count}
+use Rattle.ing_shard.proofs.SumLaws.{measures_changed, sum_bound, sum_split}
+
+live_small : (b : Bool) (n : ℕ) → nat_lt 0 n ≡ b → cond b 1 0 ≤ n * 1
+live_small true n is = let some : 0 < n = ltb-true 0 n is in omega (arith, some)
+live_small false n is = omega arith
+
+by_one : (n m : ℕ) → (n + m) * 1 ≡ n * 1 + m * 1
+by_one n m = omega arith
+
+by_line : (n m : ℕ) → (n + m) * 2 ^ 65 ≡ n * 2 ^ 65 + m * 2 ^ 65
+by_line n m = omega arith
+
+entries_small : (st : Stream) (p : Row → Bool) → IsKept st → length (filter p (part_of st).rows) ≤ st.chunks.next * 1
+entries_small st p kept = let short = filter_short p (part_of st).rows in let count = part_count st kept in omega (arith, short, count)
+
+-- the sums of a tenant's streams can be kept
+pub sums_fit : (t : List ℕ) (sts : List Stream) → All IsKept sts → sum_by (λ st. st.chunks.next) sts ≤ 2 ^ 62 → Fits (measures_of t sts)
+sums_fit t sts kept few =
+    let live = sum_bound (λ k. k.live) 1 by_one t sts (All-weaker IsKept (λ st. (measure_of st).live ≤ st.chunks.next * 1) (λ st k. live_small (nat_lt 0 st.chunks.next) st.chunks.next refl) sts kept) in
+    let heads = sum_bound (λ k. k.head_entries) 1 by_one t sts (All-weaker IsKept (λ st. (measure_of st).head_entries ≤ st.chunks.next * 1) (λ st k. entries_small st (λ r. bytes_eq r.stream.tenant st.tenant && is_head r.place) k) sts kept) in
+    let blocks = sum_bound (λ k. k.block_entries) 1 by_one t sts (All-weaker IsKept (λ st. (measure_of st).block_entries ≤ st.chunks.next * 1) (λ st k. entries_small st (λ r. bytes_eq r.stream.tenant st.tenant && is_block r.place) k) sts kept) in
+    let head_bytes = sum_bound (λ k. k.head_bytes) (2 ^ 65) by_line t sts (All-weaker IsKept (λ st. (measure_of st).head_bytes ≤ st.chunks.next * 2 ^ 65) (λ st k. k.head_small) sts kept) in
+    let block_bytes = sum_bound (λ k. k.block_bytes) (2 ^ 65) by_line t sts (All-weaker IsKept (λ st. (measure_of st).block_bytes ≤ st.chunks.next * 2 ^ 65) (λ st k. k.block_small) sts kept) in
+    record {
+      live = omega (arith, live, few);
+      head_entries = omega (arith, heads, few);
+      head_bytes = omega (arith, head_bytes, few);
+      block_entries = omega (arith, blocks, few);
+      block_bytes = omega (arith, block_bytes, few);
+    }
+
+-- the changed sums are those of the changed streams
+pub changed_own : (front : List Stream) (st new : Stream) (back : List Stream) → new.tenant ≡ st.tenant
+    → measures_of st.tenant (front ++ new ∷ back) ≡ changed (measures_of st.tenant (front ++ st ∷ back)) (measure_of st) (measure_of new)
+changed_own front st new back tenant =
+    measures_changed front st new back tenant st.tenant
+    ∙ ap (λ b. cond b (changed (measures_of st.tenant (front ++ st ∷ back)) (measure_of st) (measure_of new)) (measures_of st.tenant (front ++ st ∷ back))) ((bytes_eq-Decides st.tenant st.tenant).1 refl)
+
+-- the same list of streams is held alike
+pub held_same : (old new : Streams) → AreHeld old → new.list.items ≡ old.list.items → new.tenants ≡ old.tenants → new.entries ≡ old.entries → new.active ≡ old.active → AreHeld new
+held_same old new held is tenants entries active =
+    let few = held.few in
+    record {
+      kept = subst (All IsKept) (sym is) held.kept;
+      distinct = subst AreDistinct (sym is) held.distinct;
+      found = λ s. ap (λ t. find_of t s.tenant s.name) tenants ∙ held.found s ∙ ap (position_of s) (sym is);
+      known = subst (λ l. All (λ st. is_known new.tenants st.tenant ≡ true) l) (sym is) (subst (λ t. All (λ st. is_known t st.tenant ≡ true) old.list.items) (sym tenants) held.known);
+      sums = λ t. ap (λ ts. kept_of ts t) tenants ∙ held.sums t ∙ ap (measures_of t) (sym is);
+      entries = entries ∙ held.entries ∙ ap (sum_by (λ st. st.chunks.next)) (sym is);
+      active = active ∙ held.active ∙ ap (λ l. length (filter (λ st. nat_lt 0 st.chunks.next) l)) (sym is);
+      few = omega (arith, entries, few);
+    }
+
+-- a stream has no more entries than all have
+pub next_within : (front : List Stream) (st : Stream) (back : List Stream) → st.chunks.next ≤ sum_by (λ o. o.chunks.next) (front ++ st ∷ back)
+next_within front st back = let is = sum_split (λ o. o.chunks.next) front st back in omega (arith, is)
+
+-- a tenant has no more live streams than all have entries
+pub live_fits : (t : List ℕ) (sts : List Stream) → All IsKept sts → sum_by (λ st. st.chunks.next) sts ≤ 2 ^ 62 → (measures_of t sts).live ≤ 2 ^ 62
+live_fits t sts kept few =
+    let live = sum_bound (λ k. k.live) 1 by_one t sts (All-weaker IsKept (λ st. (measure_of st).live ≤ st.chunks.next * 1) (λ st k. live_small (nat_lt 0 st.chunks.next) st.chunks.next refl) sts kept) in
+    omega (arith, live, few)
+
+-- a stream's entries are among all
+pub count_within : (s : StreamKey) (rows : List Row) → count_of rows s ≤ length rows
+count_within s rows = filter_short (λ r. same_stream r.stream s) rows
+
+-- those that are accepted are among those that are judged
+pub accepted_within : (es : List Entry) (vs : List Verdict) → length (accepted_among es vs) ≤ length es
+accepted_within [] vs = omega arith
+accepted_within (e ∷ es) [] = omega arith
+accepted_within (e ∷ es) (v ∷ vs) = kept (is_some (accepted_number v)) (accepted_within es vs) where
+  kept : (b : Bool) → length (accepted_among es vs) ≤ length es → length (cond b (e ∷ accepted_among es vs) (accepted_among es vs)) ≤ length (e ∷ es)
+  kept true h = omega (arith, h)
+  kept false h = omega (arith, h)
+
+-- where no count is full, the entries fit
+either_left : (a b : Bool) → (a || b) ≡ false → a ≡ false
+either_left true b h = h
+either_left false b h = refl
+
+pub not_full : (st : State) (s : StreamKey) (more : ℕ) → is_full st s more ≡ false → length st.rows + more ≤ 2 ^ 62
+not_full st s more h =
+    let entries = nat_lt (2 ^ 62) (length st.rows + more) in
+    let streams = (count_of st.rows s == 0) && nat_le (2 ^ 32 - 1) (length (streams_of st.rows)) in
+    let chunks = nat_lt (2 ^ 32 - 1) (length (chunk_starts s st.rows) + more) in
+    ltb-false (2 ^ 62) (length st.rows + more) (either_left entries streams (either_left (entries || streams) chunks h))
+
+-- a list of no length is empty
+pub no_items : {X : Type 0} (xs : List X) (n : ℕ) → n ≡ length xs → (n == 0) ≡ true → xs ≡ []
+no_items [] n is none = refl
+no_items (x ∷ xs) n is none = let zero_long : n ≡ 0 = eqb-true n 0 none in absurd (omega (arith, is, zero_long))

@@ -1,0 +1,52 @@
+use Rattle.std.proofs.Common.{◌≡◌, length, ap, subst, sym, ◌∙◌}
+use Rattle.ing_rows.specs.Rows.{chunk_starts}
+use Rattle.ing_shard.specs.declared.stream.Stream.{Stream}
+use Rattle.std.specs.Prelude.{All}
+use Rattle.ing_shard.specs.Contents.{stream_of}
+use Rattle.ing_shard.specs.Streams.{key_of, part_of, IsKept}
+use Rattle.ing_shard.proofs.HeldLaws.{middle}
+use Rattle.ing_shard.proofs.PositionLaws.{position_splits, splits_within, splits_read, none_others}
+use Rattle.ing_shard.proofs.ReadLaws.{facts_listed, facts_unlisted, starts_listed, starts_unlisted}
+use Rattle.ing_shard.proofs.streams.Streams.counts.Goals as goal
+
+pub index-stream-requires : goal.index-stream-requires
+index-stream-requires c =
+    let s = stream_of c.args.tenant.now c.args.labels.now in
+    let items = c.args.self.now.list.items in
+    splits_within s items c.in-Some.number _ c.args.self.now.list.ok.0 (position_splits s items c.in-Some.number c.requires.distinct (sym c.in-Some.ensures))
+
+pub returns-in-Some : goal.returns-in-Some
+returns-in-Some c =
+    let streams = c.args.self.now in
+    let s = stream_of c.args.tenant.now c.args.labels.now in
+    let split = position_splits s streams.list.items c.in-Some.number c.requires.distinct (sym c.in-Some.ensures) in
+    let read : c.index-stream.result.now ≡ split.st = c.index-stream.ensures ∙ splits_read s streams.list.items c.in-Some.number split c.index-stream.result.now in
+    let go = c.order_does_not_count.ensures.facts in
+    let laws = c.parts_are_apart.ensures in
+    let fresh = c.pushes_keep_states_sound.ensures.fresh in (
+      c.next.ensures.value ∙ ap (λ (st : Stream). st.chunks.next) read
+          ∙ sym (ap (λ f. f.count) (facts_listed go laws.facts laws.sound fresh laws.live laws.streams streams c.requires s c.in-Some.number split)),
+      c.begun.ensures ∙ ap (λ (st : Stream). length (chunk_starts (key_of st) (part_of st).rows)) read
+          ∙ ap (λ k. length (chunk_starts k (part_of split.st).rows)) split.key
+          ∙ sym (starts_listed go laws.facts laws.sound fresh laws.live laws.streams streams c.requires s c.in-Some.number split),
+    )
+
+pub returns-in-None : goal.returns-in-None
+returns-in-None c =
+    let streams = c.args.self.now in
+    let s = stream_of c.args.tenant.now c.args.labels.now in
+    let others = none_others s streams.list.items (sym c.in-None.ensures) in
+    let go = c.order_does_not_count.ensures.facts in
+    let laws = c.parts_are_apart.ensures in
+    let fresh = c.pushes_keep_states_sound.ensures.fresh in (
+      sym (ap (λ f. f.count) (facts_unlisted go laws.facts laws.sound fresh laws.live laws.streams streams c.requires s others)),
+      sym (starts_unlisted go laws.facts laws.sound fresh laws.live laws.streams streams c.requires s others),
+    )
+
+pub begun-requires : goal.begun-requires
+begun-requires c =
+    let streams = c.args.self.now in
+    let s = stream_of c.args.tenant.now c.args.labels.now in
+    let split = position_splits s streams.list.items c.in-Some.number c.requires.distinct (sym c.in-Some.ensures) in
+    let read : c.index-stream.result.now ≡ split.st = c.index-stream.ensures ∙ splits_read s streams.list.items c.in-Some.number split c.index-stream.result.now in
+    subst IsKept (sym read) (middle IsKept split.front split.st split.back (subst (All IsKept) split.is c.requires.kept))

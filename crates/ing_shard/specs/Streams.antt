@@ -1,0 +1,113 @@
+-- What the streams of a shard stand for, and what is kept of each.
+use Rattle.std.specs.Prelude.{◌≡◌, ℕ, ◌+◌, ◌*◌, ◌≤◌, ◌^◌, max, true, false, List, [], ◌∷◌, All, bytes_eq, filter, length, sum_by, nat_lt, if◌then◌else◌, Option, Some, None}
+use Rattle.std.specs.Option.{option_map}
+use Rattle.ing_labels.specs.Canonical.{canonical_of}
+use Rattle.ing_rows.specs.declared.entry.Entry.{Entry}
+use Rattle.ing_rows.specs.Rows.{StreamKey, State, empty_state, is_head, is_block, same_stream}
+use Rattle.ing_rows.specs.Facts.{Facts, facts_of}
+use Rattle.ing_rows.specs.Gauges.{gauge_of}
+use Rattle.ing_rows.specs.Sound.{IsSound}
+use Rattle.ing_rows.specs.Turns.{beside, BeginsWithMarks, IsMarked}
+use Rattle.ing_chunk.specs.Chunks.{stream_state}
+use Rattle.ing_shard.specs.declared.stream.Stream.{Stream}
+use Rattle.ing_shard.specs.declared.tenants.TenantKept.{TenantKept}
+use Rattle.ing_shard.specs.declared.streams.Streams.{Streams}
+use Rattle.ing_shard.specs.Tenants.{find_of, is_known, kept_of}
+
+abbrev pub key_of : Stream → StreamKey
+key_of st = record { tenant = st.tenant; name = canonical_of st.labels }
+
+-- its part of the state of a shard
+abbrev pub part_of : Stream → State
+part_of st = stream_state (key_of st) st.chunks
+
+-- the state of a shard that has these streams
+abbrev pub whole : List Stream → State
+whole [] = empty_state
+whole (st ∷ sts) = beside (part_of st) (whole sts)
+
+-- ---- what is kept of a stream
+
+-- what is kept of it, as if it were its tenant's only one
+abbrev pub facts_kept : Stream → Facts
+facts_kept st =
+    record {
+      count = st.chunks.next;
+      greatest = st.greatest;
+      last = st.last;
+      is_live = nat_lt 0 st.chunks.next;
+      live = if nat_lt 0 st.chunks.next then 1 else 0;
+    }
+
+abbrev pub with_live : ℕ → Facts → Facts
+with_live live facts = record facts { live = live }
+
+-- what a stream adds to the sums over its tenant's
+abbrev pub measure_of : Stream → TenantKept
+measure_of st =
+    let rows = (part_of st).rows in
+    let head = gauge_of is_head rows st.tenant in
+    let block = gauge_of is_block rows st.tenant in
+    record {
+      live = if nat_lt 0 st.chunks.next then 1 else 0;
+      head_entries = head.entries;
+      head_bytes = head.bytes;
+      block_entries = block.entries;
+      block_bytes = block.bytes;
+    }
+
+-- it is what its rows give, and no line is longer than memory
+pub record IsKept (st : Stream) : Type 0 where
+  pub facts : facts_of (part_of st).rows (key_of st) ≡ facts_kept st
+  pub sound : IsSound (part_of st)
+  pub marked : IsMarked (part_of st)
+  pub begins : BeginsWithMarks (key_of st) (part_of st)
+  pub head_small : (measure_of st).head_bytes ≤ st.chunks.next * 2 ^ 65
+  pub block_small : (measure_of st).block_bytes ≤ st.chunks.next * 2 ^ 65
+
+-- the greatest stamp of entries, beside this one
+abbrev pub greatest_with : ℕ → List Entry → ℕ
+greatest_with before [] = before
+greatest_with before (e ∷ es) = greatest_with (max e.stamp before) es
+
+-- ---- sums over streams
+
+-- the sum over a tenant's streams
+abbrev pub sum_of : (TenantKept → ℕ) → List ℕ → List Stream → ℕ
+sum_of f tenant streams = sum_by (λ st. f (measure_of st)) (filter (λ st. bytes_eq st.tenant tenant) streams)
+
+abbrev pub measures_of : List ℕ → List Stream → TenantKept
+measures_of tenant streams =
+    record {
+      live = sum_of (λ k. k.live) tenant streams;
+      head_entries = sum_of (λ k. k.head_entries) tenant streams;
+      head_bytes = sum_of (λ k. k.head_bytes) tenant streams;
+      block_entries = sum_of (λ k. k.block_entries) tenant streams;
+      block_bytes = sum_of (λ k. k.block_bytes) tenant streams;
+    }
+
+-- ---- streams by name
+
+-- the place of the first stream with this key
+abbrev pub position_of : StreamKey → List Stream → Option ℕ
+position_of s [] = None
+position_of s (st ∷ sts) = if same_stream (key_of st) s then Some 0 else option_map (λ i. i + 1) (position_of s sts)
+
+-- no two have the same key
+abbrev pub AreDistinct : List Stream → Type 0
+AreDistinct [] = Unit {0}
+AreDistinct (st ∷ sts) = All (λ other. same_stream (key_of other) (key_of st) ≡ false) sts × AreDistinct sts
+
+-- ---- all streams of a shard
+
+-- What is kept beside the streams is what they give: no two have the same name, each is found by it, and the sums of each
+-- tenant are those of its streams.
+pub record AreHeld (streams : Streams) : Type 0 where
+  pub kept : All IsKept streams.list.items
+  pub distinct : AreDistinct streams.list.items
+  pub found : (s : StreamKey) → find_of streams.tenants s.tenant s.name ≡ position_of s streams.list.items
+  pub known : All (λ st. is_known streams.tenants st.tenant ≡ true) streams.list.items
+  pub sums : (tenant : List ℕ) → kept_of streams.tenants tenant ≡ measures_of tenant streams.list.items
+  pub entries : streams.entries ≡ sum_by (λ st. st.chunks.next) streams.list.items
+  pub active : streams.active ≡ length (filter (λ st. nat_lt 0 st.chunks.next) streams.list.items)
+  pub few : streams.entries ≤ 2 ^ 62

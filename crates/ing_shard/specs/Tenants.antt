@@ -1,0 +1,49 @@
+-- What a shard keeps tenant by tenant, as contracts see it.
+use Rattle.std.specs.Prelude.{ℕ, ◌+◌, ◌-◌, ◌≤◌, ◌<◌, ◌^◌, Bool, List, is_some, Option, None}
+use Rattle.std.specs.Option.{option_map_or}
+use Rattle.std.specs.BTreeMap.{get_by_text}
+use Rattle.ing_shard.specs.declared.tenants.TenantKept.{TenantKept}
+use Rattle.ing_shard.specs.declared.tenants.Tenants.{Tenants}
+
+-- of a tenant without streams
+abbrev pub nothing_kept : TenantKept
+nothing_kept = record { live = 0; head_entries = 0; head_bytes = 0; block_entries = 0; block_bytes = 0 }
+
+-- the number under which a stream is listed, by its tenant and its canonical name
+abbrev pub find_of : Tenants → List ℕ → List ℕ → Option ℕ
+find_of tenants t n = option_map_or (λ streams. get_by_text streams.by_name n) (get_by_text tenants.by_id t) None
+
+-- whether the tenant is listed
+abbrev pub is_known : Tenants → List ℕ → Bool
+is_known tenants t = is_some (get_by_text tenants.by_id t)
+
+-- the sums over the tenant's streams
+abbrev pub kept_of : Tenants → List ℕ → TenantKept
+kept_of tenants t = option_map_or (λ streams. streams.kept) (get_by_text tenants.by_id t) nothing_kept
+
+-- what one stream adds is within the sums
+pub record IsWithin (part sums : TenantKept) : Type 0 where
+  pub live : part.live ≤ sums.live
+  pub head_entries : part.head_entries ≤ sums.head_entries
+  pub head_bytes : part.head_bytes ≤ sums.head_bytes
+  pub block_entries : part.block_entries ≤ sums.block_entries
+  pub block_bytes : part.block_bytes ≤ sums.block_bytes
+
+-- the sums can be kept
+pub record Fits (sums : TenantKept) : Type 0 where
+  pub live : sums.live < 2 ^ 64
+  pub head_entries : sums.head_entries < 2 ^ 64
+  pub head_bytes : sums.head_bytes < 2 ^ 128
+  pub block_entries : sums.block_entries < 2 ^ 64
+  pub block_bytes : sums.block_bytes < 2 ^ 128
+
+-- the sums where one of the streams has changed
+abbrev pub changed : TenantKept → TenantKept → TenantKept → TenantKept
+changed sums before after =
+    record {
+      live = sums.live - before.live + after.live;
+      head_entries = sums.head_entries - before.head_entries + after.head_entries;
+      head_bytes = sums.head_bytes - before.head_bytes + after.head_bytes;
+      block_entries = sums.block_entries - before.block_entries + after.block_entries;
+      block_bytes = sums.block_bytes - before.block_bytes + after.block_bytes;
+    }
