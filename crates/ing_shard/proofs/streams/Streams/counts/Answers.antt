@@ -1,10 +1,8 @@
-use Rattle.std.proofs.Common.{◌≡◌, length, ap, subst, sym, ◌∙◌}
+use Rattle.std.proofs.Common.{◌≡◌, length, ap, sym, ◌∙◌}
 use Rattle.ing_rows.specs.Rows.{chunk_starts}
 use Rattle.ing_shard.specs.declared.stream.Stream.{Stream}
-use Rattle.std.specs.Prelude.{All}
 use Rattle.ing_shard.specs.Contents.{stream_of}
-use Rattle.ing_shard.specs.Streams.{key_of, part_of, IsKept}
-use Rattle.ing_shard.proofs.HeldLaws.{middle}
+use Rattle.ing_shard.specs.Streams.{key_of, part_of}
 use Rattle.ing_shard.proofs.PositionLaws.{position_splits, splits_within, splits_read, none_others}
 use Rattle.ing_shard.proofs.ReadLaws.{facts_listed, facts_unlisted, starts_listed, starts_unlisted}
 use Rattle.ing_shard.proofs.streams.Streams.counts.Goals as goal
@@ -42,11 +40,3 @@ returns-in-None c =
       sym (ap (λ f. f.count) (facts_unlisted go laws.facts laws.sound fresh laws.live laws.streams streams c.requires s others)),
       sym (starts_unlisted go laws.facts laws.sound fresh laws.live laws.streams streams c.requires s others),
     )
-
-pub begun-requires : goal.begun-requires
-begun-requires c =
-    let streams = c.args.self.now in
-    let s = stream_of c.args.tenant.now c.args.labels.now in
-    let split = position_splits s streams.list.items c.in-Some.number c.requires.distinct (sym c.in-Some.ensures) in
-    let read : c.index-stream.result.now ≡ split.st = c.index-stream.ensures ∙ splits_read s streams.list.items c.in-Some.number split c.index-stream.result.now in
-    subst IsKept (sym read) (middle IsKept split.front split.st split.back (subst (All IsKept) split.is c.requires.kept))
