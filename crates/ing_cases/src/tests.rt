@@ -1,10 +1,5 @@
 //! What no file can say: readers and writers that fail or watch one another, settings files, lines of 16 MiB, and a
 //! refused allocation.
-mod labels;
-mod postings;
-mod settings;
-mod shard;
-
 use ing_limits::Settings;
 use ing_session::{Ending, conclude, run, start};
 use std::cell::Cell;
@@ -40,33 +35,50 @@ fn started(rt: &HostRuntime, words: &[&str]) -> Result<(Result<(), Ending>, Stri
     Ok((ended, written))
 }
 
+/// A path of this name in the folder for temporary files.
+fn temporary(rt: &HostRuntime, name: &str) -> Result<String, Fail> {
+    let folder = env::temp_dir(rt)?;
+    Ok(format!(in rt.alloc(); "{}/sarymbeu-{name}", folder.as_str())?)
+}
+
+/// How the program ends on `PUSHES` by a file of these settings, and what it has written by then.
+fn started_by(rt: &HostRuntime, settings: &str) -> Result<(Result<(), Ending>, String), Fail> {
+    let name = format!(in rt.alloc(); "{}.toml", process::id(rt.process()))?;
+    let path = temporary(rt, name.as_str())?;
+    fs::write(rt, path.as_str(), settings.as_bytes())?;
+    let ended = started(rt, &[path.as_str()])?;
+    fs::remove_file(rt, path.as_str())?;
+    Ok(ended)
+}
+
 #[test]
 fn settings_from_a_file(rt: HostRuntime) -> Result<(), Fail> {
-    let folder = env::temp_dir(&rt)?;
-    let path = format!(in rt.alloc();
-        "{}/sarymbeu-{}.toml",
-        folder.as_str(),
-        process::id(rt.process())
-    )?;
     // What counts stands behind the first 64 KiB of the file.
     let mut file = "#\n".repeat(rt.alloc(), 40_000)?;
     file.push_str("[tenants.acme]\nmax_line_size = 4\n")?;
-    fs::write(&rt, path.as_str(), file.as_bytes())?;
-    let (ended, written) = started(&rt, &[path.as_str()])?;
-    fs::remove_file(&rt, path.as_str())?;
+    let (ended, written) = started_by(&rt, file.as_str())?;
     assert_eq!(rt; ended, Ok(()));
     assert!(rt; written.as_str().contains("\"line_too_long\""));
+    Ok(())
+}
+
+/// Both replies and the report, which is the whole output on `PUSHES`.
+fn whole_output(rt: &HostRuntime) -> Result<String, Fail> {
+    Ok(format!(in rt.alloc(); "{REPLY}{REPLY}{REPORT}")?)
+}
+
+#[test]
+fn no_word_means_no_settings(rt: HostRuntime) -> Result<(), Fail> {
     let (ended, written) = started(&rt, &[])?;
     assert_eq!(rt; ended, Ok(()));
-    let both = format!(in rt.alloc(); "{REPLY}{REPLY}{REPORT}")?;
-    assert_eq!(rt; written.as_str(), both.as_str());
+    assert_eq!(rt; written.as_str(), whole_output(&rt)?.as_str());
     Ok(())
 }
 
 #[test]
 fn words_that_name_no_file(rt: HostRuntime) -> Result<(), Fail> {
+    let missing = temporary(&rt, "no-such-file.toml")?;
     let folder = env::temp_dir(&rt)?;
-    let missing = format!(in rt.alloc(); "{}/sarymbeu-no-such-file.toml", folder.as_str())?;
     for path in [missing.as_str(), folder.as_str(), ""] {
         let (ended, written) = started(&rt, &[path])?;
         let mut errors = Vec::new(rt.alloc());
@@ -74,7 +86,13 @@ fn words_that_name_no_file(rt: HostRuntime) -> Result<(), Fail> {
         assert_eq!(rt; errors.as_slice(), b"ingestd: NoSettings\n".as_slice());
         assert_eq!(rt; written.as_str(), "");
     }
-    let (ended, written) = started(&rt, &[missing.as_str(), folder.as_str()])?;
+    Ok(())
+}
+
+#[test]
+fn more_words_than_one(rt: HostRuntime) -> Result<(), Fail> {
+    let missing = temporary(&rt, "no-such-file.toml")?;
+    let (ended, written) = started(&rt, &[missing.as_str(), missing.as_str()])?;
     assert_eq!(rt; ended, Err(Ending::BadArguments));
     assert_eq!(rt; written.as_str(), "");
     Ok(())
@@ -106,30 +124,51 @@ impl Read for Pieces<'_> {
     }
 }
 
+/// How a run on `PUSHES` in pieces of so many bytes ends, and what it has written by then.
+fn run_in_pieces(
+    rt: &HostRuntime,
+    piece: usize,
+    fails: bool,
+) -> Result<(Result<(), Ending>, Vec<u8>), Fail> {
+    let mut reader = Pieces {
+        text: PUSHES.as_bytes(),
+        piece,
+        interrupts: false,
+        fails,
+    };
+    let mut writer = Vec::new(rt.alloc());
+    let ended = run(rt.alloc(), &mut reader, &mut writer, defaults(rt)?);
+    Ok((ended, writer))
+}
+
+const PIECES: [usize; 5] = [1, 2, 3, 7, 1000];
+
 #[test]
-fn input_in_pieces_and_a_failed_read(rt: HostRuntime) -> Result<(), Fail> {
-    let whole = format!(in rt.alloc(); "{REPLY}{REPLY}{REPORT}")?;
-    let answered = format!(in rt.alloc(); "{REPLY}{REPLY}")?;
-    for piece in [1, 2, 3, 7, 1000] {
-        for (fails, ended, output) in [
-            (false, Ok(()), whole.as_str()),
-            (true, Err(Ending::InputFault), answered.as_str()),
-        ] {
-            let mut reader = Pieces {
-                text: PUSHES.as_bytes(),
-                piece,
-                interrupts: false,
-                fails,
-            };
-            let mut writer = Vec::new(rt.alloc());
-            let got = run(rt.alloc(), &mut reader, &mut writer, defaults(&rt)?);
-            assert_eq!(rt; got, ended, "in pieces of {piece}");
-            assert_eq!(rt;
-                writer.as_slice(),
-                output.as_bytes(),
-                "in pieces of {piece}"
-            );
-        }
+fn input_in_pieces(rt: HostRuntime) -> Result<(), Fail> {
+    let whole = whole_output(&rt)?;
+    for piece in PIECES {
+        let (ended, written) = run_in_pieces(&rt, piece, false)?;
+        assert_eq!(rt; ended, Ok(()), "in pieces of {piece}");
+        assert_eq!(rt;
+            written.as_slice(),
+            whole.as_bytes(),
+            "in pieces of {piece}"
+        );
+    }
+    Ok(())
+}
+
+#[test]
+fn a_failed_read_ends_the_run_without_a_report(rt: HostRuntime) -> Result<(), Fail> {
+    let answered = REPLY.repeat(rt.alloc(), 2)?;
+    for piece in PIECES {
+        let (ended, written) = run_in_pieces(&rt, piece, true)?;
+        assert_eq!(rt; ended, Err(Ending::InputFault), "in pieces of {piece}");
+        assert_eq!(rt;
+            written.as_slice(),
+            answered.as_bytes(),
+            "in pieces of {piece}"
+        );
     }
     Ok(())
 }

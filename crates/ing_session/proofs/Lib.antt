@@ -2,7 +2,7 @@ pub mod LinesLaws
 pub mod ShapeLaws
 pub mod CommandLaws
 pub mod StartingLaws
-mod NoFloat
+mod WritingLaws
 pub mod RunsLaws
 mod StreamsLaws
 mod EndingsLaws

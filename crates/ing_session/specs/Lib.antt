@@ -11,3 +11,4 @@ pub mod Shapes
 pub mod Starting
 pub mod Unread
 pub mod Views
+pub mod Written

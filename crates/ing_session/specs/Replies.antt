@@ -30,10 +30,14 @@ fault_data refusal (Some at) =
     member (codes "error") (string (refusal_name refusal)) (
     member (codes "number") (count (refusal_number refusal)) no_members)))
 
--- the stream by its canonical name, and the verdict of each entry
+-- the verdict of each entry
+abbrev pub verdicts_data : List Verdict → Data
+verdicts_data verdicts = array (items_of (map verdict_data verdicts))
+
+-- the stream by its canonical name, and the verdicts of its entries
 abbrev pub judged_data : List ℕ → Bool → List Verdict → Data
 judged_data name durable verdicts =
-    object (member (codes "durable") (boolean durable) (member (codes "stream") (string name) (member (codes "verdicts") (array (items_of (map verdict_data verdicts))) no_members)))
+    object (member (codes "durable") (boolean durable) (member (codes "stream") (string name) (member (codes "verdicts") (verdicts_data verdicts) no_members)))
 
 -- a reply for each stream
 abbrev pub push_data : List Data → Data

@@ -1,5 +1,5 @@
 -- What the code's types hold, without where it lies in memory.
-use Rattle.std.specs.Prelude.{ℕ, List, map}
+use Rattle.std.specs.Prelude.{ℕ, List, [], ◌∷◌, map, None}
 use Rattle.std.specs.Borrow.{Bor}
 use Rattle.ing_session.specs.declared.command.push.Push as push
 use Rattle.ing_session.specs.declared.command.push.StreamPush.{StreamPush}
@@ -8,6 +8,13 @@ use Rattle.ing_session.specs.declared.command.push.texts.StreamTexts.{StreamText
 use Rattle.ing_session.specs.declared.command.push.texts.ValueTexts.{ValueTexts}
 use Rattle.ing_session.specs.declared.command.Command as code
 use Rattle.ing_session.specs.declared.command.Command.TheVariants as variants
+use Rattle.ing_session.specs.declared.reply.Reply.{Reply}
+use Rattle.ing_session.specs.declared.reply.Reply.TheVariants as replies
+use Rattle.ing_session.specs.declared.reply.StreamReply.{StreamReply}
+use Rattle.ing_session.specs.declared.reply.StreamReply.TheVariants as replies_of_streams
+use Rattle.ing_labels.specs.Canonical.{canonical_of}
+use Rattle.serde_json.specs.Data.{Data}
+use Rattle.ing_session.specs.Replies.{fault_data, judged_data, push_data, report_data}
 use Rattle.ing_session.specs.PushCommands.{RawValue, RawStream, RawPush, PushCommand, StreamEntries}
 use Rattle.ing_session.specs.Commands.{Command, Push}
 
@@ -38,3 +45,14 @@ push_view p = record { tenant = p.tenant; now = p.now; streams = map stream_view
 -- a command
 abbrev pub command_view : code.Command → Command
 command_view (variants.Push p) = Push (push_view p)
+
+-- the reply to a stream
+abbrev pub stream_data : StreamReply → Data
+stream_data (replies_of_streams.Fault refusal at) = fault_data refusal at
+stream_data (replies_of_streams.Judged labels durable verdicts) = judged_data (canonical_of labels) durable verdicts.items
+
+-- a reply
+abbrev pub reply_data : Reply → Data
+reply_data (replies.Fault refusal) = fault_data refusal None
+reply_data (replies.Push streams) = push_data (map stream_data streams.items)
+reply_data (replies.Report shard) = report_data (shard ∷ [])

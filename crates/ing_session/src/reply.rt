@@ -1,68 +1,43 @@
-//! The replies as JSON values.
-ghost use Rattle.std.specs.Prelude.{◌≡◌, IfOk, map};
-ghost use Rattle.serde_json.specs.View.{view};
-ghost use Rattle.ing_session.specs.Replies.{verdict_data, fault_data, judged_data, push_data, shard_data, report_data};
+//! The replies, and the lines that they are written as.
+ghost use Rattle.std.specs.Prelude.{◌≡◌, ◌++◌, ◌∷◌, [], OnOk, OnErr, decimal, map};
+ghost use Rattle.ing_session.specs.Replies.{verdict_data, verdicts_data, fault_data, judged_data, push_data, shard_data, report_data, line_text, count};
+ghost use Rattle.ing_session.specs.Views.{stream_data, reply_data};
+ghost use Rattle.ing_session.specs.Written.{Adds, member_tokens, data_tokens, tokens_of_each};
+ghost use Rattle.serde_json.specs.Data.{string, object, no_members, member};
+ghost use Rattle.ing_labels.specs.Canonical.{canonical_of};
 
+use ing_labels::Labels;
 use ing_refusals::Refusal;
 use ing_rows::Verdict;
-use serde_json::{Value, json};
+use json::Writer;
 use std::alloc::{AllocError, Global};
+use std::mem;
 
-/// A refusal with its name, its number, and the place at fault where it has one.
-pub fn fault_value(alloc: Global, refusal: Refusal, at: Option<usize>) -> Result<Value, AllocError>
-    ensures { IfOk result (λ value. view value ≡ fault_data refusal at) }
-{
-    let (name, number) = (refusal.name(), refusal.number());
-    match at {
-        Some(at) => json!(in alloc; {"at": at, "error": name, "number": number}),
-        None => json!(in alloc; {"error": name, "number": number}),
-    }
+/// The reply to a line, or the report.
+#[derive(Debug, Drop)]
+pub enum Reply {
+    /// The line is refused.
+    Fault(Refusal),
+    /// One reply for each stream of a push.
+    Push(Vec<StreamReply>),
+    /// What is reported of the one shard.
+    Report(ShardReport),
 }
 
-/// The verdicts of one stream's entries.
-pub fn judged_value(
-    alloc: Global,
-    name: &str,
-    durable: bool,
-    verdicts: &[Verdict],
-) -> Result<Value, AllocError>
-    ensures { IfOk result (λ value. view value ≡ judged_data name.now durable verdicts.now) }
-{
-    let verdicts = Value::Array(verdict_values(alloc, verdicts)?);
-    json!(in alloc; {"durable": durable, "stream": name, "verdicts": verdicts})
-}
-
-fn verdict_values(alloc: Global, verdicts: &[Verdict]) -> Result<Vec<Value>, AllocError>
-    ensures { IfOk result (λ values. map view values.items ≡ map verdict_data verdicts.now) }
-{
-    let mut values = Vec::with_capacity(alloc, verdicts.len())?;
-    for verdict in verdicts {
-        values.push(verdict_value(alloc, *verdict)?)?;
-    }
-    Ok(values)
-}
-
-fn verdict_value(alloc: Global, verdict: Verdict) -> Result<Value, AllocError>
-    ensures { IfOk result (λ value. view value ≡ verdict_data verdict) }
-{
-    match verdict {
-        Verdict::Accepted { number } => json!(in alloc; {"accepted": number}),
-        Verdict::Duplicate => Value::try_from_str(alloc, "duplicate"),
-        Verdict::LineTooLong => Value::try_from_str(alloc, "line_too_long"),
-        Verdict::TooFarBehind { limit } => {
-            let limit = Value::String(limit.to_string(alloc)?);
-            json!(in alloc; {"too_far_behind": limit})
-        }
-        Verdict::TooManyStreams { live } => json!(in alloc; {"too_many_streams": live}),
-    }
-}
-
-/// The reply to a push: one for each stream.
-pub fn push_value(alloc: Global, replies: Vec<Value>) -> Result<Value, AllocError>
-    ensures { IfOk result (λ value. view value ≡ push_data (map view replies.items)) }
-{
-    let replies = Value::Array(replies);
-    json!(in alloc; {"push": replies})
+/// The reply to one stream of a push.
+#[derive(Debug, Drop)]
+pub enum StreamReply {
+    /// The stream is refused, with the place at fault where there is one.
+    Fault {
+        refusal: Refusal,
+        at: Option<usize>,
+    },
+    /// Its entries are judged.
+    Judged {
+        labels: Labels,
+        durable: bool,
+        verdicts: Vec<Verdict>,
+    },
 }
 
 /// What is reported of a shard, in counts of entries.
@@ -78,34 +53,211 @@ pub struct ShardReport {
     pub stored: u64,
 }
 
-/// The report: one for each shard.
-pub fn report_value(alloc: Global, shards: &[ShardReport]) -> Result<Value, AllocError>
-    ensures { IfOk result (λ value. view value ≡ report_data shards.now) }
+/// Puts a reply behind the others, as one line.
+pub fn add_line(alloc: Global, replies: &mut Vec<u8>, reply: &Reply) -> Result<(), AllocError>
+    ensures text { OnOk result
+        (replies.new.items ≡ replies.old.items ++ line_text (reply_data reply.now)) }
+    ensures err { OnErr result (replies.new.items ≡ replies.old.items) }
 {
-    let shards = Value::Array(shard_values(alloc, shards)?);
-    json!(in alloc; {"report": shards})
-}
-
-fn shard_values(alloc: Global, shards: &[ShardReport]) -> Result<Vec<Value>, AllocError>
-    ensures { IfOk result (λ values. map view values.items ≡ map shard_data shards.now) }
-{
-    let mut values = Vec::with_capacity(alloc, shards.len())?;
-    for shard in shards {
-        values.push(shard_value(alloc, *shard)?)?;
+    let length = replies.len();
+    let mut out = Writer::new(mem::replace(replies, Vec::new(alloc)));
+    let written = write_reply(&mut out, reply);
+    *replies = out.into_inner();
+    if written.is_err() || replies.push(b'\n').is_err() {
+        replies.truncate(length);
+        return Err(AllocError);
     }
-    Ok(values)
+    Ok(())
 }
 
-fn shard_value(alloc: Global, shard: ShardReport) -> Result<Value, AllocError>
-    ensures { IfOk result (λ value. view value ≡ shard_data shard) }
+fn write_reply(out: &mut Writer, reply: &Reply) -> Result<(), AllocError>
+    ensures tokens { OnOk result (Adds out.old out.new (data_tokens (reply_data reply.now))) }
+    ensures before { out.new.before ≡ out.old.before }
 {
-    let ShardReport {
-        accepted,
-        kept,
-        recovered,
-        stored,
-    } = shard;
-    json!(in alloc; {
-        "accepted": accepted, "kept": kept, "recovered": recovered, "stored": stored
-    })
+    match reply {
+        Reply::Fault(refusal) => write_fault(out, *refusal, None),
+        Reply::Push(streams) => write_push(out, streams),
+        Reply::Report(shard) => write_report(out, shard),
+    }
+}
+
+/// Writes a member that is a count.
+fn write_count(out: &mut Writer, name: &str, number: u64) -> Result<(), AllocError>
+    ensures tokens { OnOk result (Adds out.old out.new (member_tokens name.now (count number))) }
+    ensures before { out.new.before ≡ out.old.before }
+{
+    out.key(name)?;
+    out.u64(number)?;
+    Ok(())
+}
+
+/// Writes a member that is a text.
+fn write_text(out: &mut Writer, name: &str, text: &str) -> Result<(), AllocError>
+    ensures tokens { OnOk result (Adds out.old out.new (member_tokens name.now (string text.now))) }
+    ensures before { out.new.before ≡ out.old.before }
+{
+    out.key(name)?;
+    out.string(text)?;
+    Ok(())
+}
+
+/// Writes a refusal with its name, its number, and the place at fault where it has one.
+fn write_fault(out: &mut Writer, refusal: Refusal, at: Option<usize>) -> Result<(), AllocError>
+    ensures tokens { OnOk result (Adds out.old out.new (data_tokens (fault_data refusal at))) }
+    ensures before { out.new.before ≡ out.old.before }
+{
+    out.begin_object()?;
+    if let Some(at) = at {
+        write_count(out, "at", at as u64)?;
+    }
+    write_text(out, "error", refusal.name())?;
+    write_count(out, "number", u64::from(refusal.number()))?;
+    out.end_object()?;
+    Ok(())
+}
+
+/// Writes the reply to a push: one for each stream.
+fn write_push(out: &mut Writer, streams: &[StreamReply]) -> Result<(), AllocError>
+    ensures tokens { OnOk result (Adds out.old out.new
+        (data_tokens (push_data (map stream_data streams.now)))) }
+    ensures before { out.new.before ≡ out.old.before }
+{
+    out.begin_object()?;
+    out.key("push")?;
+    out.begin_array()?;
+    write_each_stream(out, streams)?;
+    out.end_array()?;
+    out.end_object()?;
+    Ok(())
+}
+
+fn write_each_stream(out: &mut Writer, streams: &[StreamReply]) -> Result<(), AllocError>
+    ensures tokens { OnOk result (Adds out.old out.new
+        (tokens_of_each (map stream_data streams.now))) }
+    ensures before { out.new.before ≡ out.old.before }
+{
+    for stream in streams {
+        write_stream(out, stream)?;
+    }
+    Ok(())
+}
+
+fn write_stream(out: &mut Writer, stream: &StreamReply) -> Result<(), AllocError>
+    ensures tokens { OnOk result (Adds out.old out.new (data_tokens (stream_data stream.now))) }
+    ensures before { out.new.before ≡ out.old.before }
+{
+    match stream {
+        StreamReply::Fault { refusal, at } => write_fault(out, *refusal, *at),
+        StreamReply::Judged {
+            labels,
+            durable,
+            verdicts,
+        } => write_judged(out, labels, *durable, verdicts),
+    }
+}
+
+/// Writes the stream by its canonical name, and the verdict of each entry.
+fn write_judged(
+    out: &mut Writer,
+    labels: &Labels,
+    durable: bool,
+    verdicts: &[Verdict],
+) -> Result<(), AllocError>
+    ensures tokens { OnOk result (Adds out.old out.new (data_tokens (judged_data (canonical_of labels.now) durable verdicts.now))) }
+    ensures before { out.new.before ≡ out.old.before }
+{
+    out.begin_object()?;
+    out.key("durable")?;
+    out.boolean(durable)?;
+    write_text(out, "stream", labels.name())?;
+    out.key("verdicts")?;
+    write_verdicts(out, verdicts)?;
+    out.end_object()?;
+    Ok(())
+}
+
+fn write_verdicts(out: &mut Writer, verdicts: &[Verdict]) -> Result<(), AllocError>
+    ensures tokens { OnOk result (Adds out.old out.new (data_tokens (verdicts_data verdicts.now))) }
+    ensures before { out.new.before ≡ out.old.before }
+{
+    out.begin_array()?;
+    write_each_verdict(out, verdicts)?;
+    out.end_array()?;
+    Ok(())
+}
+
+fn write_each_verdict(out: &mut Writer, verdicts: &[Verdict]) -> Result<(), AllocError>
+    ensures tokens { OnOk result (Adds out.old out.new
+        (tokens_of_each (map verdict_data verdicts.now))) }
+    ensures before { out.new.before ≡ out.old.before }
+{
+    for verdict in verdicts {
+        write_verdict(out, *verdict)?;
+    }
+    Ok(())
+}
+
+fn write_verdict(out: &mut Writer, verdict: Verdict) -> Result<(), AllocError>
+    ensures tokens { OnOk result (Adds out.old out.new (data_tokens (verdict_data verdict))) }
+    ensures before { out.new.before ≡ out.old.before }
+{
+    match verdict {
+        Verdict::Accepted { number } => write_counted(out, "accepted", number),
+        Verdict::Duplicate => out.string("duplicate"),
+        Verdict::LineTooLong => out.string("line_too_long"),
+        Verdict::TooFarBehind { limit } => write_quoted(out, "too_far_behind", limit),
+        Verdict::TooManyStreams { live } => write_counted(out, "too_many_streams", live),
+    }
+}
+
+/// Writes an object of one member that is a count.
+fn write_counted(out: &mut Writer, name: &str, number: u64) -> Result<(), AllocError>
+    ensures tokens { OnOk result (Adds out.old out.new (data_tokens (object (member name.now (count number) no_members)))) }
+    ensures before { out.new.before ≡ out.old.before }
+{
+    out.begin_object()?;
+    write_count(out, name, number)?;
+    out.end_object()?;
+    Ok(())
+}
+
+/// Writes an object of one member that is a number as a text.
+fn write_quoted(out: &mut Writer, name: &str, number: u64) -> Result<(), AllocError>
+    ensures tokens { OnOk result (Adds out.old out.new
+        (data_tokens (object (member name.now (string (decimal number)) no_members)))) }
+    ensures before { out.new.before ≡ out.old.before }
+{
+    out.begin_object()?;
+    out.key(name)?;
+    out.quoted_u64(number)?;
+    out.end_object()?;
+    Ok(())
+}
+
+/// Writes the report of the one shard.
+fn write_report(out: &mut Writer, shard: &ShardReport) -> Result<(), AllocError>
+    ensures tokens { OnOk result (Adds out.old out.new (data_tokens (report_data (shard.now ∷ [])))) }
+    ensures before { out.new.before ≡ out.old.before }
+{
+    out.begin_object()?;
+    out.key("report")?;
+    out.begin_array()?;
+    write_shard(out, shard)?;
+    out.end_array()?;
+    out.end_object()?;
+    Ok(())
+}
+
+/// Writes what is reported of a shard.
+fn write_shard(out: &mut Writer, shard: &ShardReport) -> Result<(), AllocError>
+    ensures tokens { OnOk result (Adds out.old out.new (data_tokens (shard_data shard.now))) }
+    ensures before { out.new.before ≡ out.old.before }
+{
+    out.begin_object()?;
+    write_count(out, "accepted", shard.accepted)?;
+    write_count(out, "kept", shard.kept)?;
+    write_count(out, "recovered", shard.recovered)?;
+    write_count(out, "stored", shard.stored)?;
+    out.end_object()?;
+    Ok(())
 }

@@ -1,11 +1,7 @@
-use Rattle.std.proofs.Common.{◌≡◌, ◌++◌, ◌∙◌, false, sym, ap, subst}
+use Rattle.std.proofs.Common.{◌≡◌, ◌++◌, ◌∙◌, false, sym, subst}
 use Rattle.std.proofs.lemmas.Result.{on_ok_weaker}
-use Rattle.serde_json.specs.View.{view}
-use Rattle.serde_json.specs.Written.{has_float}
-use Rattle.ing_session.specs.Commands.{command_of}
 use Rattle.ing_session.specs.Replies.{line_text}
 use Rattle.ing_session.specs.Session as session
-use Rattle.ing_session.proofs.NoFloat.{command_has_none}
 use Rattle.ing_session.proofs.session.Session.answer.Goals as goal
 
 pub returns-clause-text : goal.returns-clause-text
@@ -14,6 +10,5 @@ returns-clause-text c =
     (λ written old shows.
     let reply = c.in_ok-reply.ensures.reply old shows in
     let blank : session.is_blank c.args.line.now ≡ false = sym c.is_blank.ensures ∙ c.if-is_blank.false in
-    let none : has_float (view c.in_ok-reply.reply) ≡ false = ap has_float reply ∙ command_has_none c.args.self.now.shard.settings (command_of c.args.line.now) old in
-    rw (c.requires, blank) (subst (λ d. c.add_line.new.replies.items ≡ c.args.replies.now.items ++ line_text d) reply (written none)))
+    rw (c.requires, blank) (subst (λ d. c.add_line.new.replies.items ≡ c.args.replies.now.items ++ line_text d) reply written))
     c.add_line.ensures.text

@@ -111,6 +111,16 @@ fn pushes_of_no_entry_and_of_the_most(rt: HostRuntime) -> Result<(), Fail> {
     Ok(())
 }
 
+/// One entry with a line of four bytes.
+fn four_bytes(alloc: Global, nanoseconds: u64) -> Result<Vec<Entry>, Fail> {
+    let mut entries = Vec::new(alloc);
+    entries.push(Entry {
+        stamp: stamp(nanoseconds)?,
+        line: Line::of_text(alloc, "abcd")?,
+    })?;
+    Ok(entries)
+}
+
 #[test]
 fn two_lines_fill_a_block_and_two_blocks_a_chunk(rt: HostRuntime) -> Result<(), Fail> {
     let text = "chunk_block_size = 40\nchunk_target_size = 80\n";
@@ -124,30 +134,31 @@ fn two_lines_fill_a_block_and_two_blocks_a_chunk(rt: HostRuntime) -> Result<(), 
         (4, 0, 4),
         (5, 1, 4),
     ] {
-        let mut entries = Vec::new(rt.alloc());
-        entries.push(Entry {
-            stamp: stamp(nanoseconds)?,
-            line: Line::of_text(rt.alloc(), "abcd")?,
-        })?;
+        let entries = four_bytes(rt.alloc(), nanoseconds)?;
         shard.push(rt.alloc(), &tenant, &labels, entries, stamp(nanoseconds)?)?;
-        let gauges = shard.gauges(&tenant);
-        assert_eq!(rt; gauges.head.entries, in_head, "{nanoseconds}");
-        assert_eq!(rt; gauges.block.entries, in_blocks, "{nanoseconds}");
+        assert_eq!(rt;
+            shard.gauges(&tenant),
+            held(in_head, in_blocks),
+            "{nanoseconds}"
+        );
     }
-    let wanted = Gauges {
+    Ok(())
+}
+
+/// The gauges of one stream with so many entries of 20 bytes in its head and in its blocks.
+fn held(in_head: u64, in_blocks: u64) -> Gauges {
+    Gauges {
         streams: 1,
         head: Gauge {
-            entries: 1,
-            bytes: 20,
+            entries: in_head,
+            bytes: u128::from(in_head.saturating_mul(20)),
         },
         block: Gauge {
-            entries: 4,
-            bytes: 80,
+            entries: in_blocks,
+            bytes: u128::from(in_blocks.saturating_mul(20)),
         },
         ..Gauges::default()
-    };
-    assert_eq!(rt; shard.gauges(&tenant), wanted);
-    Ok(())
+    }
 }
 
 /// Numbers by lot, the same in each run (xorshift of 64 bits).
@@ -209,46 +220,106 @@ fn drawn_entries(alloc: Global, lots: &mut Lots, time: u64) -> Result<Vec<Entry>
     Ok(entries)
 }
 
+/// A shard and the slow program, which get the same pushes by lot.
+#[derive(Drop)]
+struct Both {
+    settings: Settings,
+    shard: Shard,
+    plain: Plain,
+    tenants: Vec<Tenant>,
+    streams: Vec<Labels>,
+    lots: Lots,
+    time: u64,
+    most_in_heads: u64,
+    most_in_blocks: u64,
+}
+
+impl Both {
+    fn new(alloc: Global) -> Result<Both, Fail> {
+        Ok(Both {
+            settings: Settings::from_toml(alloc, SMALL)?,
+            shard: Shard::fresh(alloc, Settings::from_toml(alloc, SMALL)?),
+            plain: Plain::new(alloc),
+            tenants: three_tenants(alloc)?,
+            streams: eight_streams(alloc)?,
+            lots: Lots { state: 20_261_122 },
+            time: 100,
+            most_in_heads: 0,
+            most_in_blocks: 0,
+        })
+    }
+
+    /// The verdicts of both on the next push.
+    fn push(&mut self, alloc: Global) -> Result<(Vec<Verdict>, Vec<Verdict>), Fail> {
+        self.time = self.time.saturating_add(self.lots.draw() % 2);
+        let tenant = (self.lots.draw() % 3) as usize;
+        let stream = (self.lots.draw() % 8) as usize;
+        let entries = drawn_entries(alloc, &mut self.lots, self.time)?;
+        let same = copies(alloc, &entries)?;
+        let tenant = self.tenants.get(tenant).ok_or("a tenant")?;
+        let labels = self.streams.get(stream).ok_or("labels")?;
+        let now = stamp(self.time)?;
+        let pushed = self.shard.push(alloc, tenant, labels, entries, now)?;
+        let rules = self.settings.for_tenant(tenant);
+        let name = labels.name();
+        let wanted = self
+            .plain
+            .push(alloc, rules, tenant, name, same, self.time)?;
+        Ok((pushed.verdicts, wanted))
+    }
+
+    /// Whether both have the same gauges of each tenant.
+    fn are_measured_alike(&mut self) -> bool {
+        let mut in_heads = self.most_in_heads;
+        let mut in_blocks = self.most_in_blocks;
+        for tenant in &self.tenants {
+            let gauges = self.plain.gauges(tenant);
+            if self.shard.gauges(tenant) != gauges {
+                return false;
+            }
+            in_heads = gauges.head.entries.max(in_heads);
+            in_blocks = gauges.block.entries.max(in_blocks);
+        }
+        self.most_in_heads = in_heads;
+        self.most_in_blocks = in_blocks;
+        true
+    }
+}
+
+fn three_tenants(alloc: Global) -> Result<Vec<Tenant>, Fail> {
+    let mut tenants = Vec::new(alloc);
+    for id in ["a", "b", "c"] {
+        tenants.push(Tenant::of_text(alloc, id)?)?;
+    }
+    Ok(tenants)
+}
+
+fn eight_streams(alloc: Global) -> Result<Vec<Labels>, Fail> {
+    let mut streams = Vec::new(alloc);
+    for app in ["0", "1", "2", "3", "4", "5", "6", "7"] {
+        streams.push(Labels::of_pairs(alloc, &[("app", app)], &LIMITS)?)?;
+    }
+    Ok(streams)
+}
+
+fn copies(alloc: Global, entries: &[Entry]) -> Result<Vec<Entry>, Fail> {
+    let mut same = Vec::new(alloc);
+    for entry in entries {
+        same.push(entry.try_clone(alloc)?)?;
+    }
+    Ok(same)
+}
+
 #[test]
 fn drawn_pushes_are_answered_as_by_the_slow_program(rt: HostRuntime) -> Result<(), Fail> {
-    let settings = Settings::from_toml(rt.alloc(), SMALL)?;
-    let mut shard = Shard::fresh(rt.alloc(), Settings::from_toml(rt.alloc(), SMALL)?);
-    let mut plain = Plain::new(rt.alloc());
-    let mut tenants = Vec::new(rt.alloc());
-    for id in ["a", "b", "c"] {
-        tenants.push(Tenant::of_text(rt.alloc(), id)?)?;
-    }
-    let mut streams = Vec::new(rt.alloc());
-    for app in ["0", "1", "2", "3", "4", "5", "6", "7"] {
-        streams.push(Labels::of_pairs(rt.alloc(), &[("app", app)], &LIMITS)?)?;
-    }
-    let mut lots = Lots { state: 20_261_122 };
+    let mut both = Both::new(rt.alloc())?;
     let mut given = Given::default();
-    let mut most_in_heads = 0;
-    let mut most_in_blocks = 0;
-    let mut time: u64 = 100;
-    for turn in 0..500 {
-        time = time.saturating_add(lots.draw() % 2);
-        let tenant = tenants.get((lots.draw() % 3) as usize).ok_or("a tenant")?;
-        let labels = streams.get((lots.draw() % 8) as usize).ok_or("labels")?;
-        let entries = drawn_entries(rt.alloc(), &mut lots, time)?;
-        let mut same = Vec::new(rt.alloc());
-        for entry in &entries {
-            same.push(entry.try_clone(rt.alloc())?)?;
-        }
-        let pushed = shard.push(rt.alloc(), tenant, labels, entries, stamp(time)?)?;
-        let rules = settings.for_tenant(tenant);
-        let wanted = plain.push(rt.alloc(), rules, tenant, labels.name(), same, time)?;
-        assert_eq!(rt; pushed.verdicts.as_slice(), wanted.as_slice(), "{turn}");
+    for turn in 0..500u64 {
+        let (verdicts, wanted) = both.push(rt.alloc())?;
+        assert_eq!(rt; verdicts.as_slice(), wanted.as_slice(), "{turn}");
+        assert_eq!(rt; both.shard.totals(), (both.plain.len() as u64, 0), "{turn}");
         for verdict in &wanted {
             given.count(verdict);
-        }
-        assert_eq!(rt; shard.totals(), (plain.len() as u64, 0), "{turn}");
-        for tenant in &tenants {
-            let gauges = plain.gauges(tenant);
-            assert_eq!(rt; shard.gauges(tenant), gauges, "{turn}");
-            most_in_heads = gauges.head.entries.max(most_in_heads);
-            most_in_blocks = gauges.block.entries.max(most_in_blocks);
         }
     }
     assert!(rt; given.accepted > 0, "{given:?}");
@@ -256,7 +327,18 @@ fn drawn_pushes_are_answered_as_by_the_slow_program(rt: HostRuntime) -> Result<(
     assert!(rt; given.line_too_long > 0, "{given:?}");
     assert!(rt; given.too_far_behind > 0, "{given:?}");
     assert!(rt; given.too_many_streams > 0, "{given:?}");
-    assert!(rt; most_in_heads > 0);
-    assert!(rt; most_in_blocks > 0);
+    Ok(())
+}
+
+/// The same pushes: after each, both have the same gauges.
+#[test]
+fn drawn_pushes_are_measured_as_by_the_slow_program(rt: HostRuntime) -> Result<(), Fail> {
+    let mut both = Both::new(rt.alloc())?;
+    for turn in 0..500u64 {
+        both.push(rt.alloc())?;
+        assert!(rt; both.are_measured_alike(), "{turn}");
+    }
+    assert!(rt; both.most_in_heads > 0);
+    assert!(rt; both.most_in_blocks > 0);
     Ok(())
 }

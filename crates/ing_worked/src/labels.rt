@@ -53,24 +53,19 @@ fn fault(rt: &HostRuntime, pairs: &[(&str, &str)]) -> Option<LabelFault> {
 #[test]
 fn refusals_come_in_order(rt: HostRuntime) {
     let bad_name = [("aa", "xx"), ("aa", ""), ("a:b", "")];
-    assert_eq!(rt; fault(&rt, &bad_name), Some(LabelFault::BadName { at: 2 }));
-    assert_eq!(rt;
-        fault(&rt, &bad_name[..2]),
-        Some(LabelFault::TwiceNamed { at: 1 })
-    );
-    assert_eq!(rt; fault(&rt, &[("aa", "")]), Some(LabelFault::NoLabels));
-    assert_eq!(rt;
-        fault(&rt, &[("aa", "xx"), ("b", "y")]),
-        Some(LabelFault::TooMany)
-    );
-    assert_eq!(rt;
-        fault(&rt, &[("aa", ""), ("bb", "xx")]),
-        Some(LabelFault::NameTooLong { at: 1 })
-    );
-    assert_eq!(rt;
-        fault(&rt, &[("aa", ""), ("b", "é")]),
-        Some(LabelFault::ValueTooLong { at: 1 })
-    );
+    let too_many = [("aa", "xx"), ("b", "y")];
+    let long_name = [("aa", ""), ("bb", "xx")];
+    let long_value = [("aa", ""), ("b", "é")];
+    for (pairs, wanted) in [
+        (bad_name.as_slice(), LabelFault::BadName { at: 2 }),
+        (&bad_name[..2], LabelFault::TwiceNamed { at: 1 }),
+        (&long_name[..1], LabelFault::NoLabels),
+        (too_many.as_slice(), LabelFault::TooMany),
+        (long_name.as_slice(), LabelFault::NameTooLong { at: 1 }),
+        (long_value.as_slice(), LabelFault::ValueTooLong { at: 1 }),
+    ] {
+        assert_eq!(rt; fault(&rt, pairs), Some(wanted));
+    }
 }
 
 #[test]
@@ -94,12 +89,16 @@ fn is_match(rt: &HostRuntime, text: &str) -> Result<bool, Fail> {
 
 #[test]
 fn selectors_match(rt: HostRuntime) -> Result<(), Fail> {
-    assert_eq!(rt; is_match(&rt, "{a=\"1\"}")?, true);
-    assert_eq!(rt; is_match(&rt, " {\ta = \"1\" ,\r\nb!=\"x\"\n} ")?, true);
-    assert_eq!(rt; is_match(&rt, "{a=\"1\",a!=\"1\"}")?, false);
-    assert_eq!(rt; is_match(&rt, "{a=\"1\",c=\"\"}")?, true);
-    assert_eq!(rt; is_match(&rt, "{a=\"1\",c!=\"\"}")?, false);
-    assert_eq!(rt; is_match(&rt, "{a=\"1\",b=\"x y\"}")?, true);
+    for (text, wanted) in [
+        ("{a=\"1\"}", true),
+        (" {\ta = \"1\" ,\r\nb!=\"x\"\n} ", true),
+        ("{a=\"1\",a!=\"1\"}", false),
+        ("{a=\"1\",c=\"\"}", true),
+        ("{a=\"1\",c!=\"\"}", false),
+        ("{a=\"1\",b=\"x y\"}", true),
+    ] {
+        assert_eq!(rt; is_match(&rt, text)?, wanted, "{text}");
+    }
     Ok(())
 }
 
@@ -110,25 +109,19 @@ fn selector_fault(rt: &HostRuntime, text: &str) -> Option<TextFault> {
 
 #[test]
 fn selectors_are_refused(rt: HostRuntime) {
-    assert_eq!(rt; selector_fault(&rt, "{}"), Some(TextFault::TooWide));
-    assert_eq!(rt; selector_fault(&rt, "{a!=\"1\"}"), Some(TextFault::TooWide));
-    assert_eq!(rt; selector_fault(&rt, "{a=\"\"}"), Some(TextFault::TooWide));
-    assert_eq!(rt;
-        selector_fault(&rt, "{a=~\"x\"}"),
-        Some(TextFault::BadSelector { at: 3 })
-    );
-    assert_eq!(rt;
-        selector_fault(&rt, "{}x"),
-        Some(TextFault::BadSelector { at: 2 })
-    );
-    assert_eq!(rt;
-        selector_fault(&rt, "{a=\"é\",}"),
-        Some(TextFault::BadSelector { at: 8 })
-    );
-    assert_eq!(rt;
-        selector_fault(&rt, "{a=\"1\""),
-        Some(TextFault::BadSelector { at: 6 })
-    );
+    for (text, wanted) in [
+        ("{}", TextFault::TooWide),
+        ("{a!=\"1\"}", TextFault::TooWide),
+        ("{a=\"\"}", TextFault::TooWide),
+        ("{a=~\"x\"}", TextFault::BadSelector { at: 3 }),
+        ("{}x", TextFault::BadSelector { at: 2 }),
+        ("{a=\"é\",}", TextFault::BadSelector { at: 8 }),
+        ("{a=\"1\"", TextFault::BadSelector { at: 6 }),
+        // A place counts bytes, also where characters of several come before it.
+        ("{a=\"é€\"é", TextFault::BadSelector { at: 10 }),
+    ] {
+        assert_eq!(rt; selector_fault(&rt, text), Some(wanted), "{text}");
+    }
 }
 
 #[test]
@@ -160,34 +153,21 @@ fn canonical_fault(rt: &HostRuntime, text: &str) -> Option<TextFault> {
 
 #[test]
 fn other_texts_are_not_canonical(rt: HostRuntime) {
-    assert_eq!(rt;
-        canonical_fault(&rt, "{b=\"1\", a=\"2\"}"),
-        Some(TextFault::NotCanonical { at: 8 })
-    );
-    assert_eq!(rt;
-        canonical_fault(&rt, "{b=\"1\", b=\"2\"}"),
-        Some(TextFault::NotCanonical { at: 9 })
-    );
-    assert_eq!(rt;
-        canonical_fault(&rt, "{bd=\"1\", bc=\"2\"}"),
-        Some(TextFault::NotCanonical { at: 10 })
-    );
-    assert_eq!(rt;
-        canonical_fault(&rt, "{a=\"\"}"),
-        Some(TextFault::NotCanonical { at: 4 })
-    );
-    assert_eq!(rt;
-        canonical_fault(&rt, "{a=\"1\""),
-        Some(TextFault::NotCanonical { at: 6 })
-    );
-    assert_eq!(rt;
-        canonical_fault(&rt, "{}"),
-        Some(TextFault::NotCanonical { at: 1 })
-    );
-    assert_eq!(rt;
-        canonical_fault(&rt, "{a=\"1\",b=\"2\"}"),
-        Some(TextFault::NotCanonical { at: 7 })
-    );
+    for (text, at) in [
+        ("{b=\"1\", a=\"2\"}", 8),
+        ("{b=\"1\", b=\"2\"}", 9),
+        ("{bd=\"1\", bc=\"2\"}", 10),
+        ("{a=\"\"}", 4),
+        ("{a=\"1\"", 6),
+        ("{}", 1),
+        ("{a=\"1\",b=\"2\"}", 7),
+        // A place counts bytes, also where characters of several come before it.
+        ("{a=\"é€\", a=\"x\"}", 13),
+        ("{a=\"é€\"é", 10),
+    ] {
+        let wanted = Some(TextFault::NotCanonical { at });
+        assert_eq!(rt; canonical_fault(&rt, text), wanted, "{text}");
+    }
 }
 
 #[test]
@@ -195,49 +175,31 @@ fn a_copy_has_the_same_pairs(rt: HostRuntime) -> Result<(), Fail> {
     let labels = Labels::of_pairs(rt.alloc(), &[("b", "2"), ("a", "1"), ("c", "")], &WIDE)?;
     let copy = labels.clone()?;
     let mut pairs = copy.pairs();
-    assert_eq!(rt; pairs.next(), Some(("a", "1")));
-    assert_eq!(rt; pairs.next(), Some(("b", "2")));
-    assert_eq!(rt; pairs.next(), None);
+    for wanted in [Some(("a", "1")), Some(("b", "2")), None] {
+        assert_eq!(rt; pairs.next(), wanted);
+    }
     Ok(())
-}
-
-// A place counts bytes, also where characters of several come before it.
-#[test]
-fn places_count_bytes(rt: HostRuntime) {
-    assert_eq!(rt;
-        canonical_fault(&rt, "{a=\"é€\", a=\"x\"}"),
-        Some(TextFault::NotCanonical { at: 13 })
-    );
-    assert_eq!(rt;
-        canonical_fault(&rt, "{a=\"é€\"é"),
-        Some(TextFault::NotCanonical { at: 10 })
-    );
-    assert_eq!(rt;
-        selector_fault(&rt, "{a=\"é€\"é"),
-        Some(TextFault::BadSelector { at: 10 })
-    );
 }
 
 // Each front of a canonical name ends too early, and so does it as a selector.
 #[test]
 fn a_front_ends_too_early(rt: HostRuntime) -> Result<(), Fail> {
     let text = "{a=\"é\\\"€\", b=\"\\n\"}";
-    assert_eq!(rt;
-        Labels::parse_canonical(rt.alloc(), text)?.value("a"),
-        "é\"€"
-    );
+    assert_eq!(rt; value_of_a(&rt, text)?.as_str(), "é\"€");
     for (at, _) in text.char_indices() {
         let front = text.get(..at).ok_or("no front")?;
-        assert_eq!(rt;
-            canonical_fault(&rt, front),
-            Some(TextFault::NotCanonical { at })
-        );
-        assert_eq!(rt;
-            selector_fault(&rt, front),
-            Some(TextFault::BadSelector { at })
-        );
+        let wanted = Some(TextFault::NotCanonical { at });
+        assert_eq!(rt; canonical_fault(&rt, front), wanted);
+        let wanted = Some(TextFault::BadSelector { at });
+        assert_eq!(rt; selector_fault(&rt, front), wanted);
     }
     Ok(())
+}
+
+// The value of the label `a` in a canonical name.
+fn value_of_a(rt: &HostRuntime, text: &str) -> Result<String, Fail> {
+    let labels = Labels::parse_canonical(rt.alloc(), text)?;
+    Ok(String::from_str(rt.alloc(), labels.value("a"))?)
 }
 
 // A text of so many bytes that begins as given.
@@ -282,18 +244,22 @@ const LONG: LabelLimits = LabelLimits {
     value_bytes: 2048,
 };
 
-// 64 labels with names of 1024 bytes and values of 2048: a canonical name of 196,928 bytes.
+// 64 labels with names of 1024 bytes and values of 2048, given in rising or in falling order.
+fn long_labels(rt: &HostRuntime, is_rising: bool) -> Result<Labels, Fail> {
+    let names = long_names(rt)?;
+    let value = long_text(rt, "é", 2048)?;
+    let pairs = paired(rt, &names, value.as_str(), is_rising)?;
+    Ok(Labels::of_pairs(rt.alloc(), &pairs, &LONG)?)
+}
+
+// A canonical name of 196,928 bytes.
 #[test]
 fn labels_at_their_limits(rt: HostRuntime) -> Result<(), Fail> {
-    let names = long_names(&rt)?;
-    let value = long_text(&rt, "é", 2048)?;
-    let rising = paired(&rt, &names, value.as_str(), true)?;
-    let labels = Labels::of_pairs(rt.alloc(), &rising, &LONG)?;
+    let labels = long_labels(&rt, true)?;
     assert_eq!(rt; labels.name().len(), 196_928);
     let read = Labels::parse_canonical(rt.alloc(), labels.name())?;
     assert_eq!(rt; read.name(), labels.name());
-    let falling = paired(&rt, &names, value.as_str(), false)?;
-    let turned = Labels::of_pairs(rt.alloc(), &falling, &LONG)?;
+    let turned = long_labels(&rt, false)?;
     assert_eq!(rt; turned.name(), labels.name());
     Ok(())
 }
@@ -313,33 +279,37 @@ fn long_fault(
 #[test]
 fn one_more_is_too_much(rt: HostRuntime) -> Result<(), Fail> {
     let fewer = LabelLimits { names: 63, ..LONG };
-    assert_eq!(rt; long_fault(&rt, &fewer, true)?, Some(LabelFault::TooMany));
     let shorter = LabelLimits {
         name_bytes: 1023,
         ..LONG
     };
-    assert_eq!(rt;
-        long_fault(&rt, &shorter, false)?,
-        Some(LabelFault::NameTooLong { at: 0 })
-    );
     let smaller = LabelLimits {
         value_bytes: 2047,
         ..LONG
     };
-    assert_eq!(rt;
-        long_fault(&rt, &smaller, true)?,
-        Some(LabelFault::ValueTooLong { at: 0 })
-    );
+    for (limits, is_rising, wanted) in [
+        (fewer, true, LabelFault::TooMany),
+        (shorter, false, LabelFault::NameTooLong { at: 0 }),
+        (smaller, true, LabelFault::ValueTooLong { at: 0 }),
+    ] {
+        assert_eq!(rt; long_fault(&rt, &limits, is_rising)?, Some(wanted));
+    }
     Ok(())
 }
 
-#[test]
-fn a_selector_of_a_hundred_matchers(rt: HostRuntime) -> Result<(), Fail> {
+// A selector of a hundred matchers, which refuse the values 0 to 98 of `a`.
+fn hundred_matchers(rt: &HostRuntime) -> Result<String, Fail> {
     let mut text = String::from_str(rt.alloc(), "{b=\"x y\"")?;
     for number in 0..99u32 {
         text.push_str(format!(in rt.alloc(); ", a!=\"{number}\"")?.as_str())?;
     }
     text.push_str("}")?;
+    Ok(text)
+}
+
+#[test]
+fn a_selector_of_a_hundred_matchers(rt: HostRuntime) -> Result<(), Fail> {
+    let text = hundred_matchers(&rt)?;
     let selector = Selector::parse(rt.alloc(), text.as_str())?;
     assert_eq!(rt; selector.matchers().len(), 100);
     let labels = Labels::of_pairs(rt.alloc(), &[("a", "99"), ("b", "x y")], &WIDE)?;

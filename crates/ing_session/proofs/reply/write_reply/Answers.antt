@@ -1,0 +1,4 @@
+use Rattle.ing_session.proofs.reply.write_reply.Goals as goal
+
+pub returns-in-Report-clause-tokens : goal.returns-in-Report-clause-tokens
+returns-in-Report-clause-tokens c = rw c.in-Report.is c.write_report.ensures.tokens

@@ -1,0 +1,12 @@
+//! Tests alone: worked values of the crates below the session, and pushes drawn by lot beside the slow program. They need no
+//! private item, and stand in no crate that they test, since a crate with tests is proved twice.
+#![tactic(auto)]
+
+#[cfg(test)]
+mod labels;
+#[cfg(test)]
+mod postings;
+#[cfg(test)]
+mod settings;
+#[cfg(test)]
+mod shard;
