@@ -18,3 +18,4 @@ pub mod CanonicalWhole
 pub mod CanonicalChars
 pub mod CanonicalEnds
 pub mod Copied
+pub mod Decided

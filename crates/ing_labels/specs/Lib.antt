@@ -12,3 +12,4 @@ pub mod TextFaults
 pub mod LabelValues
 pub mod CanonicalTexts
 pub mod CanonicalReading
+pub mod CanonicalTests

@@ -1,11 +1,17 @@
 //! What the definitions say, as contracts of functions that do nothing.
 ghost use Rattle.ing_labels.specs.Canonical.{CanonicalNamesAreExact};
+ghost use Rattle.ing_labels.specs.CanonicalTests.{CanonicalNamesAreDecided};
 ghost use Rattle.ing_labels.specs.Selectors.{SelectorTextsAreExact};
 ghost use Rattle.ing_labels.specs.Worked.{EmptyValuesAreAbsent, CanonicalEscapes, BadNameComesFirst, EmptyValueRepeats, NoValueNoLabels};
 
 /// Two label maps, of label names, have equal canonical names exactly where they are equal.
 pub fn canonical_names_are_exact()
     ensures { CanonicalNamesAreExact }
+{}
+
+/// A text is tested for being a canonical name: the test says so of exactly the canonical names of labels.
+pub fn canonical_names_are_decided()
+    ensures { CanonicalNamesAreDecided }
 {}
 
 /// Two canonical names, byte by byte.

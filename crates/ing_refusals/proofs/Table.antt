@@ -2,7 +2,7 @@
 use Rattle.std.proofs.Common.{◌≡◌, ℕ, List, cond, refl, sym, ap, ◌∙◌, nat_eq, bytes_eq}
 use Rattle.std.specs.Prelude.{codes}
 use Rattle.ing_refusals.specs.declared.refusal.Refusal.{Refusal}
-use Rattle.ing_refusals.specs.declared.refusal.Refusal.TheVariants.{NoMemory, BadName, TwiceNamed, NoLabels, TooMany, NameTooLong, ValueTooLong, NotCanonical, BadSelector, TooWide, NotToml, UnknownSetting, BadSetting, CounterFull, BadTenant, BadStamp, TooManyEntries, BadCommand, Metadata, InputFault, OutputFault, BadArguments, NoSettings}
+use Rattle.ing_refusals.specs.declared.refusal.Refusal.TheVariants.{NoMemory, BadName, TwiceNamed, NoLabels, TooMany, NameTooLong, ValueTooLong, NotCanonical, BadSelector, TooWide, NotToml, UnknownSetting, BadSetting, Truncated, BadMagic, BadVersion, BadField, OutOfOrder, Trailing, CounterFull, BadTenant, BadStamp, TooManyEntries, BadCommand, Metadata, InputFault, OutputFault, BadArguments, NoSettings}
 use Rattle.ing_refusals.specs.Refusals.{refusal_number, refusal_name}
 
 of_number : ℕ → Refusal
@@ -20,6 +20,12 @@ of_number n =
     cond (nat_eq n 10) NotToml (
     cond (nat_eq n 11) UnknownSetting (
     cond (nat_eq n 12) BadSetting (
+    cond (nat_eq n 13) Truncated (
+    cond (nat_eq n 14) BadMagic (
+    cond (nat_eq n 15) BadVersion (
+    cond (nat_eq n 16) BadField (
+    cond (nat_eq n 17) OutOfOrder (
+    cond (nat_eq n 18) Trailing (
     cond (nat_eq n 19) CounterFull (
     cond (nat_eq n 30) BadTenant (
     cond (nat_eq n 31) BadStamp (
@@ -29,7 +35,7 @@ of_number n =
     cond (nat_eq n 36) InputFault (
     cond (nat_eq n 37) OutputFault (
     cond (nat_eq n 38) BadArguments (
-    NoSettings))))))))))))))))))))))
+    NoSettings))))))))))))))))))))))))))))
 
 of_name : List ℕ → Refusal
 of_name name =
@@ -46,6 +52,12 @@ of_name name =
     cond (bytes_eq name (codes "NotToml")) NotToml (
     cond (bytes_eq name (codes "UnknownSetting")) UnknownSetting (
     cond (bytes_eq name (codes "BadSetting")) BadSetting (
+    cond (bytes_eq name (codes "Truncated")) Truncated (
+    cond (bytes_eq name (codes "BadMagic")) BadMagic (
+    cond (bytes_eq name (codes "BadVersion")) BadVersion (
+    cond (bytes_eq name (codes "BadField")) BadField (
+    cond (bytes_eq name (codes "OutOfOrder")) OutOfOrder (
+    cond (bytes_eq name (codes "Trailing")) Trailing (
     cond (bytes_eq name (codes "CounterFull")) CounterFull (
     cond (bytes_eq name (codes "BadTenant")) BadTenant (
     cond (bytes_eq name (codes "BadStamp")) BadStamp (
@@ -55,7 +67,7 @@ of_name name =
     cond (bytes_eq name (codes "InputFault")) InputFault (
     cond (bytes_eq name (codes "OutputFault")) OutputFault (
     cond (bytes_eq name (codes "BadArguments")) BadArguments (
-    NoSettings))))))))))))))))))))))
+    NoSettings))))))))))))))))))))))))))))
 
 numbered : (r : Refusal) → of_number (refusal_number r) ≡ r
 unfolding of_number
@@ -72,6 +84,12 @@ numbered TooWide = refl
 numbered NotToml = refl
 numbered UnknownSetting = refl
 numbered BadSetting = refl
+numbered Truncated = refl
+numbered BadMagic = refl
+numbered BadVersion = refl
+numbered BadField = refl
+numbered OutOfOrder = refl
+numbered Trailing = refl
 numbered CounterFull = refl
 numbered BadTenant = refl
 numbered BadStamp = refl
@@ -98,6 +116,12 @@ named TooWide = refl
 named NotToml = refl
 named UnknownSetting = refl
 named BadSetting = refl
+named Truncated = refl
+named BadMagic = refl
+named BadVersion = refl
+named BadField = refl
+named OutOfOrder = refl
+named Trailing = refl
 named CounterFull = refl
 named BadTenant = refl
 named BadStamp = refl

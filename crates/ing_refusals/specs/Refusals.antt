@@ -1,7 +1,7 @@
 -- The number and the name of each refusal (own).
 use Rattle.std.specs.Prelude.{ℕ, List, codes}
 use Rattle.ing_refusals.specs.declared.refusal.Refusal.{Refusal}
-use Rattle.ing_refusals.specs.declared.refusal.Refusal.TheVariants.{NoMemory, BadName, TwiceNamed, NoLabels, TooMany, NameTooLong, ValueTooLong, NotCanonical, BadSelector, TooWide, NotToml, UnknownSetting, BadSetting, CounterFull, BadTenant, BadStamp, TooManyEntries, BadCommand, Metadata, InputFault, OutputFault, BadArguments, NoSettings}
+use Rattle.ing_refusals.specs.declared.refusal.Refusal.TheVariants.{NoMemory, BadName, TwiceNamed, NoLabels, TooMany, NameTooLong, ValueTooLong, NotCanonical, BadSelector, TooWide, NotToml, UnknownSetting, BadSetting, Truncated, BadMagic, BadVersion, BadField, OutOfOrder, Trailing, CounterFull, BadTenant, BadStamp, TooManyEntries, BadCommand, Metadata, InputFault, OutputFault, BadArguments, NoSettings}
 
 abbrev pub refusal_number : Refusal → ℕ
 refusal_number NoMemory = 0
@@ -17,6 +17,12 @@ refusal_number TooWide = 9
 refusal_number NotToml = 10
 refusal_number UnknownSetting = 11
 refusal_number BadSetting = 12
+refusal_number Truncated = 13
+refusal_number BadMagic = 14
+refusal_number BadVersion = 15
+refusal_number BadField = 16
+refusal_number OutOfOrder = 17
+refusal_number Trailing = 18
 refusal_number CounterFull = 19
 refusal_number BadTenant = 30
 refusal_number BadStamp = 31
@@ -42,6 +48,12 @@ refusal_name TooWide = codes "TooWide"
 refusal_name NotToml = codes "NotToml"
 refusal_name UnknownSetting = codes "UnknownSetting"
 refusal_name BadSetting = codes "BadSetting"
+refusal_name Truncated = codes "Truncated"
+refusal_name BadMagic = codes "BadMagic"
+refusal_name BadVersion = codes "BadVersion"
+refusal_name BadField = codes "BadField"
+refusal_name OutOfOrder = codes "OutOfOrder"
+refusal_name Trailing = codes "Trailing"
 refusal_name CounterFull = codes "CounterFull"
 refusal_name BadTenant = codes "BadTenant"
 refusal_name BadStamp = codes "BadStamp"

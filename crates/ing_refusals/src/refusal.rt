@@ -32,6 +32,18 @@ pub enum Refusal {
     UnknownSetting,
     /// A setting has a bad value.
     BadSetting,
+    /// Bytes end within a field.
+    Truncated,
+    /// Bytes do not begin as their kind of object does.
+    BadMagic,
+    /// An object has a version that is not known.
+    BadVersion,
+    /// A field has a value that it may not have.
+    BadField,
+    /// An entry does not come after the one before it.
+    OutOfOrder,
+    /// Bytes go on after the last field.
+    Trailing,
     /// A count would pass its last value.
     CounterFull,
     /// A text is no tenant id.
@@ -73,6 +85,12 @@ impl Refusal {
             Refusal::NotToml => 10,
             Refusal::UnknownSetting => 11,
             Refusal::BadSetting => 12,
+            Refusal::Truncated => 13,
+            Refusal::BadMagic => 14,
+            Refusal::BadVersion => 15,
+            Refusal::BadField => 16,
+            Refusal::OutOfOrder => 17,
+            Refusal::Trailing => 18,
             Refusal::CounterFull => 19,
             Refusal::BadTenant => 30,
             Refusal::BadStamp => 31,
@@ -104,6 +122,12 @@ impl Refusal {
             Refusal::NotToml => "NotToml",
             Refusal::UnknownSetting => "UnknownSetting",
             Refusal::BadSetting => "BadSetting",
+            Refusal::Truncated => "Truncated",
+            Refusal::BadMagic => "BadMagic",
+            Refusal::BadVersion => "BadVersion",
+            Refusal::BadField => "BadField",
+            Refusal::OutOfOrder => "OutOfOrder",
+            Refusal::Trailing => "Trailing",
             Refusal::CounterFull => "CounterFull",
             Refusal::BadTenant => "BadTenant",
             Refusal::BadStamp => "BadStamp",

@@ -1,0 +1,14 @@
+pub mod Texts
+pub mod Loops
+pub mod Order
+pub mod Binds
+pub mod Built
+pub mod Writes
+pub mod FieldLaws
+pub mod TextLaws
+pub mod EntryLaws
+pub mod ChunkLaws
+pub mod RowLaws
+pub mod DecodeLaws
+pub mod WorkedLaws
+pub mod Counts

@@ -1,0 +1,10 @@
+pub mod CodecFaults
+pub mod Fields
+pub mod ChunkObjects
+pub mod ChunkReading
+pub mod Seen
+pub mod Writable
+pub mod RowObjects
+pub mod ObjectNames
+pub mod Laws
+pub mod WorkedObjects

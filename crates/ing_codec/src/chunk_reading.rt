@@ -1,0 +1,161 @@
+//! The entries and blocks of a chunk read from its bytes.
+ghost use Rattle.std.specs.Prelude.{◌≡◌, ◌++◌, ◌+◌, ◌<◌, ◌≤◌, ◌^◌, [], ◌∷◌, IfOk, length};
+ghost use Rattle.ing_refusals.specs.Results.{Gives, Returns};
+ghost use Rattle.ing_chunk.specs.Chunks as chunks;
+ghost use Rattle.ing_codec.specs.ChunkReading as spec;
+ghost use Rattle.ing_codec.specs.ChunkReading.{read_entry, read_entries, read_block, read_blocks};
+ghost use Rattle.ing_codec.specs.Seen.{HasSeen};
+
+use crate::fault::CodecFault;
+use crate::fields::Fields;
+use crate::part::Part;
+use ing_chunk::{Block, Numbered};
+use ing_rows::Entry;
+use std::alloc::Global;
+use std::collections::BTreeSet;
+
+/// The fewest bytes of an entry.
+const ENTRY_BYTES: usize = 16;
+
+/// The fewest bytes of a block.
+const BLOCK_BYTES: usize = 20;
+
+/// The most entries of a stream (own).
+const MAX_NUMBERS: u64 = 0x4000_0000_0000_0000;
+
+/// The first count that no chunk has (own).
+const COUNT_END: u64 = 0x1_0000_0000;
+
+/// Whether one entry stands before another: by stamp, then by number.
+fn comes_before(a: &Numbered, b: &Numbered) -> bool
+    ensures { result ≡ chunks.comes_before a.now b.now }
+{
+    let (first, second) = (a.entry.stamp.nanoseconds(), b.entry.stamp.nanoseconds());
+    first < second || first == second && a.number < b.number
+}
+
+/// Whether an entry is above the last of those before it.
+fn goes_on(before: &[Numbered], entry: &Numbered) -> bool
+    ensures { result ≡ spec.goes_on before.now entry.now }
+{
+    match before.last() {
+        None => true,
+        Some(last) => comes_before(last, entry),
+    }
+}
+
+/// One entry of a block, after those before it; their numbers are those seen.
+#[tactic(auto, unfolding(crate::specs::ChunkReading::read_entry))]
+fn entry<'a>(
+    alloc: Global,
+    fields: Fields<'a>,
+    part: Part,
+    seen: &mut BTreeSet<u64>,
+    before: &[Numbered],
+) -> Result<(Numbered, Fields<'a>), CodecFault>
+    requires fits { part.first + part.start + part.count ≤ 2 ^ 63 }
+    requires seen { HasSeen seen.old before.now }
+    ensures value { Gives CodecFault.NoMemory (λ x. x) result (read_entry part before.now fields.entry) }
+    ensures seen { IfOk result (λ x. HasSeen seen.new (before.now ++ x.0 ∷ [])) }
+{
+    let at = fields.at();
+    let (offset, rest) = fields.u32()?;
+    let number = part.first + u64::from(offset);
+    if !part.has(number) || !seen.insert(number)? {
+        return Err(CodecFault::BadField { at });
+    }
+    let (stamp, rest) = rest.stamp()?;
+    let (line, rest) = rest.line(alloc)?;
+    let numbered = Numbered {
+        number,
+        entry: Entry { stamp, line },
+    };
+    if goes_on(before, &numbered) {
+        Ok((numbered, rest))
+    } else {
+        Err(CodecFault::OutOfOrder)
+    }
+}
+
+/// The entries of a block. Room is made for as many as the bytes that are left can hold, at most.
+fn entries<'a>(
+    alloc: Global,
+    fields: Fields<'a>,
+    part: Part,
+) -> Result<(Vec<Numbered>, Fields<'a>), CodecFault>
+    requires { part.first + part.start + part.count ≤ 2 ^ 63 }
+    ensures { Gives CodecFault.NoMemory (λ x. (x.0.items, x.1)) result
+        (read_entries part part.count [] fields.entry) }
+{
+    let room = (fields.left() / ENTRY_BYTES).min(part.count as usize);
+    let mut found = Vec::with_capacity(alloc, room)?;
+    let mut seen = BTreeSet::new(alloc);
+    let mut rest = fields;
+    for _ in 0..part.count {
+        let (numbered, after) = entry(alloc, rest, part, &mut seen, found.as_slice())?;
+        found.push(numbered)?;
+        rest = after;
+    }
+    Ok((found, rest))
+}
+
+/// Whether a block may have so many entries, after `start` ones of earlier blocks.
+fn is_count(first: u64, start: u64, count: u32) -> bool
+    requires first { first ≤ 2 ^ 62 }
+    requires start { start < 2 ^ 32 }
+    ensures { result ≡ spec.is_count first start count }
+{
+    let end = start + u64::from(count);
+    count != 0 && first + end <= MAX_NUMBERS && end < COUNT_END
+}
+
+/// One block, after `start` entries of earlier ones.
+#[tactic(auto, unfolding(crate::specs::ChunkReading::read_block))]
+fn block(
+    alloc: Global,
+    fields: Fields<'_>,
+    first: u64,
+    start: u64,
+) -> Result<(Block, Fields<'_>), CodecFault>
+    requires first { first ≤ 2 ^ 62 }
+    requires start { start < 2 ^ 32 }
+    ensures value { Gives CodecFault.NoMemory (λ x. x) result (read_block first start fields.entry) }
+    ensures few { IfOk result (λ x. start + length x.0 < 2 ^ 32) }
+{
+    let at = fields.at();
+    let (count, rest) = fields.u32()?;
+    if !is_count(first, start, count) {
+        return Err(CodecFault::BadField { at });
+    }
+    let part = Part {
+        first,
+        start,
+        count,
+    };
+    let (found, after) = entries(alloc, rest, part)?;
+    Ok((Block::in_order(found), after))
+}
+
+/// The blocks of a chunk.
+pub(crate) fn blocks(
+    alloc: Global,
+    fields: Fields<'_>,
+    first: u64,
+    count: u32,
+) -> Result<(Vec<Block>, Fields<'_>), CodecFault>
+    requires { first ≤ 2 ^ 62 }
+    ensures { Gives CodecFault.NoMemory (λ x. (x.0.items, x.1)) result
+        (read_blocks first count 0 [] fields.entry) }
+{
+    let room = (fields.left() / BLOCK_BYTES).min(count as usize);
+    let mut found = Vec::with_capacity(alloc, room)?;
+    let mut start: u64 = 0;
+    let mut rest = fields;
+    for _ in 0..count {
+        let (next, after) = block(alloc, rest, first, start)?;
+        start += next.entries().len() as u64;
+        found.push(next)?;
+        rest = after;
+    }
+    Ok((found, rest))
+}

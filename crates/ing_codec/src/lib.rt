@@ -1,0 +1,28 @@
+//! The bytes of stored objects: chunks and the rows of an index, each written in one way and read back from
+//! it alone.
+#![tactic(auto)]
+
+mod chunk_reading;
+mod chunk_view;
+mod extent;
+mod fault;
+mod fields;
+mod index_row;
+mod laws;
+mod object_names;
+mod part;
+mod stored_chunk;
+mod writers;
+
+pub use chunk_view::{ChunkView, encode_chunk};
+pub use extent::{Extent, put_extent};
+pub use fault::CodecFault;
+pub use fields::Fields;
+pub use index_row::{IndexRow, decode_row, encode_row};
+pub use laws::{chunks_are_exact, rows_are_exact, worked_objects};
+pub use object_names::{chunk_key, chunk_name, row_name};
+pub use stored_chunk::{StoredChunk, decode_chunk};
+pub use writers::{put_line, put_name, put_tenant, put_u32, put_u64};
+
+#[cfg(test)]
+mod tests;
