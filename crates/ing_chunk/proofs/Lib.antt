@@ -1,6 +1,7 @@
 mod Added
 mod Aside
 mod Begun
+mod Claimed
 mod Due
 mod Followed
 mod Gauged

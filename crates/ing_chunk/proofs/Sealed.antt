@@ -1,5 +1,5 @@
 -- Sealing the growing chunk of a stream, in its chunks and in the model's state alike.
-use Rattle.std.proofs.Common.{◌≡◌, ℕ, ◌+◌, Bool, true, false, cond, ◌&&◌, List, [], ◌∷◌, ◌++◌, length, map, is_some, is_none, refl, sym, ap, subst, ◌∙◌, arith, Some, None}
+use Rattle.std.proofs.Common.{◌≡◌, ℕ, ◌+◌, Bool, true, false, cond, ◌&&◌, List, [], ◌∷◌, ◌++◌, length, map, filter, is_some, is_none, refl, sym, ap, subst, ◌∙◌, arith, Some, None}
 use Rattle.std.specs.Prelude.{Option, All, IsPermutation}
 use Rattle.std.specs.Option.{unwrap_or}
 use Rattle.std.proofs.lemmas.List.Elements.{All-nil, All-cons, All-head, All-tail, All-append, All-weaker, All-push}
@@ -7,11 +7,12 @@ use Rattle.std.proofs.lemmas.List.Sorted.{IsPermutation-refl, IsPermutation-tran
 use Rattle.ing_rows.specs.declared.place.Place.TheVariants.{Head, Block}
 use Rattle.ing_rows.specs.declared.place.SealReason.{SealReason}
 use Rattle.ing_rows.specs.Rows.{StreamKey, Row, Mark, State, is_head, is_of_chunk}
+use Rattle.ing_rows.specs.Events.{sealed_count}
 use Rattle.ing_rows.specs.Steps.{moved, seal_of, is_sealed_now, seal_mark, Seals}
 use Rattle.ing_chunk.specs.declared.numbered.Numbered.{Numbered}
 use Rattle.ing_chunk.specs.Chunks.{ChunkContents, ChunksContents, count_in, row_in, block_rows, head_rows, mark_of, chunk_state, chunks_state, growing_state, stream_state, chunk_to_grow, empty_chunk, closes, Closes, SealsGrowing, AreChunks, IsWaiting, Waits, Grows, GrowsIfAny, starts_in}
 use Rattle.ing_chunk.proofs.Sums.{block_count-more, block_starts-more}
-use Rattle.ing_chunk.proofs.Turned.{IsInHead, IsInBlock, to_block, all_head, all_block, other_rows, map-all, map-none, map-append}
+use Rattle.ing_chunk.proofs.Turned.{IsInHead, IsInBlock, to_block, all_head, all_block, other_rows, filter-none, map-all, map-none, map-append}
 use Rattle.ing_chunk.proofs.Followed.{head_mapped, block_rows-more, waiting-more}
 use Rattle.ing_chunk.proofs.Taken.{waits_longer}
 
@@ -122,6 +123,10 @@ module _ (f : Mark → Option SealReason) where
     marks = subst (IsPermutation st.marks) (sym (quiet_marks st.marks h)) (IsPermutation-refl st.marks);
   }
 
+  -- none of them is sealed
+  pub quiet_count : (ms : List Mark) → All (λ m. seal_of f m ≡ None) ms → sealed_count f ms ≡ 0
+  quiet_count ms h = ap length (filter-none (λ m. is_some (seal_of f m)) ms (All-weaker (λ (m : Mark). seal_of f m ≡ None) (λ (m : Mark). is_some (seal_of f m) ≡ false) (λ m none. ap is_some none) ms h))
+
   pub waiting_quiet : (s : StreamKey) (k : ℕ) (cs : List ChunkContents) → Waits k cs → All (λ m. seal_of f m ≡ None) (chunks_state s cs).marks
   waiting_quiet s k [] h = All-nil (λ (m : Mark). seal_of f m ≡ None)
   waiting_quiet s k (c ∷ cs) h =
@@ -196,6 +201,13 @@ module _ (f : Mark → Option SealReason) (why : SealReason) (c d : ChunksConten
     mark_sealed : seal_of f (mark_of s g) ≡ Some why → seal_mark f (mark_of s g) ≡ record (mark_of s g) { reason = Some why }
     mark_sealed h = rw h refl
 
+  -- it is the one that is sealed
+  pub one_sealed : sealed_count f (stream_state s c).marks ≡ 1
+  one_sealed =
+      ap (λ o. sealed_count f ((growing_state s o).marks ++ ms)) seals.grows
+      ∙ ap (λ o. length (cond (is_some o) (mark_of s g ∷ filter (λ m. is_some (seal_of f m)) ms) (filter (λ m. is_some (seal_of f m)) ms))) sealed_mark
+      ∙ (let rest = quiet_count f ms quiet in omega (arith, rest))
+
   done_state : chunk_state s seals.done ≡ record { rows = block_rows s g.first 0 seals.sealed.0.blocks; marks = record (mark_of s g) { reason = Some why } ∷ [] }
   done_state = ap (chunk_state s) seals.sealed.2 ∙ (λ i. record { rows = (ap (λ l. map (row_in s mid.first (length mid.blocks) Head) l ++ block_rows s mid.first 0 mid.blocks) closed.head ∙ ap (λ k. block_rows s k 0 mid.blocks) closed.first) i; marks = record { stream = s; chunk = closed.first i; last_update = closed.last_update i; reason = Some why } ∷ [] }) where
     mid : ChunkContents
@@ -224,13 +236,20 @@ module _ (f : Mark → Option SealReason) (why : SealReason) (c d : ChunksConten
         new_state = waiting-more s c.waiting seals.done ∙ (λ i. record { rows = ws ++ (done_state i).rows; marks = ms ++ (done_state i).marks })
 
 -- where no chunk grows, or the one that grows has no reason, nothing is sealed
-pub none_sealed : (f : Mark → Option SealReason) (c : ChunksContents) → AreChunks c → (s : StreamKey) → ((g : ChunkContents) → c.growing ≡ Some g → f (mark_of s g) ≡ None) → Seals f (stream_state s c) (stream_state s c)
-none_sealed f c good s none =
-    quiet_state f (stream_state s c) (All-append (λ (m : Mark). seal_of f m ≡ None) (growing_state s c.growing).marks (chunks_state s c.waiting).marks (of_growing c.growing none) (waiting_quiet f s (chunk_to_grow c).first c.waiting good.waiting)) where
-      neither : (b : Bool) (o : Option SealReason) → o ≡ None → cond b o None ≡ None
-      neither true o h = h
-      neither false o h = refl
+module _ (f : Mark → Option SealReason) (c : ChunksContents) (good : AreChunks c) (s : StreamKey) (none : (g : ChunkContents) → c.growing ≡ Some g → f (mark_of s g) ≡ None) where
+  neither : (b : Bool) (o : Option SealReason) → o ≡ None → cond b o None ≡ None
+  neither true o h = h
+  neither false o h = refl
 
-      of_growing : (o : Option ChunkContents) → ((g : ChunkContents) → o ≡ Some g → f (mark_of s g) ≡ None) → All (λ m. seal_of f m ≡ None) (growing_state s o).marks
-      of_growing None h = All-nil (λ (m : Mark). seal_of f m ≡ None)
-      of_growing (Some g) h = All-cons (λ (m : Mark). seal_of f m ≡ None) (mark_of s g) [] (neither (is_none g.reason) (f (mark_of s g)) (h g refl)) (All-nil (λ (m : Mark). seal_of f m ≡ None))
+  of_growing : (o : Option ChunkContents) → ((g : ChunkContents) → o ≡ Some g → f (mark_of s g) ≡ None) → All (λ m. seal_of f m ≡ None) (growing_state s o).marks
+  of_growing None h = All-nil (λ (m : Mark). seal_of f m ≡ None)
+  of_growing (Some g) h = All-cons (λ (m : Mark). seal_of f m ≡ None) (mark_of s g) [] (neither (is_none g.reason) (f (mark_of s g)) (h g refl)) (All-nil (λ (m : Mark). seal_of f m ≡ None))
+
+  all_quiet : All (λ m. seal_of f m ≡ None) (stream_state s c).marks
+  all_quiet = All-append (λ (m : Mark). seal_of f m ≡ None) (growing_state s c.growing).marks (chunks_state s c.waiting).marks (of_growing c.growing none) (waiting_quiet f s (chunk_to_grow c).first c.waiting good.waiting)
+
+  pub none_sealed : Seals f (stream_state s c) (stream_state s c)
+  none_sealed = quiet_state f (stream_state s c) all_quiet
+
+  pub none_counted : sealed_count f (stream_state s c).marks ≡ 0
+  none_counted = quiet_count f (stream_state s c).marks all_quiet

@@ -1,3 +1,4 @@
+pub mod Claims
 pub mod Defaults
 pub mod Events
 pub mod Facts

@@ -1,6 +1,5 @@
--- The tokens of a reply, part by part, and what a line gets.
-use Rattle.std.proofs.Common.{◌≡◌, ℕ, ◌+◌, ◌<◌, false, cond, List, [], ◌∷◌, ◌++◌, length, get_or, take, map, Result, Ok, Err, refl, sym, ap, ◌∙◌, append_assoc, append-nil}
-use Rattle.std.specs.Prelude.{OnOk, is_ok, is_err}
+-- The tokens of a reply, part by part.
+use Rattle.std.proofs.Common.{◌≡◌, ℕ, ◌+◌, ◌<◌, List, [], ◌∷◌, ◌++◌, length, get_or, take, map, refl, sym, ap, ◌∙◌, append_assoc, append-nil}
 use Rattle.std.proofs.lemmas.List.{take_more, map-append}
 use Rattle.json.specs.Token.{end_array}
 use Rattle.json.specs.Tree.{items_tokens}
@@ -24,13 +23,3 @@ each_taken f xs i d lt =
 pub items_listed : (ds : List Data) → items_tokens (items_outline (items_of ds)) ≡ tokens_of_each ds ++ end_array ∷ []
 items_listed [] = refl
 items_listed (d ∷ ds) = ap (λ ts. data_tokens d ++ ts) (items_listed ds) ∙ sym (append_assoc (data_tokens d) (tokens_of_each ds) (end_array ∷ []))
-
--- ---- results
-
-pub on_ok : {T E P : Type 0} (r : Result T E) → is_err r ≡ false → OnOk r P → P
-on_ok (Ok x) e p = p
-on_ok (Err x) e p = absurd cc
-
-pub if_ok : {T E A : Type 0} (r : Result T E) (new a b : A) → is_err r ≡ false → new ≡ cond (is_ok r) a b → new ≡ a
-if_ok (Ok x) new a b e is = is
-if_ok (Err x) new a b e is = absurd cc

@@ -11,7 +11,6 @@ use ing_refusals::Refusal;
 use ing_rows::Verdict;
 use json::Writer;
 use std::alloc::{AllocError, Global};
-use std::mem;
 
 /// The reply to a line, or the report.
 #[derive(Debug, Drop)]
@@ -53,20 +52,21 @@ pub struct ShardReport {
     pub stored: u64,
 }
 
-/// Puts a reply behind the others, as one line.
+/// Room that most replies fit into, in bytes.
+const REPLY_ROOM: usize = 1024;
+
+/// Puts a reply behind the others, as one line. It is written in a buffer of its own, since the writer clears as much ahead
+/// as the buffer that it is given has.
 pub fn add_line(alloc: Global, replies: &mut Vec<u8>, reply: &Reply) -> Result<(), AllocError>
     ensures text { OnOk result
         (replies.new.items ≡ replies.old.items ++ line_text (reply_data reply.now)) }
     ensures err { OnErr result (replies.new.items ≡ replies.old.items) }
 {
-    let length = replies.len();
-    let mut out = Writer::new(mem::replace(replies, Vec::new(alloc)));
-    let written = write_reply(&mut out, reply);
-    *replies = out.into_inner();
-    if written.is_err() || replies.push(b'\n').is_err() {
-        replies.truncate(length);
-        return Err(AllocError);
-    }
+    let mut out = Writer::new(Vec::with_capacity(alloc, REPLY_ROOM)?);
+    write_reply(&mut out, reply)?;
+    let mut line = out.into_inner();
+    line.push(b'\n')?;
+    replies.extend_from_slice(&line)?;
     Ok(())
 }
 

@@ -1,8 +1,7 @@
 -- What is held beside the streams, after one more is listed and after one has changed.
-use Rattle.std.proofs.Common.{◌≡◌, ℕ, ◌+◌, ◌^◌, ◌<◌, ◌≤◌, Bool, List, [], ◌∷◌, ◌++◌, length, cond, true, false, ◌&&◌, nat_lt, Some, None, ap, sym, ◌∙◌, subst, arith, filter, append-nil}
+use Rattle.std.proofs.Common.{◌≡◌, ℕ, ◌+◌, ◌^◌, ◌≤◌, Bool, List, [], ◌∷◌, ◌++◌, length, cond, true, false, ◌&&◌, nat_lt, Some, None, ap, sym, ◌∙◌, subst, arith, filter, append-nil}
 use Rattle.std.specs.Prelude.{All, bytes_eq, sum_by}
 use Rattle.std.proofs.lemmas.List.Elements.{All-append, All-cons, All-head, All-nil, All-tail, All-weaker}
-use Rattle.std.proofs.lemmas.Bool.{lt-ltb}
 use Rattle.ing_labels.specs.Canonical.{canonical_of}
 use Rattle.ing_rows.specs.Rows.{empty_state, is_head, is_block, same_stream}
 use Rattle.ing_rows.specs.Gauges.{gauge_of}
@@ -21,7 +20,7 @@ pub whole_more : (sts : List Stream) (st : Stream) → part_of st ≡ empty_stat
 whole_more [] st none = ap (λ p. beside p empty_state) none
 whole_more (f ∷ sts) st none = ap (beside (part_of f)) (whole_more sts st none)
 
-measures_nothing : (st : Stream) → part_of st ≡ empty_state → st.chunks.next ≡ 0 → measure_of st ≡ nothing_kept
+pub measures_nothing : (st : Stream) → part_of st ≡ empty_state → st.chunks.next ≡ 0 → measure_of st ≡ nothing_kept
 measures_nothing st none next = λ i. record {
   live = cond (nat_lt 0 (next i)) 1 0;
   head_entries = (gauge_of is_head (none i).rows st.tenant).entries;
@@ -40,7 +39,7 @@ sum_more f t sts st none =
     ∙ ap (λ l. cond (bytes_eq st.tenant t) (f (measure_of st)) 0 + sum_of f t l) (sym (append-nil sts))
     ∙ sym (chosen_split (λ o. bytes_eq o.tenant t) (λ o. f (measure_of o)) sts st [])
 
-measures_more : (t : List ℕ) (sts : List Stream) (st : Stream) → measure_of st ≡ nothing_kept → measures_of t sts ≡ measures_of t (sts ++ st ∷ [])
+pub measures_more : (t : List ℕ) (sts : List Stream) (st : Stream) → measure_of st ≡ nothing_kept → measures_of t sts ≡ measures_of t (sts ++ st ∷ [])
 measures_more t sts st none = λ i. record {
   live = sum_more (λ k. k.live) t sts st (ap (λ k. k.live) none) i;
   head_entries = sum_more (λ k. k.head_entries) t sts st (ap (λ k. k.head_entries) none) i;
@@ -90,18 +89,15 @@ pub middle : (P : Stream → Type 0) (front : List Stream) (st : Stream) (back :
 middle P [] st back h = All-head P st back h
 middle P (f ∷ front) st back h = middle P front st back (All-tail P f (front ++ st ∷ back) h)
 
-active_case : (was is : Bool) (rest old new all : ℕ) → is ≡ true → old ≡ cond was 1 0 + rest → new ≡ cond was 0 1 + old → all ≡ cond is 1 0 + rest → new ≡ all
-active_case true is rest old new all live before now after = let one = after ∙ ap (λ b. cond b 1 0 + rest) live in omega (arith, before, now, one)
-active_case false is rest old new all live before now after = let one = after ∙ ap (λ b. cond b 1 0 + rest) live in omega (arith, before, now, one)
-
-pub held_changed : (old new : Streams) (front : List Stream) (st now : Stream) (back : List Stream) (more : ℕ) → AreHeld old
+pub held_changed : (old new : Streams) (front : List Stream) (st now : Stream) (back : List Stream) → AreHeld old
     → old.list.items ≡ front ++ st ∷ back → new.list.items ≡ front ++ now ∷ back → IsKept now → now.tenant ≡ st.tenant → now.labels ≡ st.labels
-    → now.chunks.next ≡ st.chunks.next + more → 0 < more
     → ((t n : List ℕ) → find_of new.tenants t n ≡ find_of old.tenants t n)
     → ((t : List ℕ) → is_known new.tenants t ≡ is_known old.tenants t)
     → ((t : List ℕ) → kept_of new.tenants t ≡ cond (bytes_eq st.tenant t) (changed (kept_of old.tenants st.tenant) (measure_of st) (measure_of now)) (kept_of old.tenants t))
-    → new.entries ≡ old.entries + more → new.active ≡ cond (nat_lt 0 st.chunks.next) 0 1 + old.active → new.entries ≤ 2 ^ 62 → AreHeld new
-held_changed old new front st now back more held was is kept tenant labels next some find known sums entries active few =
+    → new.entries + st.chunks.next ≡ old.entries + now.chunks.next
+    → new.active + cond (nat_lt 0 st.chunks.next) 1 0 ≡ old.active + cond (nat_lt 0 now.chunks.next) 1 0
+    → new.entries ≤ 2 ^ 62 → AreHeld new
+held_changed old new front st now back held was is kept tenant labels find known sums entries active few =
     let key : key_of now ≡ key_of st = λ i. record { tenant = tenant i; name = canonical_of (labels i) } in
     let all = subst (All IsKept) was held.kept in
     let Known : Stream → Type 0 = λ o. is_known new.tenants o.tenant ≡ true in
@@ -109,13 +105,11 @@ held_changed old new front st now back more held was is kept tenant labels next 
     let next_sum : ◌≡◌ {A = ℕ} new.entries (sum_by (λ o. o.chunks.next) (front ++ now ∷ back)) =
     let before = held.entries ∙ ap (sum_by (λ o. o.chunks.next)) was ∙ sum_split (λ o. o.chunks.next) front st back in
     let after = sum_split (λ o. o.chunks.next) front now back in
-    omega (arith, before, after, entries, next) in
+    omega (arith, before, after, entries) in
     let counted : ◌≡◌ {A = ℕ} new.active (length (filter (λ o. nat_lt 0 o.chunks.next) (front ++ now ∷ back))) =
-    active_case (nat_lt 0 st.chunks.next) (nat_lt 0 now.chunks.next) (length (filter (λ o. nat_lt 0 o.chunks.next) (front ++ back))) old.active new.active
-    (length (filter (λ o. nat_lt 0 o.chunks.next) (front ++ now ∷ back)))
-    (lt-ltb 0 now.chunks.next (omega (arith, next, some)))
-    (held.active ∙ ap (λ l. length (filter (λ o. nat_lt 0 o.chunks.next) l)) was ∙ count_split (λ o. nat_lt 0 o.chunks.next) front st back)
-    active (count_split (λ o. nat_lt 0 o.chunks.next) front now back) in
+    let before = held.active ∙ ap (λ l. length (filter (λ o. nat_lt 0 o.chunks.next) l)) was ∙ count_split (λ o. nat_lt 0 o.chunks.next) front st back in
+    let after = count_split (λ o. nat_lt 0 o.chunks.next) front now back in
+    omega (arith, before, after, active) in
     record {
       kept = subst (All IsKept) (sym is) (replaced IsKept front st now back all kept);
       distinct = subst AreDistinct (sym is) (distinct_same front st now back key (subst AreDistinct was held.distinct));

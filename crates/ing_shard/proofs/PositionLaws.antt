@@ -1,13 +1,15 @@
 -- A stream's place in the list, and the list around it.
-use Rattle.std.proofs.Common.{◌≡◌, ℕ, ◌+◌, ◌<◌, Bool, List, [], ◌∷◌, ◌++◌, length, cond, true, false, ◌&&◌, Option, Some, None, refl, ap, sym, ◌∙◌, subst, arith}
+use Rattle.std.proofs.Common.{◌≡◌, ℕ, ◌+◌, ◌<◌, Bool, List, [], ◌∷◌, ◌++◌, length, map, cond, true, false, ◌&&◌, ◌||◌, is_some, Option, Some, None, refl, ap, sym, ◌∙◌, subst, arith}
 use Rattle.std.specs.Prelude.{bytes_eq}
-use Rattle.std.proofs.Common.{get_or, set}
-use Rattle.std.proofs.Math.Seq.{get_or-append_seam, set-append_seam}
+use Rattle.std.proofs.Common.{get_or}
+use Rattle.std.proofs.Math.Seq.{get_or-append_seam}
 use Rattle.std.proofs.lemmas.List.{length-append}
 use Rattle.std.specs.Option.{option_map}
 use Rattle.std.proofs.lemmas.List.Elements.{All-append, All-cons, All-head, All-nil, All-tail}
 use Rattle.std.proofs.lemmas.Slice.Eq.{bytes_eq-Decides}
-use Rattle.ing_rows.specs.Rows.{StreamKey, same_stream}
+use Rattle.ing_rows.specs.declared.entry.Entry.{Entry}
+use Rattle.ing_rows.specs.Rows.{StreamKey, has_stream, same_stream}
+use Rattle.ing_shard.specs.Contents.{listed_after}
 use Rattle.ing_shard.specs.declared.stream.Stream.{Stream}
 use Rattle.ing_shard.specs.Streams.{key_of, AreDistinct, position_of}
 use Rattle.ing_shard.proofs.CountLaws.{same_self}
@@ -151,5 +153,32 @@ splits_within s sts i n counted split =
 pub splits_read : (s : StreamKey) (sts : List Stream) (i : ℕ) (split : Splits s sts i) (d : Stream) → get_or sts i d ≡ split.st
 splits_read s sts i split d = (λ j. get_or (split.is j) (sym split.at j) d) ∙ get_or-append_seam split.front split.st split.back d
 
-pub splits_write : (s : StreamKey) (sts : List Stream) (i : ℕ) (split : Splits s sts i) (new : Stream) → set sts i new ≡ split.front ++ new ∷ split.back
-splits_write s sts i split new = (λ j. set (split.is j) (sym split.at j) new) ∙ set-append_seam split.front split.st split.back new
+-- ---- the keys of the listed streams
+
+pub keys_same : (front : List Stream) (st new : Stream) (back : List Stream) → key_of new ≡ key_of st → map key_of (front ++ new ∷ back) ≡ map key_of (front ++ st ∷ back)
+keys_same [] st new back key = ap (λ k. k ∷ map key_of back) key
+keys_same (f ∷ front) st new back key = ap (λ l. key_of f ∷ l) (keys_same front st new back key)
+
+pub keys_more : (sts : List Stream) (new : Stream) → map key_of (sts ++ new ∷ []) ≡ map key_of sts ++ key_of new ∷ []
+keys_more [] new = refl
+keys_more (st ∷ sts) new = ap (λ l. key_of st ∷ l) (keys_more sts new)
+
+either_found : (b : Bool) (o : Option ℕ) → (b || is_some o) ≡ is_some (cond b (Some 0) (option_map (λ k. k + 1) o))
+either_found true o = refl
+either_found false None = refl
+either_found false (Some n) = refl
+
+listed_where : (s : StreamKey) (sts : List Stream) → has_stream s (map key_of sts) ≡ is_some (position_of s sts)
+listed_where s [] = refl
+listed_where s (st ∷ sts) = ap (λ b. same_stream (key_of st) s || b) (listed_where s sts) ∙ either_found (same_stream (key_of st) s) (position_of s sts)
+
+listed_with : (s : StreamKey) (es : List Entry) (listed : List StreamKey) → 0 < length es → listed_after s es listed ≡ cond (has_stream s listed) listed (listed ++ s ∷ [])
+listed_with s [] listed some = absurd (omega (arith, some))
+listed_with s (e ∷ es) listed some = refl
+
+-- a stream that is there stays where it is, and another is the last then
+pub listed_there : (s : StreamKey) (es : List Entry) (sts : List Stream) (number : ℕ) → 0 < length es → position_of s sts ≡ Some number → listed_after s es (map key_of sts) ≡ map key_of sts
+listed_there s es sts number some found = listed_with s es (map key_of sts) some ∙ ap (λ b. cond b (map key_of sts) (map key_of sts ++ s ∷ [])) (listed_where s sts ∙ ap is_some found)
+
+pub listed_last : (s : StreamKey) (es : List Entry) (sts : List Stream) → 0 < length es → position_of s sts ≡ None → listed_after s es (map key_of sts) ≡ map key_of sts ++ s ∷ []
+listed_last s es sts some found = listed_with s es (map key_of sts) some ∙ ap (λ b. cond b (map key_of sts) (map key_of sts ++ s ∷ [])) (listed_where s sts ∙ ap is_some found)

@@ -3,7 +3,7 @@ use Rattle.std.proofs.Common.{◌≡◌, ℕ, Bool, List, cond, true, false, ◌
 use Rattle.std.specs.Map.{update}
 use Rattle.std.specs.Option.{option_map_or}
 use Rattle.std.specs.BTreeMap.{get_by_text}
-use Rattle.std.specs.Prelude.{bytes_eq, is_some, OnErr, Result, Ok, Err}
+use Rattle.std.specs.Prelude.{bytes_eq, is_some, OnErr, OnOk, Result, Ok, Err}
 use Rattle.std.proofs.lemmas.Slice.Eq.{bytes_eq-Decides}
 use Rattle.ing_shard.specs.declared.tenants.TenantStreams.{TenantStreams}
 use Rattle.ing_shard.specs.declared.tenants.Tenants.{Tenants}
@@ -13,6 +13,10 @@ use Rattle.ing_shard.specs.Tenants.{find_of, is_known, kept_of, nothing_kept}
 pub always_on_err : {T E P : Type 0} (r : Result T E) → P → OnErr r P
 always_on_err (Ok x) p = tt
 always_on_err (Err e) p = p
+
+pub always_on_ok : {T E P : Type 0} (r : Result T E) → P → OnOk r P
+always_on_ok (Ok x) p = p
+always_on_ok (Err e) p = tt
 
 -- what is the same at equal bytes
 at_case : {X : Type 0} (f : List ℕ → X) (t u : List ℕ) (b : Bool) → (b ≡ true → t ≡ u) → cond b (f t) (f u) ≡ f u
@@ -65,9 +69,6 @@ module _ (id : List ℕ) (w : TenantStreams) (old new : Tenants) (writes : Write
 
   pub known_same : is_known old id ≡ true → (t : List ℕ) → is_known new t ≡ is_known old t
   known_same known t = known_written t ∙ ap (λ k. cond (bytes_eq id t) k (is_known old t)) (sym known) ∙ same_at (is_known old) id t
-
-  pub known_now : is_known new id ≡ true
-  known_now = known_written id ∙ ap (λ b. cond b true (is_known old id)) ((bytes_eq-Decides id id).1 refl)
 
   -- the same sums
   pub kept_stays : w.kept ≡ kept_of old id → (t : List ℕ) → kept_of new t ≡ kept_of old t

@@ -1,17 +1,20 @@
 -- What contracts see of a shard.
-use Rattle.std.specs.Prelude.{ℕ, List, filter, length, Option, Some, None}
+use Rattle.std.specs.Prelude.{ℕ, List, [], ◌∷◌, ◌++◌, filter, length, if◌then◌else◌, Option, Some, None}
 use Rattle.ing_labels.specs.Labels.{LabelMap}
 use Rattle.ing_labels.specs.Canonical.{canonical_of}
-use Rattle.ing_rows.specs.Rows.{StreamKey, Row, State, IsSame, is_stored}
+use Rattle.ing_rows.specs.declared.entry.Entry.{Entry}
+use Rattle.ing_rows.specs.Rows.{StreamKey, Row, State, IsSame, has_stream, is_stored}
 use Rattle.ing_rows.specs.Events.{Reply}
 use Rattle.ing_rows.specs.Events as events
 use Rattle.ing_limits.specs.Settings.{StoreSettings}
 use Rattle.ing_shard.specs.declared.fault.PushFault.{PushFault}
 use Rattle.ing_shard.specs.declared.fault.PushFault.TheVariants.{NoMemory, CounterFull, TooManyEntries}
 
--- its settings, and its rows and marks
+-- its settings, its number, the streams that have been listed, in the order of their numbers, and its rows and marks
 pub record Contents : Type 0 where
   pub settings : StoreSettings
+  pub number : ℕ
+  pub listed : List StreamKey
   pub state : State
 
 -- the shard's rows and marks are those of the state, in whatever order
@@ -31,3 +34,8 @@ abbrev pub reply_of : PushFault → Option Reply
 reply_of NoMemory = None
 reply_of CounterFull = Some events.CounterFull
 reply_of TooManyEntries = Some events.TooManyEntries
+
+-- A stream is listed with its first accepted entry, behind those that were listed before.
+abbrev pub listed_after : StreamKey → List Entry → List StreamKey → List StreamKey
+listed_after s [] listed = listed
+listed_after s (e ∷ es) listed = if has_stream s listed then listed else listed ++ s ∷ []

@@ -4,6 +4,7 @@ pub mod Faults
 pub mod KeptFacts
 pub mod Tenants
 pub mod Streams
+pub mod Sealing
 pub use Rattle.ing_rows.specs.Rows
 pub use Rattle.ing_rows.specs.Verdicts
 pub use Rattle.ing_rows.specs.Steps

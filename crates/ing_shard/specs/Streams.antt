@@ -7,7 +7,7 @@ use Rattle.ing_rows.specs.Rows.{StreamKey, State, empty_state, is_head, is_block
 use Rattle.ing_rows.specs.Facts.{Facts, facts_of}
 use Rattle.ing_rows.specs.Gauges.{gauge_of}
 use Rattle.ing_rows.specs.Sound.{IsSound}
-use Rattle.ing_rows.specs.Turns.{beside}
+use Rattle.ing_rows.specs.Turns.{beside, IsMarked}
 use Rattle.ing_chunk.specs.Chunks.{stream_state}
 use Rattle.ing_shard.specs.declared.stream.Stream.{Stream}
 use Rattle.ing_shard.specs.declared.tenants.TenantKept.{TenantKept}
@@ -56,10 +56,11 @@ measure_of st =
       block_bytes = block.bytes;
     }
 
--- it is what its rows give, and no line is longer than memory
+-- it is what its rows give, each of its chunks has one mark, and no line is longer than memory
 pub record IsKept (st : Stream) : Type 0 where
   pub facts : facts_of (part_of st).rows (key_of st) ≡ facts_kept st
   pub sound : IsSound (part_of st)
+  pub marked : IsMarked (part_of st)
   pub head_small : (measure_of st).head_bytes ≤ st.chunks.next * 2 ^ 65
   pub block_small : (measure_of st).block_bytes ≤ st.chunks.next * 2 ^ 65
 

@@ -1,12 +1,15 @@
 //! The value under one lock: the streams of one shard.
 #![tactic(auto)]
 
+mod due;
 mod fault;
 mod judge;
+mod sealing;
 mod shard;
 mod stream;
 mod streams;
 mod tenants;
 
+pub use due::{Due, Op};
 pub use fault::PushFault;
 pub use shard::{Pushed, Shard};

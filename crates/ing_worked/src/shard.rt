@@ -3,9 +3,10 @@
 use ing_labels::{LabelLimits, Labels};
 use ing_limits::Settings;
 use ing_plain::Plain;
+use ing_postings::StreamNo;
 use ing_refusals::Refusal;
 use ing_rows::{Entry, Gauge, Gauges, Line, Stamp, Tenant, Verdict};
-use ing_shard::{PushFault, Shard};
+use ing_shard::{Due, Op, PushFault, Shard};
 use std::alloc::Global;
 use std::test::Fail;
 
@@ -33,7 +34,7 @@ fn entries(alloc: Global, count: u64) -> Result<Vec<Entry>, Fail> {
 
 #[test]
 fn a_push_is_judged_and_counted(rt: HostRuntime) -> Result<(), Fail> {
-    let mut shard = Shard::fresh(rt.alloc(), Settings::from_toml(rt.alloc(), "")?);
+    let mut shard = Shard::fresh(rt.alloc(), Settings::from_toml(rt.alloc(), "")?, 0);
     let tenant = Tenant::of_text(rt.alloc(), "acme")?;
     let labels = Labels::of_pairs(rt.alloc(), &[("app", "web")], &LIMITS)?;
     let two = entries(rt.alloc(), 2)?;
@@ -63,7 +64,7 @@ fn a_push_is_judged_and_counted(rt: HostRuntime) -> Result<(), Fail> {
 #[test]
 fn more_entries_than_one_push_of_a_tenant_may_have(rt: HostRuntime) -> Result<(), Fail> {
     let settings = Settings::from_toml(rt.alloc(), "[tenants.acme]\nmax_entries_per_push = 1\n")?;
-    let mut shard = Shard::fresh(rt.alloc(), settings);
+    let mut shard = Shard::fresh(rt.alloc(), settings, 0);
     let acme = Tenant::of_text(rt.alloc(), "acme")?;
     let other = Tenant::of_text(rt.alloc(), "t")?;
     let labels = Labels::of_pairs(rt.alloc(), &[("app", "web")], &LIMITS)?;
@@ -94,7 +95,7 @@ fn more_entries_than_one_push_of_a_tenant_may_have(rt: HostRuntime) -> Result<()
 
 #[test]
 fn pushes_of_no_entry_and_of_the_most(rt: HostRuntime) -> Result<(), Fail> {
-    let mut shard = Shard::fresh(rt.alloc(), Settings::from_toml(rt.alloc(), "")?);
+    let mut shard = Shard::fresh(rt.alloc(), Settings::from_toml(rt.alloc(), "")?, 0);
     let tenant = Tenant::of_text(rt.alloc(), "a".repeat(rt.alloc(), 150)?.as_str())?;
     for (name, count, total) in [("none", 0, 0), ("one", 1, 1), ("most", 10_000, 10_001)] {
         let labels = Labels::of_pairs(rt.alloc(), &[("app", name)], &LIMITS)?;
@@ -124,7 +125,7 @@ fn four_bytes(alloc: Global, nanoseconds: u64) -> Result<Vec<Entry>, Fail> {
 #[test]
 fn two_lines_fill_a_block_and_two_blocks_a_chunk(rt: HostRuntime) -> Result<(), Fail> {
     let text = "chunk_block_size = 40\nchunk_target_size = 80\n";
-    let mut shard = Shard::fresh(rt.alloc(), Settings::from_toml(rt.alloc(), text)?);
+    let mut shard = Shard::fresh(rt.alloc(), Settings::from_toml(rt.alloc(), text)?, 0);
     let tenant = Tenant::of_text(rt.alloc(), "acme")?;
     let labels = Labels::of_pairs(rt.alloc(), &[("app", "web")], &LIMITS)?;
     for (nanoseconds, in_head, in_blocks) in [
@@ -159,6 +160,110 @@ fn held(in_head: u64, in_blocks: u64) -> Gauges {
         },
         ..Gauges::default()
     }
+}
+
+/// Sweeps, or seals everything where there is no time. A refused call leaves the gauges as they were, and the same call then
+/// succeeds.
+fn sealed(
+    shard: &mut Shard,
+    alloc: Global,
+    now: Option<u64>,
+    tenant: &Tenant,
+) -> Result<Due, Fail> {
+    let before = shard.gauges(tenant);
+    if let Some(due) = sealed_once(shard, alloc, now)? {
+        return Ok(due);
+    }
+    if shard.gauges(tenant) != before {
+        Err("a refused seal changed something")?;
+    }
+    Ok(sealed_once(shard, alloc, now)?.ok_or("a second refusal")?)
+}
+
+/// Nothing where memory ran out.
+fn sealed_once(shard: &mut Shard, alloc: Global, now: Option<u64>) -> Result<Option<Due>, Fail> {
+    Ok(match now {
+        Some(now) => shard.sweep(alloc, stamp(now)?).ok(),
+        None => shard.seal_all(alloc).ok(),
+    })
+}
+
+/// Operations of the third shard, by the numbers of their streams.
+fn ops_of(alloc: Global, streams: &[u64]) -> Result<Vec<Op>, Fail> {
+    let mut ops = Vec::new(alloc);
+    for stream in streams {
+        ops.push(Op {
+            shard: 3,
+            stream: StreamNo::new(*stream),
+        })?;
+    }
+    Ok(ops)
+}
+
+/// Whether so many chunks are sealed now, and there is one operation for each of these streams.
+fn seals(
+    shard: &mut Shard,
+    alloc: Global,
+    now: Option<u64>,
+    tenant: &Tenant,
+    count: u64,
+    streams: &[u64],
+) -> Result<bool, Fail> {
+    let due = sealed(shard, alloc, now, tenant)?;
+    let ops = ops_of(alloc, streams)?;
+    Ok(due.sealed == count && due.ops.as_slice() == ops.as_slice() && !due.durable)
+}
+
+/// Pushes so many entries of an application.
+fn push_of(
+    shard: &mut Shard,
+    alloc: Global,
+    tenant: &Tenant,
+    app: &str,
+    count: u64,
+    now: u64,
+) -> Result<(), Fail> {
+    let labels = Labels::of_pairs(alloc, &[("app", app)], &LIMITS)?;
+    shard.push(alloc, tenant, &labels, entries(alloc, count)?, stamp(now)?)?;
+    Ok(())
+}
+
+/// The third shard, with one entry of a first stream at time 0, and two of a second at time 5.
+fn third_shard(alloc: Global, tenant: &Tenant) -> Result<Shard, Fail> {
+    let settings = Settings::from_toml(alloc, "chunk_idle_period = \"10ns\"\n")?;
+    let mut shard = Shard::fresh(alloc, settings, 3);
+    push_of(&mut shard, alloc, tenant, "web", 1, 0)?;
+    push_of(&mut shard, alloc, tenant, "api", 2, 5)?;
+    Ok(shard)
+}
+
+#[test]
+fn a_sweep_seals_what_is_due_and_gives_all_that_waits(rt: HostRuntime) -> Result<(), Fail> {
+    let tenant = Tenant::of_text(rt.alloc(), "acme")?;
+    let mut shard = third_shard(rt.alloc(), &tenant)?;
+    for (now, count, streams, in_blocks) in [
+        (Some(10), 0, [].as_slice(), 0),
+        (Some(11), 1, [0].as_slice(), 1),
+        (Some(12), 0, [0].as_slice(), 1),
+        (None, 1, [0, 1].as_slice(), 3),
+        (None, 0, [0, 1].as_slice(), 3),
+    ] {
+        let as_wanted = seals(&mut shard, rt.alloc(), now, &tenant, count, streams)?;
+        assert!(rt; as_wanted, "{now:?}, {count}");
+        assert_eq!(rt; shard.gauges(&tenant).block.entries, in_blocks);
+    }
+    Ok(())
+}
+
+#[test]
+fn each_chunk_that_waits_has_an_operation(rt: HostRuntime) -> Result<(), Fail> {
+    let tenant = Tenant::of_text(rt.alloc(), "acme")?;
+    let mut shard = third_shard(rt.alloc(), &tenant)?;
+    assert!(rt; seals(&mut shard, rt.alloc(), None, &tenant, 2, &[0, 1])?);
+    // The first of these two is a duplicate.
+    push_of(&mut shard, rt.alloc(), &tenant, "web", 2, 20)?;
+    assert!(rt; seals(&mut shard, rt.alloc(), None, &tenant, 1, &[0, 0, 1])?);
+    Ok(())
 }
 
 /// Numbers by lot, the same in each run (xorshift of 64 bits).
@@ -203,7 +308,7 @@ impl Given {
 
 /// Small blocks and chunks, short lines, a window of 8 nanoseconds, and fewer streams than there are sets of labels.
 const SMALL: &str =
-    "chunk_block_size = 40\nchunk_target_size = 100\nmax_chunk_age = \"16ns\"\nmax_line_size = 6\nmax_streams_per_tenant = 6\n[tenants.b]\nmax_line_size = 3\nmax_streams_per_tenant = 2\n";
+    "chunk_block_size = 40\nchunk_target_size = 100\nchunk_idle_period = \"3ns\"\nmax_chunk_age = \"16ns\"\nmax_line_size = 6\nmax_streams_per_tenant = 6\n[tenants.b]\nmax_line_size = 3\nmax_streams_per_tenant = 2\n";
 
 /// One to five entries whose stamps lie up to 11 nanoseconds after this time.
 fn drawn_entries(alloc: Global, lots: &mut Lots, time: u64) -> Result<Vec<Entry>, Fail> {
@@ -238,7 +343,7 @@ impl Both {
     fn new(alloc: Global) -> Result<Both, Fail> {
         Ok(Both {
             settings: Settings::from_toml(alloc, SMALL)?,
-            shard: Shard::fresh(alloc, Settings::from_toml(alloc, SMALL)?),
+            shard: Shard::fresh(alloc, Settings::from_toml(alloc, SMALL)?, 0),
             plain: Plain::new(alloc),
             tenants: three_tenants(alloc)?,
             streams: eight_streams(alloc)?,
@@ -266,6 +371,18 @@ impl Both {
             .plain
             .push(alloc, rules, tenant, name, same, self.time)?;
         Ok((pushed.verdicts, wanted))
+    }
+
+    /// How many chunks both seal now: by lot those that are due, or all.
+    fn seal(&mut self, alloc: Global) -> Result<(u64, u64), Fail> {
+        if self.lots.draw() % 3 == 0 {
+            return Ok((self.shard.seal_all(alloc)?.sealed, self.plain.seal_all()));
+        }
+        let due = self.shard.sweep(alloc, stamp(self.time)?)?;
+        let rules = self
+            .settings
+            .for_tenant(self.tenants.first().ok_or("a tenant")?);
+        Ok((due.sealed, self.plain.sweep(rules, self.time)))
     }
 
     /// Whether both have the same gauges of each tenant.
@@ -311,12 +428,20 @@ fn copies(alloc: Global, entries: &[Entry]) -> Result<Vec<Entry>, Fail> {
 }
 
 #[test]
-fn drawn_pushes_are_answered_as_by_the_slow_program(rt: HostRuntime) -> Result<(), Fail> {
+fn drawn_pushes_sweeps_and_seals_are_answered_as_by_the_slow_program(
+    rt: HostRuntime,
+) -> Result<(), Fail> {
     let mut both = Both::new(rt.alloc())?;
     let mut given = Given::default();
+    let mut sealed: u64 = 0;
     for turn in 0..500u64 {
         let (verdicts, wanted) = both.push(rt.alloc())?;
         assert_eq!(rt; verdicts.as_slice(), wanted.as_slice(), "{turn}");
+        if turn % 4 == 3 {
+            let (count, wanted) = both.seal(rt.alloc())?;
+            assert_eq!(rt; count, wanted, "{turn}");
+            sealed = sealed.saturating_add(count);
+        }
         assert_eq!(rt; both.shard.totals(), (both.plain.len() as u64, 0), "{turn}");
         for verdict in &wanted {
             given.count(verdict);
@@ -327,15 +452,19 @@ fn drawn_pushes_are_answered_as_by_the_slow_program(rt: HostRuntime) -> Result<(
     assert!(rt; given.line_too_long > 0, "{given:?}");
     assert!(rt; given.too_far_behind > 0, "{given:?}");
     assert!(rt; given.too_many_streams > 0, "{given:?}");
+    assert!(rt; sealed > 0);
     Ok(())
 }
 
-/// The same pushes: after each, both have the same gauges.
+/// The same pushes, sweeps and seals: after each turn both have the same gauges.
 #[test]
 fn drawn_pushes_are_measured_as_by_the_slow_program(rt: HostRuntime) -> Result<(), Fail> {
     let mut both = Both::new(rt.alloc())?;
     for turn in 0..500u64 {
         both.push(rt.alloc())?;
+        if turn % 4 == 3 {
+            both.seal(rt.alloc())?;
+        }
         assert!(rt; both.are_measured_alike(), "{turn}");
     }
     assert!(rt; both.most_in_heads > 0);

@@ -1,0 +1,117 @@
+-- One stream of the list has changed: what is kept beside the streams can be changed with it.
+use Rattle.std.proofs.Common.{◌≡◌, ℕ, ◌+◌, ◌^◌, ◌<◌, ◌≤◌, List, [], ◌∷◌, ◌++◌, length, get_or, set, suc, take, drop, true, Some, cond, nat_lt, ap, sym, ◌∙◌, subst, arith, append-nil}
+use Rattle.std.specs.Prelude.{All, bytes_eq, sum_by}
+use Rattle.std.proofs.Math.Seq.{drop-cons, get_or-append_seam, set-append_seam}
+use Rattle.std.proofs.lemmas.List.{length-take-le, take-append-drop}
+use Rattle.std.proofs.lemmas.List.Elements.{All-append, All-cons, All-nil}
+use Rattle.ing_rows.specs.Rows.{StreamKey, empty_state}
+use Rattle.ing_rows.specs.declared.rules.Rules.{Rules}
+use Rattle.ing_shard.specs.declared.sealing.Sealing.{Sealing}
+use Rattle.ing_shard.specs.declared.stream.Stream.{Stream}
+use Rattle.ing_shard.specs.Sealing.{IsSealed}
+use Rattle.ing_shard.specs.declared.streams.Streams.{Streams}
+use Rattle.ing_shard.specs.Streams.{key_of, part_of, position_of, AreDistinct, IsKept, AreHeld, measure_of, measures_of}
+use Rattle.ing_shard.specs.Tenants.{Fits, IsWithin, changed, find_of, is_known, kept_of}
+use Rattle.ing_shard.proofs.HeldLaws.{held_changed, measures_more, measures_nothing, middle, replaced}
+use Rattle.ing_shard.proofs.PositionLaws.{position_splits, splits_read}
+use Rattle.ing_shard.proofs.SumLaws.{sum_split, within}
+use Rattle.ing_shard.proofs.TakeLaws.{sums_fit, changed_own}
+use Rattle.ing_shard.proofs.WholeLaws.{AreOthers}
+
+-- the list around a stream that is read there
+pub record Around (sts : List Stream) (i : ℕ) (st : Stream) : Type 0 where
+  pub front : List Stream
+  pub back : List Stream
+  pub is : sts ≡ front ++ st ∷ back
+  pub at : length front ≡ i
+
+pub around : (sts : List Stream) (i : ℕ) (st : Stream) → i < length sts → st ≡ get_or sts i st → Around sts i st
+around sts i st below read = record {
+  front = take i sts;
+  back = drop (suc i) sts;
+  is = sym (take-append-drop i sts) ∙ ap (λ l. take i sts ++ l) (drop-cons sts i st below ∙ ap (λ o. o ∷ drop (suc i) sts) (sym read));
+  at = length-take-le i sts (omega (arith, below));
+}
+
+-- and around the one that has this key
+pub record ListedAt (s : StreamKey) (sts : List Stream) (i : ℕ) (st : Stream) : Type 0 where
+  pub around : Around sts i st
+  pub key : key_of st ≡ s
+  pub others : AreOthers s (around.front ++ around.back)
+
+pub listed_at : (s : StreamKey) (sts : List Stream) (i : ℕ) (st : Stream) → AreDistinct sts → position_of s sts ≡ Some i → st ≡ get_or sts i st → ListedAt s sts i st
+listed_at s sts i st distinct listed read =
+    let split = position_splits s sts i distinct listed in
+    let here : st ≡ split.st = read ∙ splits_read s sts i split st in
+    record {
+      around = record { front = split.front; back = split.back; is = split.is ∙ ap (λ o. split.front ++ o ∷ split.back) (sym here); at = split.at };
+      key = ap key_of here ∙ split.key;
+      others = split.others;
+    }
+
+module _ (sts front : List Stream) (st : Stream) (back : List Stream) (i : ℕ) (is : sts ≡ front ++ st ∷ back) (at : length front ≡ i) where
+  pub read_there : (d : Stream) → get_or sts i d ≡ st
+  read_there d = (λ j. get_or (is j) (sym at j) d) ∙ get_or-append_seam front st back d
+
+  pub written_there : (new : Stream) → set sts i new ≡ front ++ new ∷ back
+  written_there new = (λ j. set (is j) (sym at j) new) ∙ set-append_seam front st back new
+
+module _ (old : Streams) (front : List Stream) (st : Stream) (back : List Stream) (held : AreHeld old) (was : old.list.items ≡ front ++ st ∷ back) where
+  sums_here : kept_of old.tenants st.tenant ≡ measures_of st.tenant (front ++ st ∷ back)
+  sums_here = held.sums st.tenant ∙ ap (measures_of st.tenant) was
+
+  pub kept_here : IsKept st
+  kept_here = middle IsKept front st back (subst (All IsKept) was held.kept)
+
+  pub known_here : is_known old.tenants st.tenant ≡ true
+  known_here = middle (λ (o : Stream). is_known old.tenants o.tenant ≡ true) front st back (subst (All (λ (o : Stream). is_known old.tenants o.tenant ≡ true)) was held.known)
+
+  pub within_here : IsWithin (measure_of st) (kept_of old.tenants st.tenant)
+  within_here = subst (IsWithin (measure_of st)) (sym sums_here) (within front st back)
+
+  pub fits_here : (now : Stream) → IsKept now → now.tenant ≡ st.tenant → sum_by (λ o. o.chunks.next) (front ++ now ∷ back) ≤ 2 ^ 62 → Fits (changed (kept_of old.tenants st.tenant) (measure_of st) (measure_of now))
+  fits_here now kept tenant few =
+      subst Fits (sym (ap (λ k. changed k (measure_of st) (measure_of now)) sums_here ∙ sym (changed_own front st now back tenant)))
+      (sums_fit st.tenant (front ++ now ∷ back) (replaced IsKept front st now back (subst (All IsKept) was held.kept) kept) few)
+
+  -- its growing chunk is sealed, and its tenant's sums are changed
+  pub sealed_here : (new : Streams) (which : Sealing) (rules : Rules) (now : Stream) → new.list.items ≡ front ++ now ∷ back → IsKept now → IsSealed which rules st now
+      → ((t n : List ℕ) → find_of new.tenants t n ≡ find_of old.tenants t n)
+      → ((t : List ℕ) → is_known new.tenants t ≡ is_known old.tenants t)
+      → ((t : List ℕ) → kept_of new.tenants t ≡ cond (bytes_eq st.tenant t) (changed (kept_of old.tenants st.tenant) (measure_of st) (measure_of now)) (kept_of old.tenants t))
+      → new.entries ≡ old.entries → new.active ≡ old.active → AreHeld new
+  sealed_here new which rules now is kept sealed find known sums entries active =
+      let next = sealed.next in
+      let few = held.few in
+      held_changed old new front st now back held was is kept sealed.tenant sealed.labels find known sums
+      (omega (arith, entries, next))
+      (λ i. active i + cond (nat_lt 0 (sym next i)) 1 0)
+      (omega (arith, entries, few))
+
+  -- and they can be
+  pub sealed_fits : (which : Sealing) (rules : Rules) (now : Stream) → IsKept now → IsSealed which rules st now → Fits (changed (kept_of old.tenants st.tenant) (measure_of st) (measure_of now))
+  sealed_fits which rules now kept sealed =
+      let next = sealed.next in
+      let few = held.few in
+      let before = held.entries ∙ ap (sum_by (λ o. o.chunks.next)) was ∙ sum_split (λ o. o.chunks.next) front st back in
+      let after = sum_split (λ (o : Stream). o.chunks.next) front now back in
+      fits_here now kept sealed.tenant (omega (arith, next, few, before, after))
+
+-- a stream that was not listed begins with its first entries: it stands for the one without entries
+module _ (old : Streams) (st now : Stream) (held : AreHeld old) (next : st.chunks.next ≡ 0) (none : part_of st ≡ empty_state) (tenant : now.tenant ≡ st.tenant) where
+  abbrev items : List Stream
+  items = old.list.items
+
+  begun_sums : changed (kept_of old.tenants st.tenant) (measure_of st) (measure_of now) ≡ measures_of st.tenant (items ++ now ∷ [])
+  begun_sums =
+      ap (λ k. changed k (measure_of st) (measure_of now)) (held.sums st.tenant ∙ measures_more st.tenant items st (measures_nothing st none next))
+      ∙ sym (changed_own items st now [] tenant)
+
+  pub begun_fits : IsKept now → old.entries + now.chunks.next ≤ 2 ^ 62 → Fits (changed (kept_of old.tenants st.tenant) (measure_of st) (measure_of now))
+  begun_fits kept few =
+      let before = held.entries in
+      let after : ◌≡◌ {A = ℕ} (sum_by (λ (o : Stream). o.chunks.next) (items ++ now ∷ [])) (sum_by (λ o. o.chunks.next) (items ++ []) + now.chunks.next) =
+      sum_split (λ (o : Stream). o.chunks.next) items now [] ∙ omega arith in
+      let all = ap (sum_by (λ (o : Stream). o.chunks.next)) (append-nil items) in
+      subst Fits (sym begun_sums)
+      (sums_fit st.tenant (items ++ now ∷ []) (All-append IsKept items (now ∷ []) held.kept (All-cons IsKept now [] kept (All-nil IsKept))) (omega (arith, before, after, all, few)))

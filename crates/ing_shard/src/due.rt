@@ -1,0 +1,23 @@
+//! What a sweep answers.
+
+use ing_postings::StreamNo;
+
+/// A chunk that is to be flushed: the oldest sealed one of a stream (own).
+#[derive(Clone, Copy, Debug, PartialEq, Eq)]
+pub struct Op {
+    /// The number of the stream's shard.
+    pub shard: u32,
+    /// The stream's number in it.
+    pub stream: StreamNo,
+}
+
+/// What a sweep or a seal of everything left.
+#[derive(Debug, Drop)]
+pub struct Due {
+    /// How many chunks it sealed.
+    pub sealed: u64,
+    /// One operation for each sealed chunk that waits in memory, those sealed earlier too, by the number of its stream.
+    pub ops: Vec<Op>,
+    /// Whether the seals would survive a crash. There is no log yet, so it is always false.
+    pub durable: bool,
+}
