@@ -46,6 +46,12 @@ pub enum Refusal {
     Trailing,
     /// A count would pass its last value.
     CounterFull,
+    /// A store did not do what it was asked.
+    Failed,
+    /// A store has not the bytes that it was given.
+    Damaged,
+    /// A ticket is of another shard, or its flight is not open.
+    Stranger,
     /// A text is no tenant id.
     BadTenant,
     /// A text is no stamp.
@@ -92,6 +98,9 @@ impl Refusal {
             Refusal::OutOfOrder => 17,
             Refusal::Trailing => 18,
             Refusal::CounterFull => 19,
+            Refusal::Failed => 20,
+            Refusal::Damaged => 21,
+            Refusal::Stranger => 24,
             Refusal::BadTenant => 30,
             Refusal::BadStamp => 31,
             Refusal::TooManyEntries => 32,
@@ -129,6 +138,9 @@ impl Refusal {
             Refusal::OutOfOrder => "OutOfOrder",
             Refusal::Trailing => "Trailing",
             Refusal::CounterFull => "CounterFull",
+            Refusal::Failed => "Failed",
+            Refusal::Damaged => "Damaged",
+            Refusal::Stranger => "Stranger",
             Refusal::BadTenant => "BadTenant",
             Refusal::BadStamp => "BadStamp",
             Refusal::TooManyEntries => "TooManyEntries",
