@@ -1,8 +1,9 @@
 -- What is kept of a stream suffices to judge its entries.
-use Rattle.std.proofs.Common.{◌≡◌, ℕ, suc, add-one, ◌+◌, ◌<◌, ◌≤◌, max, Bool, true, false, cond, not, ◌&&◌, ◌||◌, List, [], ◌∷◌, length, map, filter, refl, sym, ap, subst, ◌∙◌, arith, bytes_eq, nat_eq, nat_lt, is_some, Some, None}
-use Rattle.std.specs.Prelude.{Option}
+use Rattle.std.proofs.Common.{◌≡◌, ℕ, suc, add-one, ◌+◌, ◌<◌, ◌≤◌, max, Bool, true, false, cond, not, ◌&&◌, ◌||◌, List, [], ◌∷◌, length, map, filter, get_or, refl, sym, ap, subst, ◌∙◌, arith, bytes_eq, nat_eq, nat_lt, is_some, Some, None}
+use Rattle.std.specs.Prelude.{All, Option}
 use Rattle.std.specs.Option.{option_map}
 use Rattle.std.proofs.lemmas.Bool.Decides.{nat_tests}
+use Rattle.std.proofs.lemmas.List.Elements.{All-head, All-tail}
 use Rattle.ing_rows.specs.declared.entry.Entry.{Entry}
 use Rattle.ing_rows.specs.declared.place.Place.{Place}
 use Rattle.ing_rows.specs.declared.place.Place.TheVariants.{Head, Block, Flight, Stored}
@@ -30,19 +31,35 @@ filter_mapped p f stays (x ∷ xs) =
     ap (λ b. cond b (f x ∷ filter p (map f xs)) (filter p (map f xs))) (stays x)
     ∙ kept_cond (p x) f x (filter p (map f xs)) (filter p xs) (filter_mapped p f stays xs)
 
--- a change of rows that keeps stream, number and entry, and whether they are stored
-pub record KeepsFacts (f : Row → Row) : Type 0 where
+-- the same, of the elements that there are
+filter_mapped_here : {X : Type 0} (p : X → Bool) (f : X → X) (xs : List X) → All (λ x. p (f x) ≡ p x) xs → filter p (map f xs) ≡ map f (filter p xs)
+filter_mapped_here p f [] h = refl
+filter_mapped_here p f (x ∷ xs) h =
+    ap (λ b. cond b (f x ∷ filter p (map f xs)) (filter p (map f xs))) (All-head (λ y. p (f y) ≡ p y) x xs h)
+    ∙ kept_cond (p x) f x (filter p (map f xs)) (filter p xs) (filter_mapped_here p f xs (All-tail (λ y. p (f y) ≡ p y) x xs h))
+
+-- a change of rows that keeps stream, number and entry
+pub record KeepsEntries (f : Row → Row) : Type 0 where
   pub stream : (r : Row) → (f r).stream ≡ r.stream
   pub number : (r : Row) → (f r).number ≡ r.number
   pub entry : (r : Row) → (f r).entry ≡ r.entry
-  pub stored : (r : Row) → is_stored (f r).place ≡ is_stored r.place
 
-module _ (f : Row → Row) (k : KeepsFacts f) where
+-- what the rows of a stream tell, wherever they stand: how many, the greatest stamp and the last entry
+pub record SameEntries (xs ys : List Row) (s : StreamKey) : Type 0 where
+  pub count : count_of xs s ≡ count_of ys s
+  pub greatest : highest_of xs s ≡ highest_of ys s
+  pub last : option_map (λ (r : Row). r.entry) (last_of xs s) ≡ option_map (λ (r : Row). r.entry) (last_of ys s)
+
+-- whether a row is stored stays
+abbrev pub StaysStored : (Row → Row) → Row → Type 0
+StaysStored f r = is_stored (f r).place ≡ is_stored r.place
+
+module _ (f : Row → Row) (k : KeepsEntries f) where
   of_stream : (s : StreamKey) (r : Row) → same_stream (f r).stream s ≡ same_stream r.stream s
   of_stream s r = ap (λ t. same_stream t s) (k.stream r)
 
-  same_live : (t : List ℕ) (r : Row) → is_live t (f r) ≡ is_live t r
-  same_live t r = λ i. bytes_eq (k.stream r i).tenant t && not (k.stored r i)
+  same_live : (t : List ℕ) (r : Row) → StaysStored f r → is_live t (f r) ≡ is_live t r
+  same_live t r h = λ i. bytes_eq (k.stream r i).tenant t && not (h i)
 
   greatest_kept : (rows : List Row) → greatest_stamp (map f rows) ≡ greatest_stamp rows
   greatest_kept [] = refl
@@ -75,16 +92,22 @@ module _ (f : Row → Row) (k : KeepsFacts f) where
   length_kept [] = refl
   length_kept (r ∷ rows) = ap (λ n. suc n) (length_kept rows)
 
-  pub facts_kept : (rows : List Row) (s : StreamKey) → facts_of (map f rows) s ≡ facts_of rows s
-  facts_kept rows s =
-      let count : count_of (map f rows) s ≡ count_of rows s = ap length (rows_kept s rows) ∙ length_kept (rows_of s rows) in
-      let greatest : highest_of (map f rows) s ≡ highest_of rows s = ap greatest_stamp (rows_kept s rows) ∙ greatest_kept (rows_of s rows) in
-      let last : option_map (λ (r : Row). r.entry) (last_of (map f rows) s) ≡ option_map (λ (r : Row). r.entry) (last_of rows s) =
-      ap (λ l. option_map (λ (r : Row). r.entry) (latest l)) (rows_kept s rows)
-      ∙ ap (option_map (λ (r : Row). r.entry)) (latest_kept (rows_of s rows)) ∙ entry_kept (last_of rows s) in
+  pub entries_kept : (rows : List Row) (s : StreamKey) → SameEntries (map f rows) rows s
+  entries_kept rows s = record {
+    count = ap length (rows_kept s rows) ∙ length_kept (rows_of s rows);
+    greatest = ap greatest_stamp (rows_kept s rows) ∙ greatest_kept (rows_of s rows);
+    last =
+        ap (λ l. option_map (λ (r : Row). r.entry) (latest l)) (rows_kept s rows)
+        ∙ ap (option_map (λ (r : Row). r.entry)) (latest_kept (rows_of s rows)) ∙ entry_kept (last_of rows s);
+  }
+
+  pub facts_kept : (rows : List Row) (s : StreamKey) → All (StaysStored f) rows → facts_of (map f rows) s ≡ facts_of rows s
+  facts_kept rows s stored =
+      let same = entries_kept rows s in
       let live : live_streams (map f rows) s.tenant ≡ live_streams rows s.tenant =
-      ap streams_of (filter_mapped (is_live s.tenant) f (same_live s.tenant) rows) ∙ streams_kept (filter (is_live s.tenant) rows) in
-      λ i. record { count = count i; greatest = greatest i; last = last i; is_live = has_stream s (live i); live = length (live i) }
+      ap streams_of (filter_mapped_here (is_live s.tenant) f rows (λ j d below. same_live s.tenant (get_or rows j d) (stored j d below)))
+      ∙ streams_kept (filter (is_live s.tenant) rows) in
+      λ i. record { count = same.count i; greatest = same.greatest i; last = same.last i; is_live = has_stream s (live i); live = length (live i) }
 
 -- ---- heads that are closed
 
@@ -102,12 +125,11 @@ module _ (test : Row → Bool) where
   and_right true b h = h
   and_right false b h = absurd (cc)
 
-  keeps_facts : KeepsFacts close
-  keeps_facts = record {
+  keeps_entries : KeepsEntries close
+  keeps_entries = record {
     stream = λ r. stream_at (test r && is_head r.place) r;
     number = λ r. number_at (test r && is_head r.place) r;
     entry = λ r. entry_at (test r && is_head r.place) r;
-    stored = λ r. stored_at (test r && is_head r.place) r (and_right (test r) (is_head r.place));
   } where
     stream_at : (b : Bool) (r : Row) → (cond b (record r { place = Block }) r).stream ≡ r.stream
     stream_at true r = refl
@@ -121,13 +143,14 @@ module _ (test : Row → Bool) where
     entry_at true r = refl
     entry_at false r = refl
 
-    stored_at : (b : Bool) (r : Row) → (b ≡ true → is_head r.place ≡ true) → is_stored (cond b (record r { place = Block }) r).place ≡ is_stored r.place
-    stored_at true r h = sym (head_unstored r.place (h refl))
-    stored_at false r h = refl
+  stored_at : (b : Bool) (r : Row) → (b ≡ true → is_head r.place ≡ true) → is_stored (cond b (record r { place = Block }) r).place ≡ is_stored r.place
+  stored_at true r h = sym (head_unstored r.place (h refl))
+  stored_at false r h = refl
 
   -- closing heads leaves what a verdict reads as it is
   pub facts_closed : (rows : List Row) (s : StreamKey) → facts_of (moved (λ r. test r && is_head r.place) Block rows) s ≡ facts_of rows s
-  facts_closed rows s = facts_kept close keeps_facts rows s
+  facts_closed rows s =
+      facts_kept close keeps_entries rows s (λ j d below. let r = get_or rows j d in stored_at (test r && is_head r.place) r (and_right (test r) (is_head r.place)))
 
 -- ---- one more row, under the next number of its stream
 

@@ -1,6 +1,7 @@
 mod ApartLaws
 mod Digits
 mod FactLaws
+mod FlushLaws
 mod Keys
 mod MarkLaws
 mod PartLaws

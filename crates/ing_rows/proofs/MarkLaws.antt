@@ -48,7 +48,7 @@ marks_marked f keeps rows marks h =
           (All-weaker (Known rows) (λ m. Known rows (f m)) (λ m k. subst (λ n. n < count_of rows (f m).stream) (sym (keeps.chunk m)) (subst (λ t. m.chunk < count_of rows t) (sym (keeps.stream m)) k)) marks h.known);
     }
 
-moved_marked : (test : Row → Bool) (place : Place) (rows : List Row) (marks : List Mark)
+pub moved_marked : (test : Row → Bool) (place : Place) (rows : List Row) (marks : List Mark)
     → IsMarked (record { rows = rows; marks = marks }) → IsMarked (record { rows = moved test place rows; marks = marks })
 moved_marked test place rows marks h =
     rows_marked rows (moved test place rows) marks

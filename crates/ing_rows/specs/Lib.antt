@@ -3,6 +3,7 @@ pub mod Defaults
 pub mod Events
 pub mod Facts
 pub mod Faults
+pub mod Flushes
 pub mod Gauges
 pub mod Kept
 pub mod Placement

@@ -7,6 +7,7 @@ ghost use Rattle.ing_rows.specs.Rows.{StreamKey, Row, Mark, State, IsSame, empty
 ghost use Rattle.ing_rows.specs.Sound.{IsSound};
 ghost use Rattle.ing_rows.specs.Facts.{facts_of};
 ghost use Rattle.ing_rows.specs.Steps.{Pushes, accepted, accepted_in_turn, is_growing, is_mark_of, seal_of, chunk_at, verdicts_of, after_push, due_of, due_by, sealed_by, swept};
+ghost use Rattle.ing_rows.specs.Flushes.{FlushesAreApart, FlushesHaveNoOrder, FlushesKeepFacts};
 ghost use Rattle.ing_rows.specs.Kept.{numbered};
 ghost use Rattle.ing_rows.specs.Turns.{facts_with, facts_with_all, verdicts_by, accepted_among, beside, IsOlder, NoneMarked, OneMarkEach, IsMarked, BeginsWithMarks};
 ghost use Rattle.ing_rows.specs.Events.{accepted_entries, is_full, due_count, sealed_count};
@@ -200,4 +201,20 @@ pub fn chunks_begin_with_marks()
     ensures { (rules : rules.Rules) (s : StreamKey) (now : ℕ) (es : List Entry) (old : State) →
         IsMarked old → BeginsWithMarks s old →
         BeginsWithMarks s (accepted_in_turn (count_of old.rows s) rules s now es old) }
+{}
+
+/// A flush goes chunk by chunk: a claim, a finish and a give back in one part of a state are those of the whole.
+pub fn flushes_are_apart()
+    ensures { FlushesAreApart }
+{}
+
+/// States that are the same but for the order of their rows and marks are flushed alike.
+pub fn flushes_have_no_order()
+    ensures { FlushesHaveNoOrder }
+{}
+
+/// A claim and a give back keep a state sound, its marks one a chunk, and the facts of each stream; so does a finish, but for
+/// which streams are live.
+pub fn flushes_keep_facts()
+    ensures { FlushesKeepFacts }
 {}

@@ -18,8 +18,9 @@ pub use fault::RowFault;
 pub use gauges::{Gauge, Gauges};
 pub use laws::{
     a_push_adds_what_it_accepts, acceptances_in_turn, chunks_are_apart, chunks_begin_with_marks,
-    chunks_have_one_mark, each_push_is_a_run_of_entries, facts_suffice, order_does_not_count,
-    parts_are_apart, pushes_keep_states_sound, seals_are_apart, seals_have_no_order, worked_rows,
+    chunks_have_one_mark, each_push_is_a_run_of_entries, facts_suffice, flushes_are_apart,
+    flushes_have_no_order, flushes_keep_facts, order_does_not_count, parts_are_apart,
+    pushes_keep_states_sound, seals_are_apart, seals_have_no_order, worked_rows,
 };
 pub use line::Line;
 pub use place::{Place, SealReason};
