@@ -1,17 +1,23 @@
 -- Entries that are put into a copy beside the chunks that wait.
 use Rattle.std.proofs.Common.{◌≡◌, ℕ, ◌+◌, ◌≤◌, ◌^◌, Bool, true, false, List, [], ◌∷◌, ◌++◌, length, refl, sym, ap, subst, ◌∙◌, arith, append_assoc, append-nil}
-use Rattle.std.specs.Prelude.{sum_by}
+use Rattle.std.specs.Prelude.{All, sum_by}
+use Rattle.std.proofs.lemmas.List.Elements.{All-nil, All-head, All-tail}
 use Rattle.std.proofs.lemmas.List.Sums.{sum_by_push}
 use Rattle.ing_rows.specs.declared.entry.Entry.{Entry}
 use Rattle.ing_rows.specs.declared.rules.Rules.{Rules}
 use Rattle.ing_chunk.specs.declared.numbered.Numbered.{Numbered}
-use Rattle.ing_chunk.specs.Chunks.{ChunkContents, ChunksContents, count_in, with_entry, chunk_to_grow, settled, placed, is_full, is_to_cut, TakesOne, Takes, AreChunks}
+use Rattle.ing_chunk.specs.Parts.{IsShort}
+use Rattle.ing_chunk.specs.Chunks.{ChunkContents, ChunksContents, count_in, with_entry, chunk_to_grow, settled, placed, is_full, is_to_cut, TakesOne, Takes, AreChunks, IsWaiting}
 use Rattle.ing_chunk.proofs.Taken.{chunks_one, next_one}
 use Rattle.ing_chunk.proofs.Added.{count_done, first_done}
 
 -- with these chunks before those that wait
 abbrev pub framed : List ChunkContents → ChunksContents → ChunksContents
 framed before c = record c { waiting = before ++ c.waiting }
+
+-- without the chunks that wait
+pub alone : (c : ChunksContents) → AreChunks c → AreChunks (record c { waiting = [] })
+alone c good = record { growing = good.growing; waiting = All-nil (IsWaiting (chunk_to_grow c).first); in_turn = record { base = (chunk_to_grow c).first; follow = refl }; few = good.few }
 
 placed_framed : (full cuts : Bool) (block : List Numbered) (g : ChunkContents) (before : List ChunkContents) (c : ChunksContents) → framed before (placed full cuts block g c) ≡ placed full cuts block g (framed before c)
 placed_framed true cuts block g before c = ap (λ (l : List ChunkContents). record { next = c.next + 1; waiting = l; growing = (placed true cuts block g c).growing }) (sym (append_assoc before c.waiting (settled true cuts block g ∷ [])))
@@ -39,11 +45,11 @@ count_one rules now e c d good one = ap (λ (x : ChunksContents). sum_by count_i
       let done = settled false (is_to_cut rules g) one.block g in
       ap (λ n. sum_by count_in c.waiting + n) (sym (first_done rules now e c g done refl (one.block, one.reorders, ap (λ t. settled t (is_to_cut rules g) one.block g) (sym is_so))))
 
-pub count_all : (rules : Rules) (now : ℕ) (es : List Entry) (c d : ChunksContents) → AreChunks c → c.next + length es ≤ 2 ^ 62 → Takes rules now es c d → sum_by count_in d.waiting + (chunk_to_grow c).first ≡ sum_by count_in c.waiting + (chunk_to_grow d).first
-count_all rules now [] c d good room takes = ap (λ (x : ChunksContents). sum_by count_in x.waiting + (chunk_to_grow c).first) takes ∙ ap (λ (x : ChunksContents). sum_by count_in c.waiting + (chunk_to_grow x).first) (sym takes)
-count_all rules now (e ∷ es) c d good room (mid, one, rest) =
+pub count_all : (rules : Rules) (now : ℕ) (es : List Entry) (c d : ChunksContents) → AreChunks c → c.next + length es ≤ 2 ^ 62 → rules.chunk_target_size ≤ 2 ^ 30 → All IsShort es → Takes rules now es c d → sum_by count_in d.waiting + (chunk_to_grow c).first ≡ sum_by count_in c.waiting + (chunk_to_grow d).first
+count_all rules now [] c d good room target short takes = ap (λ (x : ChunksContents). sum_by count_in x.waiting + (chunk_to_grow c).first) takes ∙ ap (λ (x : ChunksContents). sum_by count_in c.waiting + (chunk_to_grow x).first) (sym takes)
+count_all rules now (e ∷ es) c d good room target short (mid, one, rest) =
     let next = next_one rules now e c mid one in
-    omega (arith, count_one rules now e c mid good one, count_all rules now es mid d (chunks_one rules now e c mid good (omega arith) one) (omega arith) rest)
+    omega (arith, count_one rules now e c mid good one, count_all rules now es mid d (chunks_one rules now e c mid good (omega arith) target (All-head IsShort e es short) one) (omega arith) target (All-tail IsShort e es short) rest)
 
 pub takes_aside : (rules : Rules) (now : ℕ) (es : List Entry) (c start aside new : ChunksContents) → start ≡ record c { waiting = [] } → Takes rules now es start aside → new ≡ framed c.waiting aside → Takes rules now es c new
 takes_aside rules now es c start aside new begun takes is =

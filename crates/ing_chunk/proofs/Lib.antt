@@ -2,6 +2,8 @@ mod Added
 mod Aside
 mod Begun
 mod Claimed
+mod Covered
+mod Drained
 mod Due
 mod Followed
 mod Gauged

@@ -1,5 +1,5 @@
 -- Sealing the growing chunk of a stream, in its chunks and in the model's state alike.
-use Rattle.std.proofs.Common.{◌≡◌, ℕ, ◌+◌, Bool, true, false, cond, ◌&&◌, List, [], ◌∷◌, ◌++◌, length, map, filter, is_some, is_none, refl, sym, ap, subst, ◌∙◌, arith, Some, None}
+use Rattle.std.proofs.Common.{◌≡◌, ◌≢◌, ℕ, ◌+◌, ◌<◌, Bool, true, false, cond, ◌&&◌, List, [], ◌∷◌, ◌++◌, length, map, filter, is_some, is_none, refl, sym, ap, subst, ◌∙◌, arith, Some, None}
 use Rattle.std.specs.Prelude.{Option, All, IsPermutation}
 use Rattle.std.specs.Option.{unwrap_or}
 use Rattle.std.proofs.lemmas.List.Elements.{All-nil, All-cons, All-head, All-tail, All-append, All-weaker, All-push}
@@ -10,7 +10,9 @@ use Rattle.ing_rows.specs.Rows.{StreamKey, Row, Mark, State, is_head, is_of_chun
 use Rattle.ing_rows.specs.Events.{sealed_count}
 use Rattle.ing_rows.specs.Steps.{moved, seal_of, is_sealed_now, seal_mark, Seals}
 use Rattle.ing_chunk.specs.declared.numbered.Numbered.{Numbered}
-use Rattle.ing_chunk.specs.Chunks.{ChunkContents, ChunksContents, count_in, row_in, block_rows, head_rows, mark_of, chunk_state, chunks_state, growing_state, stream_state, chunk_to_grow, empty_chunk, closes, Closes, SealsGrowing, AreChunks, IsWaiting, Waits, Grows, GrowsIfAny, starts_in}
+use Rattle.ing_chunk.specs.Chunks.{ChunkContents, ChunksContents, count_in, row_in, block_rows, head_rows, mark_of, chunk_state, chunks_state, growing_state, stream_state, chunk_to_grow, empty_chunk, closes, Closes, SealsGrowing, AreChunks, IsWaiting, Waits, Grows, GrowsIfAny, starts_in, in_blocks, Covers, IsWhole, Follow}
+use Rattle.ing_chunk.specs.Parts.{AreParts}
+use Rattle.ing_chunk.proofs.Covered.{covers_closed, some_blocks, count_small, follow_push}
 use Rattle.ing_chunk.proofs.Sums.{block_count-more, block_starts-more}
 use Rattle.ing_chunk.proofs.Turned.{IsInHead, IsInBlock, to_block, all_head, all_block, other_rows, filter-none, map-all, map-none, map-append}
 use Rattle.ing_chunk.proofs.Followed.{head_mapped, block_rows-more, waiting-more}
@@ -53,6 +55,20 @@ closes_is g mid h = of_head g.head refl h where
         (IsPermutation-sym (map (row_in s g.first (length g.blocks) Block) block) (map to_block (head_rows s g)) (head_mapped s g.first (length g.blocks) block g.head (head_rows s g) moves (IsPermutation-refl (head_rows s g)))))));
   }
 
+-- a chunk with an entry has a block then, and its blocks are parts
+no_entries : (g : ChunkContents) → g.head ≡ [] → g.blocks ≡ [] → count_in g ≡ 0
+no_entries g head blocks = omega (arith, ap length head, ap (λ bs. length (in_blocks bs)) blocks)
+
+pub closed_whole : (g mid : ChunkContents) → Closes g mid → Covers g → 0 < count_in g → (mid.blocks ≢ []) × AreParts mid.first mid.blocks
+closed_whole g mid h covers some = of_head g.head refl h where
+  of_head : (es : List Numbered) → g.head ≡ es → closes es g mid → (mid.blocks ≢ []) × AreParts mid.first mid.blocks
+  of_head [] none same =
+      subst (λ (x : ChunkContents). (x.blocks ≢ []) × AreParts x.first x.blocks) (sym same)
+      (λ empty. absurd (omega (arith, some, no_entries g none empty)), covers.parts)
+  of_head (e ∷ es) head (block, moved, is) =
+      subst (λ (x : ChunkContents). (x.blocks ≢ []) × AreParts x.first x.blocks) (sym is)
+      (some_blocks g.blocks block, (covers_closed block g covers (omega (arith, ap length head)) moved).parts)
+
 -- ---- what holds of chunks is kept
 
 module _ (why : SealReason) (c d : ChunksContents) (good : AreChunks c) (seals : SealsGrowing why c d) where
@@ -71,6 +87,24 @@ module _ (why : SealReason) (c d : ChunksContents) (good : AreChunks c) (seals :
   first_sealed : seals.done.first ≡ seals.chunk.first
   first_sealed = ap (λ (x : ChunkContents). x.first) seals.sealed.2 ∙ closed.first
 
+  whole_sealed : IsWhole seals.done
+  whole_sealed =
+      let is = closed_whole seals.chunk seals.sealed.0 seals.sealed.1 grown.covers grown.some in
+      subst IsWhole (sym seals.sealed.2) (record {
+        sealed = refl;
+        closed = closed.head;
+        some = is.0;
+        parts = is.1;
+        few = omega (arith, closed.count, count_small seals.chunk, grown.small);
+        last = omega (arith, closed.count, closed.first, grown.up_to, good.few);
+      })
+
+  follow_sealed : Follow good.in_turn.base c.next (c.waiting ++ seals.done ∷ [])
+  follow_sealed =
+      let first : (chunk_to_grow c).first ≡ seals.chunk.first = ap (λ (x : ChunkContents). x.first) to_grow in
+      let to : (chunk_to_grow c).first + count_in seals.done ≡ c.next = omega (arith, first, count_sealed) in
+      subst (λ n. Follow good.in_turn.base n (c.waiting ++ seals.done ∷ [])) to (follow_push good.in_turn.base (chunk_to_grow c).first c.waiting seals.done good.in_turn.follow (first_sealed ∙ sym first))
+
   pub chunks_sealed : AreChunks d
   chunks_sealed = subst AreChunks (sym seals.is) (record {
     growing = tt;
@@ -79,10 +113,10 @@ module _ (why : SealReason) (c d : ChunksContents) (good : AreChunks c) (seals :
         (waits_longer (chunk_to_grow c).first c.next c.waiting (omega (arith, ap (λ (x : ChunkContents). x.first) to_grow, grown.up_to)) good.waiting)
         (record {
           older = omega (arith, first_sealed, grown.up_to, grown.some);
-          sealed = ap (λ (x : ChunkContents). is_none x.reason) seals.sealed.2;
-          closed = ap (λ (x : ChunkContents). x.head) seals.sealed.2 ∙ closed.head;
+          whole = whole_sealed;
           begins = ap starts_in seals.sealed.2 ∙ closed.begins ∙ grown.begins;
         });
+    in_turn = record { base = good.in_turn.base; follow = follow_sealed };
     few = good.few;
   })
 
@@ -131,7 +165,7 @@ module _ (f : Mark → Option SealReason) where
   waiting_quiet s k [] h = All-nil (λ (m : Mark). seal_of f m ≡ None)
   waiting_quiet s k (c ∷ cs) h =
       All-cons (λ (m : Mark). seal_of f m ≡ None) (mark_of s c) (chunks_state s cs).marks
-      (ap (λ b. cond b (f (mark_of s c)) None) (All-head (IsWaiting k) c cs h).sealed)
+      (ap (λ b. cond b (f (mark_of s c)) None) (All-head (IsWaiting k) c cs h).whole.sealed)
       (waiting_quiet s k cs (All-tail (IsWaiting k) c cs h))
 
 -- ---- the growing chunk's mark has a reason

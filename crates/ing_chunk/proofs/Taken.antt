@@ -2,9 +2,9 @@
 use Rattle.std.proofs.Common.{◌≡◌, ◌≢◌, ℕ, ◌+◌, ◌<◌, ◌≤◌, ◌^◌, Bool, true, false, List, [], ◌∷◌, ◌++◌, length, refl, sym, ap, subst, ◌∙◌, arith, nat_le, append_assoc, Some, None, length-append, cond, min, nat_eq}
 use Rattle.std.proofs.lemmas.Bool.Decides.{nat_tests}
 use Rattle.std.proofs.lemmas.List.Sums.{sum_by_push}
-use Rattle.std.specs.Prelude.{Option, IsPermutation}
+use Rattle.std.specs.Prelude.{Option, All, IsPermutation}
 use Rattle.std.specs.Option.{unwrap_or}
-use Rattle.std.proofs.lemmas.List.Elements.{All-nil, All-weaker, All-push}
+use Rattle.std.proofs.lemmas.List.Elements.{All-nil, All-head, All-tail, All-weaker, All-push}
 use Rattle.std.proofs.lemmas.List.Sorted.{IsPermutation-refl, IsPermutation-append}
 use Rattle.ing_rows.specs.declared.entry.Entry.{Entry}
 use Rattle.ing_rows.specs.declared.place.SealReason.TheVariants.{Full}
@@ -12,8 +12,10 @@ use Rattle.ing_rows.specs.declared.rules.Rules.{Rules}
 use Rattle.ing_rows.specs.Rows.{StreamKey, State, IsSame}
 use Rattle.ing_rows.specs.Steps.{accepted_as, accepted_in_turn}
 use Rattle.ing_chunk.specs.declared.numbered.Numbered.{Numbered}
-use Rattle.ing_chunk.specs.Chunks.{ChunkContents, ChunksContents, size_of_entries, size_of_chunk, count_in, block_rows, head_rows, chunks_state, growing_state, stream_state, with_entry, with_block, chunk_to_grow, empty_chunk, placed, TakesOne, Takes, AreBlocks, AreChunks, IsWaiting, Waits, GrowsIfAny, starts_in}
-use Rattle.ing_chunk.proofs.Sums.{block_count-more, block_starts-more, blocks-more}
+use Rattle.ing_chunk.specs.Chunks.{ChunkContents, ChunksContents, size_of_entries, size_of_chunk, count_in, block_rows, head_rows, chunks_state, growing_state, stream_state, with_entry, with_block, chunk_to_grow, empty_chunk, placed, TakesOne, Takes, AreBlocks, AreChunks, IsWaiting, Waits, GrowsIfAny, starts_in, Covers, Follow}
+use Rattle.ing_chunk.specs.Parts.{IsShort}
+use Rattle.ing_chunk.proofs.Covered.{covers_more, covers_closed, some_blocks, count_small, follow_push}
+use Rattle.ing_chunk.proofs.Sums.{block_size-more, block_count-more, block_starts-more, blocks-more}
 use Rattle.ing_chunk.proofs.Followed.{Reads, all_blocks, reads_one}
 
 -- ---- what holds of chunks is kept
@@ -24,15 +26,17 @@ pub record Next (c : ChunksContents) (g : ChunkContents) : Type 0 where
   pub up_to : g.first + count_in g ≡ c.next
   pub blocks : AreBlocks g.blocks
   pub begins : starts_in g ≡ min 1 (count_in g)
+  pub covers : Covers g
+  pub small : size_of_chunk g < 2 ^ 30
 
 pub next_of : (c : ChunksContents) → AreChunks c → Next c (chunk_to_grow c)
 next_of c good = of_growing c.growing good.growing where
   of_growing : (o : Option ChunkContents) → GrowsIfAny c.next o → Next c (unwrap_or o (empty_chunk c.next))
-  of_growing None h = record { open_yet = refl; up_to = omega arith; blocks = All-nil (λ (b : List Numbered). b ≢ []); begins = omega arith }
-  of_growing (Some g) h = record { open_yet = h.open_yet; up_to = h.up_to; blocks = h.blocks; begins = omega (arith, h.begins, h.some) }
+  of_growing None h = record { open_yet = refl; up_to = omega arith; blocks = All-nil (λ (b : List Numbered). b ≢ []); begins = omega arith; covers = record { parts = tt; head = tt }; small = omega arith }
+  of_growing (Some g) h = record { open_yet = h.open_yet; up_to = h.up_to; blocks = h.blocks; begins = omega (arith, h.begins, h.some); covers = h.covers; small = h.small }
 
 pub waits_longer : (first later : ℕ) (cs : List ChunkContents) → first ≤ later → Waits first cs → Waits later cs
-waits_longer first later cs h all = All-weaker (IsWaiting first) (IsWaiting later) (λ w x. record { older = omega (arith, x.older); sealed = x.sealed; closed = x.closed; begins = x.begins }) cs all
+waits_longer first later cs h all = All-weaker (IsWaiting first) (IsWaiting later) (λ w x. record { older = omega (arith, x.older); whole = x.whole; begins = x.begins }) cs all
 
 placed_next : (full cuts : Bool) (block : List Numbered) (g : ChunkContents) (c : ChunksContents) → (placed full cuts block g c).next ≡ c.next + 1
 placed_next true cuts block g c = refl
@@ -50,7 +54,7 @@ first_is : (n first count begun : ℕ) (b : Bool) → nat_eq n first ≡ b → f
 first_is n first count begun true same up_to h = let eq : n ≡ first = grind (arith, nat_tests) in omega arith
 first_is n first count begun false other up_to h = let ne : n ≢ first = grind (arith, nat_tests) in omega arith
 
-module _ (e : Entry) (now : ℕ) (c : ChunksContents) (good : AreChunks c) (room : c.next < 2 ^ 62) (block : List Numbered)
+module _ (e : Entry) (now : ℕ) (c : ChunksContents) (good : AreChunks c) (room : c.next < 2 ^ 62) (short : IsShort e) (block : List Numbered)
     (moved : IsPermutation (with_entry e c.next now (chunk_to_grow c)).head block) where
   abbrev g : ChunkContents
   g = with_entry e c.next now (chunk_to_grow c)
@@ -68,17 +72,45 @@ module _ (e : Entry) (now : ℕ) (c : ChunksContents) (good : AreChunks c) (room
   begins_closed : starts_in (with_block block g) ≡ 1
   begins_closed = omega (arith, begins, block_starts-more g.blocks g.head block moved g.first)
 
-  placed_chunks : (full cuts : Bool) → AreChunks (placed full cuts block g c)
-  placed_chunks true cuts = record {
-    growing = tt;
-    waiting =
-        let known = next_of c good in
-        All-push (IsWaiting (c.next + 1)) c.waiting (record (with_block block g) { reason = Some Full })
-        (waits_longer g.first (c.next + 1) c.waiting (omega (arith, known.up_to)) good.waiting)
-        (record { older = omega (arith, known.up_to); sealed = refl; closed = refl; begins = begins_closed });
-    few = omega arith;
-  }
-  placed_chunks false true =
+  covers : Covers g
+  covers = let known = next_of c good in covers_more e c.next now (chunk_to_grow c) known.covers known.up_to short
+
+  covers_with : Covers (with_block block g)
+  covers_with = covers_closed block g covers (omega (arith, more)) moved
+
+  same_size : size_of_chunk (with_block block g) ≡ size_of_chunk g
+  same_size = omega (arith, block_size-more g.blocks g.head block moved)
+
+  placed_chunks : (full cuts : Bool) → (full ≡ false → size_of_chunk g < 2 ^ 30) → AreChunks (placed full cuts block g c)
+  placed_chunks true cuts small =
+      let known = next_of c good in
+      let many = block_count-more g.blocks g.head block moved in
+      let done : ChunkContents = record (with_block block g) { reason = Some Full } in
+      let to : (chunk_to_grow c).first + count_in done ≡ c.next + 1 = omega (arith, many, more, known.up_to) in
+      record {
+        growing = tt;
+        waiting =
+            All-push (IsWaiting (c.next + 1)) c.waiting done
+            (waits_longer g.first (c.next + 1) c.waiting (omega (arith, known.up_to)) good.waiting)
+            (record {
+              older = omega (arith, known.up_to);
+              whole = record {
+                sealed = refl;
+                closed = refl;
+                some = some_blocks g.blocks block;
+                parts = covers_with.parts;
+                few = omega (arith, to, known.up_to, known.small, count_small (chunk_to_grow c));
+                last = omega (arith, to);
+              };
+              begins = begins_closed;
+            });
+        in_turn = record {
+          base = good.in_turn.base;
+          follow = subst (λ n. Follow good.in_turn.base n (c.waiting ++ done ∷ [])) to (follow_push good.in_turn.base (chunk_to_grow c).first c.waiting done good.in_turn.follow refl);
+        };
+        few = omega arith;
+      }
+  placed_chunks false true small =
       let known = next_of c good in
       let many = block_count-more g.blocks g.head block moved in
       record {
@@ -88,24 +120,40 @@ module _ (e : Entry) (now : ℕ) (c : ChunksContents) (good : AreChunks c) (room
           up_to = omega (arith, many, more, known.up_to);
           blocks = blocks-more g.blocks g.head block moved (omega (arith, more)) known.blocks;
           begins = begins_closed;
+          covers = covers_with;
+          small = omega (arith, same_size, small refl);
         };
         waiting = good.waiting;
+        in_turn = good.in_turn;
         few = omega arith;
       }
-  placed_chunks false false =
+  placed_chunks false false small =
       let known = next_of c good in
       record {
-        growing = record { open_yet = known.open_yet; some = omega (arith, more); up_to = omega (arith, more, known.up_to); blocks = known.blocks; begins = begins };
+        growing = record {
+          open_yet = known.open_yet;
+          some = omega (arith, more);
+          up_to = omega (arith, more, known.up_to);
+          blocks = known.blocks;
+          begins = begins;
+          covers = covers;
+          small = small refl;
+        };
         waiting = good.waiting;
+        in_turn = good.in_turn;
         few = omega arith;
       }
 
-pub chunks_one : (rules : Rules) (now : ℕ) (e : Entry) (c d : ChunksContents) → AreChunks c → c.next < 2 ^ 62 → TakesOne rules now e c d → AreChunks d
-chunks_one rules now e c d good room takes =
+below_target : (target size : ℕ) → target ≤ 2 ^ 30 → nat_le target size ≡ false → size < 2 ^ 30
+below_target target size h below = let less : size < target = grind (arith, nat_tests) in omega (arith, h)
+
+pub chunks_one : (rules : Rules) (now : ℕ) (e : Entry) (c d : ChunksContents) → AreChunks c → c.next < 2 ^ 62 → rules.chunk_target_size ≤ 2 ^ 30 → IsShort e → TakesOne rules now e c d → AreChunks d
+chunks_one rules now e c d good room target short takes =
     subst AreChunks (sym takes.is)
-    (placed_chunks e now c good room takes.block takes.reorders
+    (placed_chunks e now c good room short takes.block takes.reorders
     (nat_le rules.chunk_target_size (size_of_chunk (with_entry e c.next now (chunk_to_grow c))))
-    (nat_le rules.chunk_block_size (size_of_entries (with_entry e c.next now (chunk_to_grow c)).head)))
+    (nat_le rules.chunk_block_size (size_of_entries (with_entry e c.next now (chunk_to_grow c)).head))
+    (below_target rules.chunk_target_size (size_of_chunk (with_entry e c.next now (chunk_to_grow c))) target))
 
 -- ---- the state follows
 
@@ -142,24 +190,24 @@ reads_same s c st reads = record {
   apart None = refl
   apart (Some g) = append_assoc (head_rows s g) (block_rows s g.first 0 g.blocks) (chunks_state s c.waiting).rows
 
-reads_all : (rules : Rules) (s : StreamKey) (now : ℕ) (es : List Entry) (c d : ChunksContents) (st : State) → AreChunks c → c.next + length es ≤ 2 ^ 62 → Takes rules now es c d → Reads s c st → Reads s d (accepted_in_turn c.next rules s now es st)
-reads_all rules s now [] c d st good room takes reads = subst (λ x. Reads s x st) (sym takes) reads
-reads_all rules s now (e ∷ es) c d st good room (mid, one, rest) reads =
+reads_all : (rules : Rules) (s : StreamKey) (now : ℕ) (es : List Entry) (c d : ChunksContents) (st : State) → AreChunks c → c.next + length es ≤ 2 ^ 62 → rules.chunk_target_size ≤ 2 ^ 30 → All IsShort es → Takes rules now es c d → Reads s c st → Reads s d (accepted_in_turn c.next rules s now es st)
+reads_all rules s now [] c d st good room target short takes reads = subst (λ x. Reads s x st) (sym takes) reads
+reads_all rules s now (e ∷ es) c d st good room target short (mid, one, rest) reads =
     let next = next_one rules now e c mid one in
     subst (λ n. Reads s d (accepted_in_turn n rules s now es (accepted_as c.next rules s e now st))) next
-    (reads_all rules s now es mid d (accepted_as c.next rules s e now st) (chunks_one rules now e c mid good (omega arith) one) (omega arith) rest
+    (reads_all rules s now es mid d (accepted_as c.next rules s e now st) (chunks_one rules now e c mid good (omega arith) target (All-head IsShort e es short) one) (omega arith) target (All-tail IsShort e es short) rest
     (reads_one rules s now e c mid st good one reads))
 
 -- what the chunks show after taking entries is what the model makes of what they showed before
-pub taken_is_accepted : (rules : Rules) (now : ℕ) (es : List Entry) (c d : ChunksContents) → AreChunks c → c.next + length es ≤ 2 ^ 62 → Takes rules now es c d → (s : StreamKey) → IsSame (stream_state s d) (accepted_in_turn c.next rules s now es (stream_state s c))
-taken_is_accepted rules now es c d good room takes s = reads_same s d _ (reads_all rules s now es c d (stream_state s c) good room takes (reads_start s c good))
+pub taken_is_accepted : (rules : Rules) (now : ℕ) (es : List Entry) (c d : ChunksContents) → AreChunks c → c.next + length es ≤ 2 ^ 62 → rules.chunk_target_size ≤ 2 ^ 30 → All IsShort es → Takes rules now es c d → (s : StreamKey) → IsSame (stream_state s d) (accepted_in_turn c.next rules s now es (stream_state s c))
+taken_is_accepted rules now es c d good room target short takes s = reads_same s d _ (reads_all rules s now es c d (stream_state s c) good room target short takes (reads_start s c good))
 
 pub next_all : (rules : Rules) (now : ℕ) (es : List Entry) (c d : ChunksContents) → Takes rules now es c d → d.next ≡ c.next + length es
 next_all rules now [] c d takes = ap (λ (x : ChunksContents). x.next) takes ∙ omega arith
 next_all rules now (e ∷ es) c d (mid, one, rest) = omega (arith, next_all rules now es mid d rest, next_one rules now e c mid one)
 
-pub chunks_all : (rules : Rules) (now : ℕ) (es : List Entry) (c d : ChunksContents) → AreChunks c → c.next + length es ≤ 2 ^ 62 → Takes rules now es c d → AreChunks d
-chunks_all rules now [] c d good room takes = subst AreChunks (sym takes) good
-chunks_all rules now (e ∷ es) c d good room (mid, one, rest) =
+pub chunks_all : (rules : Rules) (now : ℕ) (es : List Entry) (c d : ChunksContents) → AreChunks c → c.next + length es ≤ 2 ^ 62 → rules.chunk_target_size ≤ 2 ^ 30 → All IsShort es → Takes rules now es c d → AreChunks d
+chunks_all rules now [] c d good room target short takes = subst AreChunks (sym takes) good
+chunks_all rules now (e ∷ es) c d good room target short (mid, one, rest) =
     let next = next_one rules now e c mid one in
-    chunks_all rules now es mid d (chunks_one rules now e c mid good (omega arith) one) (omega arith) rest
+    chunks_all rules now es mid d (chunks_one rules now e c mid good (omega arith) target (All-head IsShort e es short) one) (omega arith) target (All-tail IsShort e es short) rest

@@ -140,7 +140,7 @@ module _ (s : StreamKey) (k : ℕ) where
   other_marks (c ∷ cs) h =
       let here = All-head (IsWaiting k) c cs h in
       All-cons IsOther (mark_of s c) (chunks_state s cs).marks
-      (record { growing = rw (stream_self s) here.sealed; chunk = rw (stream_self s) (lower_not c.first k here.older) })
+      (record { growing = rw (stream_self s) here.whole.sealed; chunk = rw (stream_self s) (lower_not c.first k here.older) })
       (other_marks cs (All-tail (IsWaiting k) c cs h))
 
 -- ---- cutting and filling, where the rows stand apart

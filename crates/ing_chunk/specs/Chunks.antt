@@ -13,6 +13,7 @@ use Rattle.ing_rows.specs.declared.rules.Rules.{Rules}
 use Rattle.ing_rows.specs.Rows.{StreamKey, Row, Mark, State, empty_state, size_of, is_stored}
 use Rattle.ing_rows.specs.Turns.{beside}
 use Rattle.ing_chunk.specs.declared.numbered.Numbered.{Numbered}
+use Rattle.ing_chunk.specs.Parts.{AreParts, AreNumbered}
 
 -- A chunk (Loki documentation: architecture, chunks): its first number, the entries of each closed block in order of stamp,
 -- then number, and those of the head in order of arrival; the time of the last push that put an entry into it, in
@@ -177,6 +178,22 @@ starts first es = sum_by (λ e. if e.number == first then 1 else 0) es
 abbrev pub starts_in : ChunkContents → ℕ
 starts_in c = starts c.first c.head + starts c.first (in_blocks c.blocks)
 
+-- a chunk covers the numbers from its first on: its blocks consecutive parts of them, and its head those after
+-- them, in order of arrival
+pub record Covers (c : ChunkContents) : Type 0 where
+  pub parts : AreParts c.first c.blocks
+  pub head : AreNumbered (c.first + length (in_blocks c.blocks)) c.head
+
+-- a sealed chunk that can be handed on whole: its head is closed, and its blocks cover consecutive numbers, one or
+-- more and fewer than 2^32, with lines that are not too long
+pub record IsWhole (c : ChunkContents) : Type 0 where
+  pub sealed : is_none c.reason ≡ false
+  pub closed : c.head ≡ []
+  pub some : c.blocks ≢ []
+  pub parts : AreParts c.first c.blocks
+  pub few : count_in c < 2 ^ 32
+  pub last : c.first + count_in c ≤ 2 ^ 62
+
 -- the growing chunk is unsealed, not empty, and covers the numbers up to the next
 pub record Grows (next : ℕ) (c : ChunkContents) : Type 0 where
   pub open_yet : c.reason ≡ None
@@ -184,26 +201,39 @@ pub record Grows (next : ℕ) (c : ChunkContents) : Type 0 where
   pub up_to : c.first + count_in c ≡ next
   pub blocks : AreBlocks c.blocks
   pub begins : starts_in c ≡ 1
+  pub covers : Covers c
+  pub small : size_of_chunk c < 2 ^ 30
 
 abbrev pub GrowsIfAny : ℕ → Option ChunkContents → Type 0
 GrowsIfAny next None = Unit {0}
 GrowsIfAny next (Some c) = Grows next c
 
--- a sealed chunk that begins before this number, with an empty head
+-- a whole chunk that begins before this number
 pub record IsWaiting (first : ℕ) (c : ChunkContents) : Type 0 where
   pub older : c.first < first
-  pub sealed : is_none c.reason ≡ false
-  pub closed : c.head ≡ []
+  pub whole : IsWhole c
   pub begins : starts_in c ≡ 1
 
 -- such chunks
 abbrev pub Waits : ℕ → List ChunkContents → Type 0
 Waits first cs = All (IsWaiting first) cs
 
--- the chunks of one stream in memory
+-- chunks of which the first begins at a number, each other one where the one before it ended, and of which the last
+-- ends at a number
+abbrev pub Follow : ℕ → ℕ → List ChunkContents → Type 0
+Follow from to [] = from ≡ to
+Follow from to (c ∷ cs) = (c.first ≡ from) × Follow (from + count_in c) to cs
+
+-- chunks that cover consecutive numbers, from a base up to this one
+pub record AreInTurn (to : ℕ) (cs : List ChunkContents) : Type 0 where
+  pub base : ℕ
+  pub follow : Follow base to cs
+
+-- the chunks of one stream in memory: those that wait and the growing one cover consecutive numbers
 pub record AreChunks (c : ChunksContents) : Type 0 where
   pub growing : GrowsIfAny c.next c.growing
   pub waiting : Waits (chunk_to_grow c).first c.waiting
+  pub in_turn : AreInTurn (chunk_to_grow c).first c.waiting
   pub few : c.next ≤ 2 ^ 62
 
 -- ---- stamps

@@ -1,3 +1,4 @@
+pub mod Parts
 pub mod Chunks
 pub mod Kept
 pub mod KeptChunks

@@ -1,4 +1,7 @@
 //! The public calls once each, on chunks small enough to work out by hand.
+ghost use Rattle.std.specs.Prelude.{◌≡◌, ◌+◌, All, IfOk, OnOk, vec_len};
+ghost use Rattle.ing_chunk.specs.Parts.{IsShort};
+
 use super::*;
 use ing_rows::{Entry, Line, Rules, SealReason, Stamp};
 use std::alloc::Global;
@@ -6,7 +9,9 @@ use std::process::Abort;
 use std::test::Fail;
 
 /// Blocks of 40 bytes and chunks of 80: two and four entries of four bytes.
-fn small() -> Rules {
+fn small() -> Rules
+    ensures { result.chunk_target_size ≡ 80 }
+{
     let mut rules = Rules::default();
     rules.chunk_block_size = 40;
     rules.chunk_target_size = 80;
@@ -15,11 +20,22 @@ fn small() -> Rules {
     rules
 }
 
-fn entry(alloc: Global, nanoseconds: u64) -> Result<Entry, Fail> {
+fn entry(alloc: Global, nanoseconds: u64) -> Result<Entry, Fail>
+    ensures { IfOk result (λ entry. IsShort entry) }
+{
     Ok(Entry {
         stamp: Stamp::of_nanoseconds(nanoseconds).ok_or("a stamp")?,
         line: Line::of_text(alloc, "abcd")?,
     })
+}
+
+fn push_entry(entries: &mut Vec<Entry>, alloc: Global, nanoseconds: u64) -> Result<(), Fail>
+    requires { All IsShort entries.old.items }
+    ensures lines { OnOk result (All IsShort entries.new.items) }
+    ensures len { OnOk result (vec_len entries.new ≡ vec_len entries.old + 1) }
+{
+    entries.push(entry(alloc, nanoseconds)?)?;
+    Ok(())
 }
 
 #[test]
@@ -44,9 +60,9 @@ fn entries_fill_blocks_and_chunks(rt: HostRuntime) -> Result<(), Fail> {
     let rules = small();
     let mut chunks = Chunks::new(alloc);
     let mut entries = Vec::new(alloc);
-    entries.push(entry(alloc, 3)?)?;
-    entries.push(entry(alloc, 2)?)?;
-    entries.push(entry(alloc, 1)?)?;
+    push_entry(&mut entries, alloc, 3)?;
+    push_entry(&mut entries, alloc, 2)?;
+    push_entry(&mut entries, alloc, 1)?;
     chunks.take(alloc, &rules, entries, 0)?;
     assert_eq!(rt; chunks.block_entries(), 2);
     assert_eq!(rt; chunks.block_bytes(), 40);

@@ -11,7 +11,8 @@ use Rattle.ing_chunk.specs.declared.numbered.Numbered.{Numbered}
 use Rattle.ing_chunk.specs.Chunks.{in_blocks}
 use Rattle.ing_codec.specs.declared.fault.CodecFault.TheVariants.{BadField, Trailing}
 use Rattle.ing_codec.specs.Fields.{Rest, whole, read_number, read_first, read_front, front_text}
-use Rattle.ing_codec.specs.ChunkObjects.{ChunkObject, IsWithin, IsPart, AreParts, IsBlock, IsObject, entry_text, block_text, head_text, chunk_text}
+use Rattle.ing_chunk.specs.Parts.{IsWithin, IsPart, AreParts}
+use Rattle.ing_codec.specs.ChunkObjects.{ChunkObject, IsBlock, IsObject, entry_text, block_text, head_text, chunk_text}
 use Rattle.ing_codec.specs.ChunkReading.{read_block, read_blocks, read_block_count, read_chunk, part, is_count, ended, chunk_object}
 use Rattle.ing_codec.proofs.Binds.{bind_ok, passed, not_stopped, ok_is, done}
 use Rattle.ing_codec.proofs.Built.{block_read, few_from_count}

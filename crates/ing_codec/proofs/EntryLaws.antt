@@ -12,8 +12,9 @@ use Rattle.std.proofs.lemmas.List.Concat.{flat_map-cons}
 use Rattle.ing_chunk.specs.declared.numbered.Numbered.{Numbered}
 use Rattle.ing_chunk.specs.Chunks.{AreInOrder, comes_before}
 use Rattle.ing_codec.specs.declared.part.Part.{Part}
-use Rattle.ing_codec.specs.Fields.{Rest, long_text, max_line}
-use Rattle.ing_codec.specs.ChunkObjects.{IsEntry, IsWithin, AreApart, is_taken, entry_text}
+use Rattle.ing_codec.specs.Fields.{Rest, long_text}
+use Rattle.ing_chunk.specs.Parts.{max_line, IsWithin, AreApart, is_taken}
+use Rattle.ing_codec.specs.ChunkObjects.{IsEntry, entry_text}
 use Rattle.ing_codec.specs.ChunkReading.{read_entry, read_entries, is_free, goes_on, is_above, numbered}
 use Rattle.ing_codec.proofs.Binds.{bind_ok, ok_is, done}
 use Rattle.ing_codec.proofs.Built.{entry_read}

@@ -3,6 +3,7 @@ pub mod Loops
 pub mod Order
 pub mod Binds
 pub mod Built
+mod Wholes
 pub mod Writes
 pub mod FieldLaws
 pub mod TextLaws

@@ -9,7 +9,8 @@ use Rattle.std.proofs.lemmas.Slice.Eq.{bytes_eq-Decides}
 use Rattle.ing_refusals.specs.Results.{◌>>=◌}
 use Rattle.ing_rows.specs.Texts.{is_tenant, is_tenant_byte}
 use Rattle.ing_codec.specs.declared.fault.CodecFault.TheVariants.{BadMagic, BadVersion, BadField}
-use Rattle.ing_codec.specs.Fields.{Rest, read_bytes, read_number, read_byte, read_magic, read_version, read_tenant, read_name, read_line, read_stamp, read_first, read_front, short_text, long_text, front_text, is_name, max_line}
+use Rattle.ing_chunk.specs.Parts.{max_line}
+use Rattle.ing_codec.specs.Fields.{Rest, read_bytes, read_number, read_byte, read_magic, read_version, read_tenant, read_name, read_line, read_stamp, read_first, read_front, short_text, long_text, front_text, is_name}
 use Rattle.ing_codec.proofs.Binds.{bind_ok, passed, not_stopped, ok_is}
 use Rattle.ing_codec.proofs.FieldLaws.{IsBytes, Takes, then_takes, rest, Again, bytes_take, bytes_again, wide32, wide64, number_takes, number_again, byte_takes}
 

@@ -6,7 +6,8 @@ use Rattle.std.proofs.lemmas.List.{append-nil}
 use Rattle.std.proofs.lemmas.List.Concat.{flat_map-cons}
 use Rattle.ing_chunk.specs.declared.numbered.Numbered.{Numbered}
 use Rattle.ing_chunk.specs.Chunks.{in_blocks}
-use Rattle.ing_codec.specs.ChunkObjects.{ChunkObject, head_text, block_text, IsWithin, AreParts, IsNumbered, IsBlock, IsObject}
+use Rattle.ing_chunk.specs.Parts.{IsWithin, AreParts}
+use Rattle.ing_codec.specs.ChunkObjects.{ChunkObject, head_text, block_text, IsNumbered, IsBlock, IsObject}
 use Rattle.ing_codec.specs.Writable.{IsWritable, IsBlockWritable, IsLent}
 
 flat_map_suc : {X : Type 0} (f : X → List ℕ) (xs : List X) (i : ℕ) (d : X) → i < length xs → flat_map f (take (suc i) xs) ≡ flat_map f (take i xs) ++ f (get_or xs i d)

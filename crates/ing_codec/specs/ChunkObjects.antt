@@ -1,12 +1,13 @@
 -- A chunk as one object: what it has, which chunks there are, and the bytes of each (own).
-use Rattle.std.specs.Prelude.{◌≡◌, ◌≢◌, ℕ, ◌+◌, ◌-◌, ◌<◌, ◌≤◌, ◌^◌, Bool, true, false, ◌==◌, List, [], ◌∷◌, ◌++◌, length, codes}
-use Rattle.std.specs.List.{flat_map, list_any, AllByRecursion}
+use Rattle.std.specs.Prelude.{◌≡◌, ◌≢◌, ℕ, ◌+◌, ◌-◌, ◌<◌, ◌≤◌, ◌^◌, true, List, [], ◌++◌, length, codes}
+use Rattle.std.specs.List.{flat_map, AllByRecursion}
 use Rattle.std.specs.Int.{w32, w64, to_be_bytes}
 use Rattle.std.specs.Str.{is_utf8}
 use Rattle.ing_rows.specs.Texts.{is_tenant}
 use Rattle.ing_chunk.specs.declared.numbered.Numbered.{Numbered}
 use Rattle.ing_chunk.specs.Chunks.{AreInOrder, in_blocks}
-use Rattle.ing_codec.specs.Fields.{front_text, long_text, is_name, max_line}
+use Rattle.ing_chunk.specs.Parts.{AreParts}
+use Rattle.ing_codec.specs.Fields.{front_text, long_text, is_name}
 
 -- whose it is, the number of its first entry, and the entries of each block
 pub record ChunkObject : Type 0 where
@@ -33,33 +34,6 @@ unfoldable pub chunk_text : ChunkObject → List ℕ
 chunk_text o = head_text o ++ flat_map (block_text o.first) o.blocks
 
 -- ---- which chunks there are
-
--- some entry has this number
-abbrev pub is_taken : ℕ → List Numbered → Bool
-is_taken n es = list_any (λ e. e.number == n) es
-
--- no number is there twice
-abbrev pub AreApart : List Numbered → Type 0
-AreApart [] = Unit {0}
-AreApart (e ∷ es) = (is_taken e.number es ≡ false) × AreApart es
-
--- an entry of the part of the numbers that begins here, with a line that is not too long
-pub record IsWithin (from count : ℕ) (e : Numbered) : Type 0 where
-  pub low : from ≤ e.number
-  pub high : e.number < from + count
-  pub line : length e.entry.line ≤ max_line
-
--- a block whose entries have exactly the numbers from one on, as many as they are: each is one of these,
--- and none twice
-pub record IsPart (from : ℕ) (b : List Numbered) : Type 0 where
-  pub some : b ≢ []
-  pub within : AllByRecursion (IsWithin from (length b)) b
-  pub apart : AreApart b
-
--- blocks of which each goes on where the one before it ended
-abbrev pub AreParts : ℕ → List (List Numbered) → Type 0
-AreParts from [] = Unit {0}
-AreParts from (b ∷ bs) = IsPart from b × AreParts (from + length b) bs
 
 -- what has to hold of the numbers and lengths of a chunk for it to have a spelling
 pub record IsNumbered (o : ChunkObject) : Type 0 where

@@ -8,7 +8,8 @@ use Rattle.ing_codec.specs.declared.part.Part.{Part}
 use Rattle.ing_codec.specs.declared.fault.CodecFault.{CodecFault}
 use Rattle.ing_codec.specs.declared.fault.CodecFault.TheVariants.{BadField, OutOfOrder, Trailing}
 use Rattle.ing_codec.specs.Fields.{Rest, whole, read_number, read_line, read_stamp, read_first, read_front}
-use Rattle.ing_codec.specs.ChunkObjects.{ChunkObject, is_taken}
+use Rattle.ing_chunk.specs.Parts.{is_taken}
+use Rattle.ing_codec.specs.ChunkObjects.{ChunkObject}
 
 -- the number lies in the part
 abbrev pub is_in_part : Part → ℕ → Bool

@@ -5,6 +5,7 @@ use Rattle.std.specs.Int.{Width, w32, w64, byte_len, from_be_bytes, to_be_bytes}
 use Rattle.std.specs.Str.{is_utf8}
 use Rattle.ing_refusals.specs.Results.{◌>>=◌}
 use Rattle.ing_rows.specs.Texts.{is_tenant}
+use Rattle.ing_chunk.specs.Parts.{max_line}
 use Rattle.ing_labels.specs.CanonicalTests.{is_canonical}
 use Rattle.ing_codec.specs.declared.fault.CodecFault.{CodecFault}
 use Rattle.ing_codec.specs.declared.fault.CodecFault.TheVariants.{Truncated, BadMagic, BadVersion, BadField}
@@ -88,10 +89,6 @@ read_name r = do
   n ← read_number w32 r
   t ← read_bytes n.0 n.1
   if is_name t.0 then Ok t else Err (BadField n.1.at)
-
--- the most bytes of a line
-abbrev pub max_line : ℕ
-max_line = 262144
 
 -- a line, UTF-8 (RFC 3629)
 unfoldable pub read_line : Rest → Result (List ℕ × Rest) CodecFault

@@ -1,9 +1,10 @@
 -- A row of an index as one object: what is told of a stored chunk, which rows there are, the bytes of each,
 -- and how they are read (own).
-use Rattle.std.specs.Prelude.{◌≡◌, ℕ, ◌+◌, ◌*◌, ◌<◌, ◌≤◌, ◌^◌, true, not, ◌&&◌, ◌==◌, nat_le, List, ◌++◌, length, codes, Result, Ok, Err, if◌then◌else◌}
+use Rattle.std.specs.Prelude.{◌≡◌, ℕ, ◌+◌, ◌*◌, ◌<◌, ◌≤◌, ◌^◌, true, not, ◌&&◌, ◌==◌, nat_le, List, ◌++◌, length, codes, Some, Result, Ok, Err, if◌then◌else◌}
 use Rattle.std.specs.Int.{w32, w64, to_be_bytes}
 use Rattle.ing_refusals.specs.Results.{◌>>=◌}
 use Rattle.ing_rows.specs.Texts.{is_tenant}
+use Rattle.ing_chunk.specs.Chunks.{ChunkContents, count_in, size_of_chunk, span_of}
 use Rattle.ing_codec.specs.declared.extent.Extent.{Extent}
 use Rattle.ing_codec.specs.declared.fault.CodecFault.{CodecFault}
 use Rattle.ing_codec.specs.declared.fault.CodecFault.TheVariants.{BadField}
@@ -37,6 +38,13 @@ pub record IsExtent (x : Extent) : Type 0 where
   pub small : x.size < 2 ^ 64
   pub span : x.least ≤ x.greatest
   pub stamps : x.greatest < 2 ^ 63
+
+-- the numbers, the size and the stamps are those of the entries of this chunk
+pub record IsExtentOf (c : ChunkContents) (x : Extent) : Type 0 where
+  pub first : x.first ≡ c.first
+  pub count : x.count ≡ count_in c
+  pub size : x.size ≡ size_of_chunk c
+  pub span : span_of c ≡ Some (x.least, x.greatest)
 
 -- and of the lengths of a row, for it to have a spelling
 pub record IsListed (o : RowObject) : Type 0 where

@@ -1,12 +1,15 @@
 //! The numbers, the size and the stamps of the entries of a chunk.
 ghost use Rattle.std.specs.Prelude.{◌≡◌, ◌+◌, ◌*◌, ◌<◌, ◌≤◌, ◌^◌, ◌++◌, IfOk, OnOk};
 ghost use Rattle.ing_refusals.specs.Results.{Returns};
+ghost use Rattle.ing_chunk.specs.Chunks.{IsWhole};
+ghost use Rattle.ing_codec.specs.RowObjects.{IsExtentOf};
 ghost use Rattle.ing_codec.specs.RowObjects.{IsExtent, extent_text, read_count, read_size, read_greatest};
 ghost use Rattle.ing_codec.specs.RowObjects.{read_extent};
 
 use crate::fault::CodecFault;
 use crate::fields::{Fields, MAX_FIRST};
 use crate::writers::{put_u32, put_u64};
+use ing_chunk::Chunk;
 use ing_rows::Stamp;
 use std::alloc::AllocError;
 
@@ -23,6 +26,25 @@ pub struct Extent {
     pub least: Stamp,
     /// The greatest stamp.
     pub greatest: Stamp,
+}
+
+impl Extent {
+    /// The extent of a whole chunk: its first number, its count, its size in bytes and its span. Takes no
+    /// memory. (Own.)
+    pub fn of_chunk(chunk: &Chunk) -> Extent
+        requires { IsWhole chunk.now }
+        ensures value { IsExtentOf chunk.now result }
+        ensures extent { IsExtent result }
+    {
+        let (least, greatest) = chunk.span().unwrap();
+        Extent {
+            first: chunk.first(),
+            count: chunk.count() as u32,
+            size: chunk.size() as u64,
+            least: Stamp::of_nanoseconds(least).unwrap(),
+            greatest: Stamp::of_nanoseconds(greatest).unwrap(),
+        }
+    }
 }
 
 impl<'a> Fields<'a> {

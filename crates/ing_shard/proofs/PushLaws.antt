@@ -23,7 +23,7 @@ sealed_marks s first [] h = All-nil (λ (m : Mark). is_growing s m ≡ false)
 sealed_marks s first (c ∷ cs) h =
     let here : IsWaiting first c = All-head (IsWaiting first) c cs h in
     All-cons (λ (m : Mark). is_growing s m ≡ false) (mark_of s c) (chunks_state s cs).marks
-    (ap (λ b. same_stream s s && b) here.sealed ∙ ap (λ b. b && false) (same_self s))
+    (ap (λ b. same_stream s s && b) here.whole.sealed ∙ ap (λ b. b && false) (same_self s))
     (sealed_marks s first cs (All-tail (IsWaiting first) c cs h))
 
 find_none : {X : Type 0} (p : X → Bool) (xs : List X) → All (λ x. p x ≡ false) xs → find p xs ≡ None
