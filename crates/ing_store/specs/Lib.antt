@@ -1,0 +1,3 @@
+pub mod MemoryEnds
+pub mod StoreFaults
+pub mod StoredObjects

@@ -1,0 +1,22 @@
+//! Stores of objects: what an end of a store promises, how chunks and rows are put there, and a store in
+//! memory.
+#![tactic(auto)]
+
+mod fault;
+mod fuse;
+mod memory_end;
+mod memory_object;
+mod memory_store;
+mod store_end;
+mod upload;
+
+pub use fault::StoreFault;
+pub use fuse::Fuse;
+pub use memory_end::MemoryEnd;
+pub use memory_object::{MemoryObject, MemoryReceipt};
+pub use memory_store::MemoryStore;
+pub use store_end::{Receipt, StoreEnd};
+pub use upload::{Uploaded, put_chunk, put_row};
+
+#[cfg(test)]
+mod tests;

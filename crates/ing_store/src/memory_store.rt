@@ -1,0 +1,94 @@
+//! A store in memory.
+ghost use Rattle.std.specs.Prelude.{◌≡◌, IfOk, IfSome};
+ghost use Rattle.ing_store.specs.MemoryEnds.{new_end};
+ghost use Rattle.ing_store.specs.StoredObjects.{stored_object};
+
+use crate::fuse::Fuse;
+use crate::memory_end::MemoryEnd;
+use crate::memory_object::MemoryObject;
+use std::alloc::{AllocError, Global};
+use std::collections::BTreeMap;
+use std::sync::{Mutex, Wait};
+
+/// Where the objects are, by name.
+type Places = BTreeMap<String, usize>;
+
+/// A store of objects in memory, which threads share through a `&`. An object that it has is never changed
+/// and never moved. (Own.)
+#[derive(Drop)]
+pub struct MemoryStore {
+    objects: boxcar::Vec<MemoryObject>,
+    places: Mutex<Places>,
+}
+
+impl MemoryStore {
+    /// A store without objects. `AllocError` where memory ran out.
+    pub fn new(alloc: Global) -> Result<MemoryStore, AllocError> {
+        Ok(MemoryStore {
+            objects: boxcar::Vec::new(alloc)?,
+            places: Mutex::new(BTreeMap::new(alloc)),
+        })
+    }
+
+    /// An end of this store that was given no call, and of which these calls fail. It is honest, and its
+    /// calls may wait. Takes no memory.
+    pub fn end<'a, R: Wait>(&'a self, rt: &'a R, fuse: Fuse) -> MemoryEnd<'a, R>
+        ensures { result ≡ new_end fuse }
+    {
+        MemoryEnd::of(rt, self, fuse)
+    }
+
+    /// An end of which the call of this number and each later one fail. Takes no memory.
+    pub fn dead_end<'a, R: Wait>(&'a self, rt: &'a R, from: u64) -> MemoryEnd<'a, R>
+        ensures { result ≡ new_end (Fuse.FailedFrom from) }
+    {
+        self.end(rt, Fuse::FailedFrom(from))
+    }
+
+    /// How many objects were written, those too whose names were written again since. No contract says what
+    /// it is. Takes no memory.
+    pub fn written(&self) -> usize {
+        self.objects.count()
+    }
+
+    /// The object at the place that is listed for this name.
+    fn listed(&self, places: &Places, name: &str) -> Option<&MemoryObject>
+        ensures { IfSome result (λ o. o.now.name ≡ name.now) }
+    {
+        let place = *places.get(name)?;
+        self.objects.get(place).filter(|o| o.name() == name)
+    }
+
+    /// The object of this name that was written last.
+    pub(crate) fn object<R: Wait>(&self, rt: &R, name: &str) -> Option<&MemoryObject>
+        ensures { IfSome result (λ o. o.now.name ≡ name.now) }
+    {
+        let places = self.places.lock(rt);
+        self.listed(&places, name)
+    }
+
+    /// Writes an object, unless one of this name with these bytes is there.
+    pub(crate) fn write<R: Wait>(
+        &self,
+        rt: &R,
+        alloc: Global,
+        name: &str,
+        bytes: &[u8],
+    ) -> Result<&MemoryObject, AllocError>
+        ensures { IfOk result (λ o. o.now ≡ stored_object name.now bytes.now) }
+    {
+        let mut places = self.places.lock(rt);
+        if let Some(object) = self.listed(&places, name) {
+            if object.bytes() == bytes {
+                return Ok(object);
+            }
+        }
+        let key = String::from_str(alloc, name)?;
+        let object = MemoryObject::of(alloc, name, bytes)?;
+        let Ok(pushed) = self.objects.push_shown(rt, object) else {
+            return Err(AllocError);
+        };
+        places.insert(key, pushed.index())?;
+        Ok(self.objects.value(&pushed))
+    }
+}

@@ -1,0 +1,52 @@
+//! What a worker has of a store.
+ghost use Rattle.std.specs.Prelude.{◌≡◌, ℕ, List, IfOk, IfSome};
+ghost use Rattle.ing_store.specs.StoreFaults.{IsCounted};
+
+use crate::fault::StoreFault;
+use std::alloc::Global;
+
+/// What a store end gives for an object, and takes to give its bytes again. It means a name and bytes (own).
+pub trait Receipt: Drop {
+    /// The name of the object.
+    ghost name: { Self → List ℕ };
+
+    /// The bytes of the object.
+    ghost bytes: { Self → List ℕ };
+}
+
+/// What one worker has of a store of objects, each of which has a name and bytes. Its calls may wait. (Own.)
+///
+/// Each call answers `NoMemory` where memory ran out, and any other fault only where the end has failed
+/// during the call: its count of failures rose, or stood at its last value, 2^64-1.
+pub trait StoreEnd {
+    /// What it gives for an object.
+    type Receipt: Receipt;
+
+    /// How often it has failed.
+    ghost failure_count: { Self → ℕ };
+
+    /// An end is honest where `get` gives the bytes that its receipts mean.
+    ghost is_honest: { Type 0 };
+
+    /// How often it has failed, up to 2^64-1. Takes no memory.
+    fn failures(&self) -> u64
+        ensures { result ≡ failure_count self.now };
+
+    /// Stores an object, and gives a receipt for it. A fault leaves open whether the object is stored.
+    fn put(&mut self, alloc: Global, name: &str, bytes: &[u8]) -> Result<Self::Receipt, StoreFault>
+        // The receipt means what was given.
+        ensures name { IfOk result (λ r. Self.Receipt.name r ≡ name.now) }
+        ensures bytes { IfOk result (λ r. Self.Receipt.bytes r ≡ bytes.now) }
+        // A fault has a cause.
+        ensures count { IsCounted (failure_count self.old) (failure_count self.new) result };
+
+    /// The bytes of an object.
+    fn get(&mut self, alloc: Global, receipt: &Self::Receipt) -> Result<Vec<u8>, StoreFault>
+        ensures bytes { is_honest → IfOk result (λ v. v.items ≡ Self.Receipt.bytes receipt.now) }
+        ensures count { IsCounted (failure_count self.old) (failure_count self.new) result };
+
+    /// A receipt of an object of this name. `None` claims nothing.
+    fn find(&mut self, alloc: Global, name: &str) -> Result<Option<Self::Receipt>, StoreFault>
+        ensures name { IfOk result (λ found. IfSome found (λ r. Self.Receipt.name r ≡ name.now)) }
+        ensures count { IsCounted (failure_count self.old) (failure_count self.new) result };
+}
