@@ -1,0 +1,6 @@
+mod ExtentLaws
+mod JoinLaws
+mod KeptLaws
+mod ListingLaws
+mod PutLaws
+mod SlotLaws

@@ -1,0 +1,12 @@
+//! The sealed chunks of one stream, each where it stands: in the blocks of memory, in flight to the store, or stored.
+#![tactic(auto)]
+
+mod held;
+mod listing;
+mod same;
+mod sealed_chunks;
+mod uploads;
+
+pub use listing::Listing;
+pub use sealed_chunks::{Claim, SealedChunks};
+pub use uploads::upload;
