@@ -4,6 +4,7 @@
 .PHONY: run build check test bench documents
 program = crates/ingestd/out/ingestd
 postings_figures = crates/bench_postings/out/bench_postings
+codec_figures = crates/bench_codec/out/bench_codec
 sources = crates.txt $(shell find crates -name out -prune -o \( -name '*.rt' -o -name '*.antt' \) -print)
 
 run: $(program)
@@ -38,10 +39,15 @@ documents:
 	  done; \
 	done
 
-bench: $(postings_figures) $(program)
+bench: $(postings_figures) $(codec_figures) $(program)
 	@$(postings_figures) times 10000 30000 100000
+	@$(codec_figures) times 120 4096
 	@bench/pushes.sh $(program)
 
 $(postings_figures): $(sources)
 	@cd crates/bench_postings && rt run -- counts 100 >&2
+	@touch $@
+
+$(codec_figures): $(sources)
+	@cd crates/bench_codec && rt run -- counts 120 >&2
 	@touch $@
