@@ -6,9 +6,9 @@ use Rattle.ing_codec.specs.ChunkReading.{read_chunk}
 use Rattle.ing_codec.specs.Laws.{ChunksAreExact}
 use Rattle.ing_sealed.specs.Listings.{IsListing, listed_of, extent_of, first_in, blocks_in}
 
-module _ (exact : ChunksAreExact) (bytes : List ℕ) (extent : Extent) (key : List ℕ) (h : IsListing bytes extent key) where
+module _ (exact : ChunksAreExact) (name : List ℕ) (bytes : List ℕ) (extent : Extent) (key : List ℕ) (h : IsListing bytes extent key) where
   pub read : read_chunk bytes ≡ Ok h.object
   read = ap read_chunk h.spelt ∙ exact.each h.object h.is
 
-  pub listing_extent : extent ≡ extent_of (listed_of bytes key).first (listed_of bytes key).blocks
+  pub listing_extent : extent ≡ extent_of (listed_of name bytes key).first (listed_of name bytes key).blocks
   listing_extent = h.extends ∙ (λ i. extent_of (first_in (sym read i)) (blocks_in (sym read i)))

@@ -8,8 +8,10 @@ use Rattle.ing_codec.specs.declared.fault.CodecFault.{CodecFault}
 use Rattle.ing_codec.specs.ChunkObjects.{ChunkObject, IsObject, chunk_text}
 use Rattle.ing_codec.specs.ChunkReading.{read_chunk}
 
--- the chunk that the bytes of its receipt spell, and its key
+-- the name and the bytes that its receipt means, the chunk that these bytes spell, and its key
 pub record Listed : Type 0 where
+  pub name : List ℕ
+  pub bytes : List ℕ
   pub first : ℕ
   pub blocks : List (List Numbered)
   pub key : List ℕ
@@ -22,8 +24,15 @@ abbrev pub blocks_in : Result ChunkObject CodecFault → List (List Numbered)
 blocks_in (Ok o) = o.blocks
 blocks_in (Err fault) = []
 
-abbrev pub listed_of : List ℕ → List ℕ → Listed
-listed_of bytes key = record { first = first_in (read_chunk bytes); blocks = blocks_in (read_chunk bytes); key = key }
+abbrev pub listed_of : List ℕ → List ℕ → List ℕ → Listed
+listed_of name bytes key =
+    record {
+      name = name;
+      bytes = bytes;
+      first = first_in (read_chunk bytes);
+      blocks = blocks_in (read_chunk bytes);
+      key = key;
+    }
 
 -- the numbers, the size and the stamps of the entries of these blocks
 abbrev pub extent_of : ℕ → List (List Numbered) → Extent

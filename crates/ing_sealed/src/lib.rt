@@ -9,4 +9,4 @@ mod uploads;
 
 pub use listing::Listing;
 pub use sealed_chunks::{Claim, SealedChunks};
-pub use uploads::upload;
+pub use uploads::{Flushed, upload};

@@ -6,8 +6,8 @@ use ing_codec::{Extent, chunks_are_exact};
 use ing_store::Receipt;
 use std::marker::Model;
 
-/// A stored chunk: its extent, its key and the receipt of its object. Contracts see the chunk that the bytes of the receipt
-/// spell, and the key.
+/// A stored chunk: its extent, its key and the receipt of its object. Contracts see the name and the bytes that the receipt
+/// means, the chunk that the bytes spell, and the key.
 #[derive(Drop)]
 pub struct Listing<R: Receipt> {
     extent: Extent,
@@ -22,7 +22,7 @@ impl<R: Receipt> Model for Listing<R> {
 
     ghost use Rattle.ing_sealed.specs.Listings.{listed_of, IsListing};
 
-    ghost view = { λ l. listed_of (R.bytes l.receipt) l.key };
+    ghost view = { λ l. listed_of (R.name l.receipt) (R.bytes l.receipt) l.key };
 
     ghost invariant = { λ l. IsListing (R.bytes l.receipt) l.extent l.key };
 }
@@ -31,7 +31,7 @@ impl<R: Receipt> Listing<R> {
     /// The listing of a chunk with this extent and key, of which this is the receipt. Takes no memory (own).
     pub fn of(extent: Extent, key: [u8; 32], receipt: R) -> Listing<R>
         requires { IsListing (R.bytes receipt) extent key }
-        ensures { result ≡ listed_of (R.bytes receipt) key }
+        ensures { result ≡ listed_of (R.name receipt) (R.bytes receipt) key }
     {
         Listing {
             extent,
@@ -53,5 +53,13 @@ impl<R: Receipt> Listing<R> {
         ensures { result.now ≡ self.now.key }
     {
         &self.key
+    }
+
+    /// The receipt of its object: what a store end takes to give the bytes again.
+    pub fn receipt(&self) -> &R
+        ensures name { R.name result.now ≡ self.now.name }
+        ensures bytes { R.bytes result.now ≡ self.now.bytes }
+    {
+        &self.receipt
     }
 }
