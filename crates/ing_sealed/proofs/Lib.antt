@@ -1,4 +1,5 @@
 mod ExtentLaws
+mod FlightLaws
 mod JoinLaws
 mod KeptLaws
 mod ListingLaws

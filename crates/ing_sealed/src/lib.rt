@@ -10,3 +10,6 @@ mod uploads;
 pub use listing::Listing;
 pub use sealed_chunks::{Claim, SealedChunks};
 pub use uploads::{Flushed, upload};
+
+#[cfg(test)]
+mod tests;
