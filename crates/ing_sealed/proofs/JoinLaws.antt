@@ -16,6 +16,7 @@ use Rattle.ing_sealed.specs.declared.sealed_chunks.SealedChunks.TheInside.{Insid
 use Rattle.ing_sealed.specs.Slots.{Slot, slot_at, at_place, slot_state, slots_state, IsSlot, AreBelow, AreRising, NoneInFlight, FlyApart, AreSlots}
 use Rattle.ing_sealed.specs.KeptSlots.{slot_of, HoldsWhole, AreKept}
 use Rattle.ing_sealed.proofs.KeptLaws.{filter_short}
+use Rattle.ing_sealed.proofs.PutLaws.{filter_joined}
 
 -- ---- a whole chunk is a slot
 
@@ -61,9 +62,8 @@ rising_joined (x ∷ xs) ys h k below = (
   rising_joined xs ys h.1 k (All-weaker (λ (y : Slot). AreBelow y.first (x ∷ xs)) (λ (y : Slot). AreBelow y.first xs) (λ y b. All-tail (λ (z : Slot). z.first < y.first) x xs b) ys below),
 )
 
-none_waiting_flies : (f : ℕ) (ws : List ChunkContents) → NoneInFlight f (waiting_slots ws)
-none_waiting_flies f [] = All-nil (λ (x : Slot). is_flight f x.place ≡ false)
-none_waiting_flies f (c ∷ ws) = All-cons (λ (x : Slot). is_flight f x.place ≡ false) (slot_at Block c) (waiting_slots ws) refl (none_waiting_flies f ws)
+pub none_waiting_flies : (f : ℕ) (ws : List ChunkContents) → NoneInFlight f (waiting_slots ws)
+none_waiting_flies f ws = All-map (λ (x : Slot). is_flight f x.place ≡ false) (slot_at Block) ws (λ k d h. refl)
 
 apart_waiting : (ws : List ChunkContents) → FlyApart (waiting_slots ws)
 apart_waiting [] = tt
@@ -86,22 +86,9 @@ slots_joined xs ws from to h whole follow below =
 
 -- ---- counts
 
-filter_joined : (p : Slot → Bool) (xs ys : List Slot) → length (filter p (xs ++ ys)) ≡ length (filter p xs) + length (filter p ys)
-filter_joined p [] ys = omega arith
-filter_joined p (x ∷ xs) ys = by_cases (p x) (filter_joined p xs ys) where
-  by_cases : (b : Bool) → length (filter p (xs ++ ys)) ≡ length (filter p xs) + length (filter p ys) → length (cond b (x ∷ filter p (xs ++ ys)) (filter p (xs ++ ys))) ≡ length (cond b (x ∷ filter p xs) (filter p xs)) + length (filter p ys)
-  by_cases true h = omega (arith, h)
-  by_cases false h = h
-
 count_waiting : (p : Slot → Bool) → ((c : ChunkContents) → p (slot_at Block c) ≡ true) → (ws : List ChunkContents) → length (filter p (waiting_slots ws)) ≡ length ws
 count_waiting p all [] = refl
 count_waiting p all (c ∷ ws) = let rest = count_waiting p all ws in ap (λ b. length (cond b (slot_at Block c ∷ filter p (waiting_slots ws)) (filter p (waiting_slots ws)))) (all c) ∙ omega (arith, rest)
-
-take_front : (n : ℕ) (xs ys : List Slot) → n ≤ length xs → take n (xs ++ ys) ≡ take n xs
-take_front n xs ys few = take-append-le n xs ys few
-
-whole_waiting : (R : Type 0) (ws : List ChunkContents) → All IsWhole ws → All {X = Held R} HoldsWhole (map Waiting ws)
-whole_waiting R ws h = All-map {X = Held R} HoldsWhole Waiting ws h
 
 seen_waiting : (R : Type 0) (ws : List ChunkContents) → map {A = Held R} slot_of (map Waiting ws) ≡ waiting_slots ws
 seen_waiting R [] = refl
@@ -139,8 +126,8 @@ module _ {R : Type 0} (c d : Inside R) (ws : List ChunkContents) (is : d.slots.i
       let before_stays = h.unstored in
       record {
         slots = subst AreSlots (sym joined_seen) (slots_joined xs ws from to h.slots whole follow below);
-        whole = subst (All HoldsWhole) (sym is) (All-append HoldsWhole c.slots.items (map Waiting ws) h.whole (whole_waiting R ws whole));
-        older = subst (All (λ (x : Slot). is_block x.place ≡ false)) (sym ((λ i. take (oldest i) (joined_seen i)) ∙ take_front c.oldest xs (waiting_slots ws) low)) h.older;
+        whole = subst (All HoldsWhole) (sym is) (All-append HoldsWhole c.slots.items (map Waiting ws) h.whole (All-map {X = Held R} HoldsWhole Waiting ws whole));
+        older = subst (All (λ (x : Slot). is_block x.place ≡ false)) (sym ((λ i. take (oldest i) (joined_seen i)) ∙ take-append-le c.oldest xs (waiting_slots ws) low)) h.older;
         within = omega (arith, oldest, long, low);
         waiting = omega (arith, waiting, all_wait, count_waits, before_waits);
         unstored = omega (arith, unstored, all_stay, count_stays, before_stays);

@@ -1,7 +1,7 @@
 -- One of several sealed chunks is replaced by itself at another place.
-use Rattle.std.proofs.Common.{◌≡◌, ℕ, zero, suc, ◌+◌, ◌<◌, Bool, true, false, cond, List, [], ◌∷◌, ◌++◌, length, filter, set, take, Some, refl, sym, ap, subst, ◌∙◌, arith}
+use Rattle.std.proofs.Common.{◌≡◌, ℕ, zero, suc, ◌+◌, ◌<◌, Bool, true, false, cond, List, [], ◌∷◌, ◌++◌, length, filter, set, take, Some, refl, sym, ap, subst, ◌∙◌, arith, length-append}
 use Rattle.std.specs.Prelude.{All, slice_get}
-use Rattle.std.proofs.lemmas.List.Elements.{All-nil, All-cons, All-head, All-tail}
+use Rattle.std.proofs.lemmas.List.Elements.{All-nil, All-cons, All-head, All-tail, filter-append}
 use Rattle.ing_rows.specs.Rows.{is_flight}
 use Rattle.ing_sealed.specs.Slots.{Slot, IsSlot, AreRising, NoneInFlight, FlyApart, AreSlots}
 
@@ -52,16 +52,12 @@ module _ {X : Type 0} where
   count_one p true x xs = omega arith
   count_one p false x xs = omega arith
 
-  count_more : (b : Bool) (x : X) (xs : List X) (n m : ℕ) → length xs ≡ n + m → length (cond b (x ∷ xs) xs) ≡ (cond b 1 0 + n) + m
-  count_more true x xs n m h = omega (arith, h)
-  count_more false x xs n m h = omega (arith, h)
+  pub filter_joined : (p : X → Bool) (xs ys : List X) → length (filter p (xs ++ ys)) ≡ length (filter p xs) + length (filter p ys)
+  filter_joined p xs ys = ap length (filter-append p xs ys) ∙ length-append (filter p xs) (filter p ys)
 
   -- how many pass: those before it, itself, those behind it
   pub count_around : (p : X → Bool) (front : List X) (x : X) (back : List X) → length (filter p (front ++ x ∷ back)) ≡ length (filter p front) + (cond (p x) 1 0 + length (filter p back))
-  count_around p [] x back = count_one p (p x) x back ∙ omega arith
-  count_around p (z ∷ front) x back =
-      count_more (p z) z (filter p (front ++ x ∷ back)) (length (filter p front)) (cond (p x) 1 0 + length (filter p back)) (count_around p front x back)
-      ∙ ap (λ n. n + (cond (p x) 1 0 + length (filter p back))) (sym (count_one p (p z) z front))
+  count_around p front x back = filter_joined p front (x ∷ back) ∙ ap (λ n. length (filter p front) + n) (count_one p (p x) x back)
 
 -- ---- sealed chunks around one of them
 

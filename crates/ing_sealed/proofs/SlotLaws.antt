@@ -1,8 +1,9 @@
 -- A sealed chunk that changes its place, beside the others of its stream.
-use Rattle.std.proofs.Common.{◌≡◌, ◌≢◌, ℕ, suc, ◌+◌, ◌<◌, Bool, true, false, not, cond, ◌&&◌, List, [], ◌∷◌, ◌++◌, length, map, filter, refl, sym, ap, subst, ◌∙◌, ⊎_elim, arith, nat_eq, is_some, length-append}
+use Rattle.std.proofs.Common.{◌≡◌, ◌≢◌, ℕ, ◌+◌, ◌<◌, Bool, true, false, not, cond, ◌&&◌, List, [], ◌∷◌, ◌++◌, length, map, filter, refl, sym, ap, subst, ◌∙◌, ⊎_elim, arith, nat_eq, is_some, length-append}
 use Rattle.std.specs.Prelude.{All, Any, IsPermutation}
 use Rattle.std.proofs.lemmas.Bool.Decides.{nat_tests}
 use Rattle.std.proofs.lemmas.Slice.Eq.{bytes_eq-Decides}
+use Rattle.std.proofs.lemmas.List.{length-map, map-append}
 use Rattle.std.proofs.lemmas.List.Elements.{All-nil, All-cons, All-head, All-tail, All-append, All-contains}
 use Rattle.std.proofs.lemmas.List.Sorted.{IsPermutation-refl}
 use Rattle.ing_rows.specs.declared.place.Place.{Place}
@@ -13,6 +14,7 @@ use Rattle.ing_rows.specs.Flushes.{NoneOfChunk, NoneFlies, NoneOlder, NoneMarks,
 use Rattle.ing_chunk.specs.declared.numbered.Numbered.{Numbered}
 use Rattle.ing_chunk.specs.Chunks.{row_in, block_rows, in_blocks}
 use Rattle.ing_sealed.specs.Slots.{Slot, put_at, stored_at, at_place, slot_rows, slot_marks, slot_state, slots_state, count_at, IsSlot, AreRising, NoneInFlight, FlyApart, AreSlots}
+use Rattle.ing_sealed.proofs.PutLaws.{all_there}
 
 -- ---- the same stream, the same number
 
@@ -36,30 +38,22 @@ module _ (s : StreamKey) (Q : Row → Type 0) (place : Place) (first : ℕ) (eac
   in_block index [] = All-nil Q
   in_block index (e ∷ b) = All-cons Q (at_place place (row_in s first index Block e)) (map (at_place place) (map (row_in s first index Block) b)) (each index e) (in_block index b)
 
-  joined_map : (xs ys : List Row) → map (at_place place) (xs ++ ys) ≡ map (at_place place) xs ++ map (at_place place) ys
-  joined_map [] ys = refl
-  joined_map (x ∷ xs) ys = ap (λ l. at_place place x ∷ l) (joined_map xs ys)
-
   pub all_placed : (index : ℕ) (bs : List (List Numbered)) → All Q (map (at_place place) (block_rows s first index bs))
   all_placed index [] = All-nil Q
   all_placed index (b ∷ bs) =
-      subst (All Q) (sym (joined_map (map (row_in s first index Block) b) (block_rows s first (index + 1) bs)))
+      subst (All Q) (sym (map-append (at_place place) (map (row_in s first index Block) b) (block_rows s first (index + 1) bs)))
       (All-append Q (map (at_place place) (map (row_in s first index Block) b)) (map (at_place place) (block_rows s first (index + 1) bs)) (in_block index b) (all_placed (index + 1) bs))
 
 -- as many as it has entries
-map_length : {X Y : Type 0} (f : X → Y) (xs : List X) → length (map f xs) ≡ length xs
-map_length f [] = refl
-map_length f (x ∷ xs) = ap (λ n. suc n) (map_length f xs)
-
 rows_length : (s : StreamKey) (first index : ℕ) (bs : List (List Numbered)) → length (block_rows s first index bs) ≡ length (in_blocks bs)
 rows_length s first index [] = refl
 rows_length s first index (b ∷ bs) =
     length-append (map (row_in s first index Block) b) (block_rows s first (index + 1) bs)
-    ∙ (λ i. map_length (row_in s first index Block) b i + rows_length s first (index + 1) bs i)
+    ∙ (λ i. length-map b (row_in s first index Block) i + rows_length s first (index + 1) bs i)
     ∙ sym (length-append b (in_blocks bs))
 
 pub slot_length : (s : StreamKey) (x : Slot) → length (slot_rows s x) ≡ count_at x
-slot_length s x = map_length (at_place x.place) (block_rows s x.first 0 x.blocks) ∙ rows_length s x.first 0 x.blocks
+slot_length s x = length-map (block_rows s x.first 0 x.blocks) (at_place x.place) ∙ rows_length s x.first 0 x.blocks
 
 -- rows that all pass
 filter_all : {X : Type 0} (p : X → Bool) (xs : List X) → All (λ x. p x ≡ true) xs → filter p xs ≡ xs
@@ -211,11 +205,6 @@ module _ (apart : FlushesAreApart) (s : StreamKey) where
   later_other : (c : ℕ) (xs : List Slot) → All (λ x. c < x.first) xs → All (λ x. x.first ≢ c) xs
   later_other c xs h = λ k d below same. let later = h k d below in absurd (omega (arith, same))
 
-  -- the middle of a list
-  middle : (P : Slot → Type 0) (front : List Slot) (x : Slot) (back : List Slot) → All P (front ++ x ∷ back) → P x
-  middle P [] x back h = All-head P x back h
-  middle P (y ∷ front) x back h = middle P front x back (All-tail P y (front ++ x ∷ back) h)
-
   claims_among : (f : ℕ) (x : Slot) (front back : List Slot) → All IsSlot (front ++ put_at Block x ∷ back) → AreRising (front ++ put_at Block x ∷ back)
       → All (λ y. is_block y.place ≡ false) front → NoneInFlight f (front ++ put_at Block x ∷ back)
       → Claims s x.first f (slots_state s (front ++ put_at Block x ∷ back)) (slots_state s (front ++ put_at (Flight f) x ∷ back))
@@ -226,7 +215,7 @@ module _ (apart : FlushesAreApart) (s : StreamKey) where
       (none_in_others f back (All-tail (λ (y : Slot). is_flight f y.place ≡ false) (put_at Block x) back free))
       (none_older x.first back rising.0)).0
   claims_among f x (y ∷ front) back is rising older free =
-      let here : y.first < x.first = middle (λ (z : Slot). y.first < z.first) front (put_at Block x) back rising.0 in
+      let here : y.first < x.first = all_there (λ (z : Slot). y.first < z.first) front (put_at Block x) back rising.0 in
       let other : y.first ≢ x.first = λ same. absurd (omega (arith, same)) in
       let slot = All-head IsSlot y (front ++ put_at Block x ∷ back) is in
       let away = All-head (λ (z : Slot). is_block z.place ≡ false) y front older in
@@ -241,7 +230,7 @@ module _ (apart : FlushesAreApart) (s : StreamKey) where
   in_front f x y front back h = by_cases (is_flight f y.place) refl where
     by_cases : (b : Bool) → is_flight f y.place ≡ b → b ≡ false
     by_cases false is = refl
-    by_cases true is = let other : is_flight f (Flight f) ≡ false = middle (λ (z : Slot). is_flight f z.place ≡ false) front (put_at (Flight f) x) back (h f is) in let same = number_self f in absurd (cc)
+    by_cases true is = let other : is_flight f (Flight f) ≡ false = all_there (λ (z : Slot). is_flight f z.place ≡ false) front (put_at (Flight f) x) back (h f is) in let same = number_self f in absurd (cc)
 
   finishes_among : (f : ℕ) (key : List ℕ) (x : Slot) (front back : List Slot) → All IsSlot (front ++ put_at (Flight f) x ∷ back) → AreRising (front ++ put_at (Flight f) x ∷ back) → FlyApart (front ++ put_at (Flight f) x ∷ back)
       → Finishes s x.first f key (slots_state s (front ++ put_at (Flight f) x ∷ back)) (slots_state s (front ++ stored_at key x ∷ back))
@@ -252,7 +241,7 @@ module _ (apart : FlushesAreApart) (s : StreamKey) where
       (none_in_others f back (alone.0 f (number_self f)))
       (none_marks x.first back (later_other x.first back rising.0))).0
   finishes_among f key x (y ∷ front) back is rising alone =
-      let here : y.first < x.first = middle (λ (z : Slot). y.first < z.first) front (put_at (Flight f) x) back rising.0 in
+      let here : y.first < x.first = all_there (λ (z : Slot). y.first < z.first) front (put_at (Flight f) x) back rising.0 in
       let other : y.first ≢ x.first = λ same. absurd (omega (arith, same)) in
       (apart.finishes s x.first f key (slots_state s (front ++ put_at (Flight f) x ∷ back)) (slots_state s (front ++ stored_at key x ∷ back)) (slot_state s y)
       (finishes_among f key x front back (All-tail IsSlot y (front ++ put_at (Flight f) x ∷ back) is) rising.1 alone.1)

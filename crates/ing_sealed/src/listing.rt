@@ -6,8 +6,8 @@ use ing_codec::{Extent, chunks_are_exact};
 use ing_store::Receipt;
 use std::marker::Model;
 
-/// A stored chunk: its extent, its key and the receipt of its object. Contracts see the name and the bytes that the receipt
-/// means, the chunk that the bytes spell, and the key.
+/// A stored chunk: its extent, its key and the receipt of its object. Contracts see the name and the
+/// bytes that the receipt means, the chunk that the bytes spell, and the key.
 #[derive(Drop)]
 pub struct Listing<R: Receipt> {
     extent: Extent,
