@@ -2,8 +2,9 @@
 use Rattle.std.proofs.Common.{◌≡◌, ℕ, zero, suc, ◌+◌, ◌<◌, ◌≤◌, Bool, true, false, cond, not, Some, List, [], ◌∷◌, ◌++◌, map, filter, length, get_or, set, take, nat_eq, refl, sym, ap, subst, ◌∙◌, arith, length-append}
 use Rattle.std.specs.Prelude.{All, slice_get}
 use Rattle.std.proofs.lemmas.Bool.Decides.{nat_tests}
-use Rattle.std.proofs.lemmas.List.{set-set, map-set, take_all, length-map, get_or-map}
-use Rattle.std.proofs.lemmas.List.Elements.{All-append, All-cons, All-head, All-more, All-nil, All-tail, All-set}
+use Rattle.std.proofs.lemmas.List.{set-set, map-set, take_all, take-take, take-append-le, length-map, get_or-map}
+use Rattle.std.proofs.lemmas.List.Elements.{All-append, All-cons, All-head, All-more, All-nil, All-tail, All-take, All-set}
+use Rattle.std.proofs.lemmas.List.Filters.{length-filter_both}
 use Rattle.std.proofs.Math.Seq.{map-set_same}
 use Rattle.ing_rows.specs.declared.place.Place.TheVariants.{Block, Flight}
 use Rattle.ing_rows.specs.Rows.{is_block, is_flight, is_stored}
@@ -80,6 +81,21 @@ take_seam (z ∷ front) y back n h =
     let more : n ≡ suc (length front + 1) = omega (arith, h) in
     ap (λ k. take k (z ∷ front ++ y ∷ back)) more ∙ ap (λ l. z ∷ l) (take_seam front y back (length front + 1) refl)
 
+-- how many pass, and how many there are
+module _ {old : List Slot} {i : ℕ} {x : Slot} (cut : Split old i x) (y : Slot) (new : List Slot) (is : new ≡ cut.front ++ y ∷ cut.back) where
+  passing : (p : Slot → Bool) → length (filter p new) + cond (p x) 1 0 ≡ length (filter p old) + cond (p y) 1 0
+  passing p =
+      let before = ap (λ l. length (filter p l)) cut.is ∙ count_around p cut.front x cut.back in
+      let after = ap (λ l. length (filter p l)) is ∙ count_around p cut.front y cut.back in
+      omega (arith, before, after)
+
+  as_long : (length new ≡ length old) × (i < length new)
+  as_long =
+      let before = ap length cut.is ∙ length-append cut.front (x ∷ cut.back) in
+      let after = ap length is ∙ length-append cut.front (y ∷ cut.back) in
+      let at = cut.at in
+      (omega (arith, before, after), omega (arith, after))
+
 -- the oldest that waits is put in flight
 module _ {R : Type 0} (c d : Inside R) (f i : ℕ) (chunk : ChunkContents) (cut : Split (map slot_of c.slots.items) i (slot_at Block chunk)) (kept : AreKept c) where
   abbrev was : List Slot
@@ -96,13 +112,8 @@ module _ {R : Type 0} (c d : Inside R) (f i : ℕ) (chunk : ChunkContents) (cut 
       let slot = all_there IsSlot cut.front x cut.back slots_before.each in
       let unused = subst (NoneInFlight f) cut.is free in
       let long : length cut.front ≡ i = cut.at in
-      let waits = λ (z : Slot). is_block z.place in
-      let stays = λ (z : Slot). not (is_stored z.place) in
-      let before_waits = kept.waiting ∙ ap (λ l. length (filter waits l)) cut.is ∙ count_around waits cut.front x cut.back in
-      let after_waits = ap (λ l. length (filter waits l)) is ∙ count_around waits cut.front y cut.back in
-      let before_stays = kept.unstored ∙ ap (λ l. length (filter stays l)) cut.is ∙ count_around stays cut.front x cut.back in
-      let after_stays = ap (λ l. length (filter stays l)) is ∙ count_around stays cut.front y cut.back in
-      let all = ap length is ∙ length-append cut.front (y ∷ cut.back) in
+      let count = passing cut y (map slot_of d.slots.items) is in
+      let all = as_long cut y (map slot_of d.slots.items) is in
       record {
         slots =
             subst AreSlots (sym is)
@@ -113,9 +124,9 @@ module _ {R : Type 0} (c d : Inside R) (f i : ℕ) (chunk : ChunkContents) (cut 
         older =
             subst (All (λ (z : Slot). is_block z.place ≡ false)) (sym ((λ j. take (oldest j) (is j)) ∙ take_seam cut.front y cut.back (i + 1) (omega (arith, long))))
             (All-append (λ (z : Slot). is_block z.place ≡ false) cut.front (y ∷ []) older (All-cons (λ (z : Slot). is_block z.place ≡ false) y [] refl (All-nil (λ (z : Slot). is_block z.place ≡ false))));
-        within = omega (arith, oldest, all, long);
-        waiting = omega (arith, waiting, before_waits, after_waits);
-        unstored = omega (arith, unstored, before_stays, after_stays);
+        within = omega (arith, oldest, all.1);
+        waiting = omega (arith, waiting, kept.waiting, count (λ z. is_block z.place));
+        unstored = omega (arith, unstored, kept.unstored, count (λ z. not (is_stored z.place)));
       }
 
   -- one waits
@@ -125,24 +136,15 @@ module _ {R : Type 0} (c d : Inside R) (f i : ℕ) (chunk : ChunkContents) (cut 
       omega (arith, count)
 
 pub filter_short : (p : Slot → Bool) (xs : List Slot) → length (filter p xs) ≤ length xs
-filter_short p [] = omega arith
-filter_short p (x ∷ xs) = by_cases (p x) (filter_short p xs) where
-  by_cases : (b : Bool) → length (filter p xs) ≤ length xs → length (cond b (x ∷ filter p xs) (filter p xs)) ≤ length (x ∷ xs)
-  by_cases true h = omega (arith, h)
-  by_cases false h = omega (arith, h)
+filter_short p xs = let both = length-filter_both p (λ x. not (p x)) (λ x. refl) xs in omega (arith, both)
 
 -- what holds of the first ones of a list
 module _ (P : Slot → Type 0) where
   all_fewer : (n m : ℕ) (xs : List Slot) → n ≤ m → All P (take m xs) → All P (take n xs)
-  all_fewer zero m xs few h = All-nil P
-  all_fewer (suc n) zero xs few h = absurd (omega (arith, few))
-  all_fewer (suc n) (suc m) [] few h = All-nil P
-  all_fewer (suc n) (suc m) (x ∷ xs) few h = All-cons P x (take n xs) (All-head P x (take m xs) h) (all_fewer n m xs (omega (arith, few)) (All-tail P x (take m xs) h))
+  all_fewer n m xs few h = subst (All P) (take-take n m xs few) (All-take P n (take m xs) h)
 
   all_prefix : (n : ℕ) (front rest other : List Slot) → n ≤ length front → All P (take n (front ++ rest)) → All P (take n (front ++ other))
-  all_prefix zero front rest other few h = All-nil P
-  all_prefix (suc n) [] rest other few h = absurd (omega (arith, few))
-  all_prefix (suc n) (x ∷ front) rest other few h = All-cons P x (take n (front ++ other)) (All-head P x (take n (front ++ rest)) h) (all_prefix n front rest other (omega (arith, few)) (All-tail P x (take n (front ++ rest)) h))
+  all_prefix n front rest other few h = subst (All P) (take-append-le n front rest few ∙ sym (take-append-le n front other few)) h
 
   all_but : (n : ℕ) (front : List Slot) (x y : Slot) (back : List Slot) → P y → All P (take n (front ++ x ∷ back)) → All P (take n (front ++ y ∷ back))
   all_but zero front x y back p h = All-nil P
@@ -167,11 +169,7 @@ module _ {R : Type 0} (c d : Inside R) (f i : ℕ) (chunk : ChunkContents) (cut 
   flown_older = subst (λ l. All Elsewhere (take c.oldest l)) cut.is kept.older
 
   pub within_list : i < length c.slots.items
-  within_list =
-      let long = length-map c.slots.items slot_of in
-      let parts = ap length cut.is ∙ length-append cut.front (flown ∷ cut.back) in
-      let at = cut.at in
-      omega (arith, long, parts, at)
+  within_list = let long = length-map c.slots.items slot_of in let all = as_long cut flown (map slot_of c.slots.items) cut.is in omega (arith, long, all.1)
 
   pub back_kept : map slot_of d.slots.items ≡ cut.front ++ slot_at Block chunk ∷ cut.back → All HoldsWhole d.slots.items → d.oldest ≤ c.oldest → d.oldest ≤ i
       → d.waiting ≡ c.waiting + 1 → d.unstored ≡ c.unstored → AreKept d
@@ -179,13 +177,8 @@ module _ {R : Type 0} (c d : Inside R) (f i : ℕ) (chunk : ChunkContents) (cut 
       let y : Slot = slot_at Block chunk in
       let at = cut.at in
       let slot = flown_slot in
-      let waits = λ (z : Slot). is_block z.place in
-      let stays = λ (z : Slot). not (is_stored z.place) in
-      let before_waits = kept.waiting ∙ ap (λ l. length (filter waits l)) cut.is ∙ count_around waits cut.front flown cut.back in
-      let after_waits = ap (λ l. length (filter waits l)) is ∙ count_around waits cut.front y cut.back in
-      let before_stays = kept.unstored ∙ ap (λ l. length (filter stays l)) cut.is ∙ count_around stays cut.front flown cut.back in
-      let after_stays = ap (λ l. length (filter stays l)) is ∙ count_around stays cut.front y cut.back in
-      let all = ap length is ∙ length-append cut.front (y ∷ cut.back) in
+      let count = passing cut y (map slot_of d.slots.items) is in
+      let all = as_long cut y (map slot_of d.slots.items) is in
       record {
         slots =
             subst AreSlots (sym is)
@@ -194,25 +187,18 @@ module _ {R : Type 0} (c d : Inside R) (f i : ℕ) (chunk : ChunkContents) (cut 
         older =
             subst (λ l. All Elsewhere (take d.oldest l)) (sym is)
             (all_prefix Elsewhere d.oldest cut.front (flown ∷ cut.back) (y ∷ cut.back) (omega (arith, at, here)) (all_fewer Elsewhere d.oldest c.oldest (cut.front ++ flown ∷ cut.back) below flown_older));
-        within = omega (arith, all, at, here);
-        waiting = omega (arith, waiting, before_waits, after_waits);
-        unstored = omega (arith, unstored, before_stays, after_stays);
+        within = omega (arith, all.1, here);
+        waiting = omega (arith, waiting, kept.waiting, count (λ z. is_block z.place));
+        unstored = omega (arith, unstored, kept.unstored, count (λ z. not (is_stored z.place)));
       }
 
   pub stored_kept : (key : List ℕ) → map slot_of d.slots.items ≡ cut.front ++ stored_at key flown ∷ cut.back → All HoldsWhole d.slots.items → d.oldest ≡ c.oldest
       → d.waiting ≡ c.waiting → d.unstored + 1 ≡ c.unstored → AreKept d
   stored_kept key is whole oldest waiting unstored =
       let y : Slot = stored_at key flown in
-      let at = cut.at in
       let slot = flown_slot in
-      let waits = λ (z : Slot). is_block z.place in
-      let stays = λ (z : Slot). not (is_stored z.place) in
-      let before_waits = kept.waiting ∙ ap (λ l. length (filter waits l)) cut.is ∙ count_around waits cut.front flown cut.back in
-      let after_waits = ap (λ l. length (filter waits l)) is ∙ count_around waits cut.front y cut.back in
-      let before_stays = kept.unstored ∙ ap (λ l. length (filter stays l)) cut.is ∙ count_around stays cut.front flown cut.back in
-      let after_stays = ap (λ l. length (filter stays l)) is ∙ count_around stays cut.front y cut.back in
-      let before_all = ap length cut.is ∙ length-append cut.front (flown ∷ cut.back) in
-      let all = ap length is ∙ length-append cut.front (y ∷ cut.back) in
+      let count = passing cut y (map slot_of d.slots.items) is in
+      let all = as_long cut y (map slot_of d.slots.items) is in
       let low = kept.within in
       record {
         slots =
@@ -220,9 +206,9 @@ module _ {R : Type 0} (c d : Inside R) (f i : ℕ) (chunk : ChunkContents) (cut 
             (slots_put flown y cut.front cut.back refl (record { some = slot.some; sealed = λ k. absurd (cc); closed = refl }) (λ g flies. absurd (cc)) (λ g flies. absurd (cc)) flown_slots);
         whole = whole;
         older = subst (λ l. All Elsewhere (take d.oldest l)) (sym is) (subst (λ n. All Elsewhere (take n (cut.front ++ y ∷ cut.back))) (sym oldest) (all_but Elsewhere c.oldest cut.front flown y cut.back refl flown_older));
-        within = omega (arith, oldest, low, before_all, all);
-        waiting = omega (arith, waiting, before_waits, after_waits);
-        unstored = omega (arith, unstored, before_stays, after_stays);
+        within = omega (arith, oldest, low, all.0);
+        waiting = omega (arith, waiting, kept.waiting, count (λ z. is_block z.place));
+        unstored = omega (arith, unstored, kept.unstored, count (λ z. not (is_stored z.place)));
       }
 
   -- one is not stored, and fewer wait than there are

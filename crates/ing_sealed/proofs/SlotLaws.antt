@@ -24,7 +24,7 @@ stream_self s = rw ((bytes_eq-Decides s.tenant s.tenant).1 refl) ((bytes_eq-Deci
 number_self : (n : ℕ) → nat_eq n n ≡ true
 number_self n = grind (arith, nat_tests)
 
-number_other : (n m : ℕ) → n ≢ m → nat_eq n m ≡ false
+pub number_other : (n m : ℕ) → n ≢ m → nat_eq n m ≡ false
 number_other n m h = grind (arith, nat_tests)
 
 and_false : (b : Bool) → (b && false) ≡ false

@@ -1,7 +1,8 @@
 use Rattle.std.proofs.Common.{sym, subst, arith}
 use Rattle.ing_rows.specs.declared.place.Place.TheVariants.{Block, Flight}
 use Rattle.ing_sealed.specs.Slots.{NoneInFlight, slot_at, put_at}
-use Rattle.ing_sealed.proofs.FlightLaws.{none_changed, other_flight}
+use Rattle.ing_sealed.proofs.FlightLaws.{none_changed}
+use Rattle.ing_sealed.proofs.SlotLaws.{number_other}
 use Rattle.ing_sealed.proofs.tests.Flights.try_claim.Goals as goal
 
 pub invariant_of-self-in_default : goal.invariant_of-self-in_default
@@ -16,5 +17,5 @@ invariant_of-self-2 c =
     record {
       below = λ f above.
           none_changed f c.in-Some.claim.index (put_at (Flight flight)) (slot_at Block c.in-Some.claim.chunk.value) c.args.self.now.sealed c.claim.new.self claimed.changes
-          (other_flight f flight (omega (arith, above))) (c.args.self.now.below f (omega (arith, above)));
+          (number_other f flight (λ same. absurd (omega (arith, same, above)))) (c.args.self.now.below f (omega (arith, above)));
     }
