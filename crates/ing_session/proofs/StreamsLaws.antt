@@ -11,50 +11,50 @@ use Rattle.ing_shard.specs.declared.fault.PushFault.TheVariants.{NoMemory, Count
 use Rattle.ing_shard.specs.Faults.{refusal_of}
 use Rattle.ing_shard.specs.Contents.{stream_of}
 use Rattle.ing_rows.specs.Events.{is_full}
-use Rattle.ing_rows.specs.Steps.{verdicts_of, after_push}
+use Rattle.ing_rows.specs.Steps.{verdicts_of}
 use Rattle.ing_session.specs.Replies.{fault_data, judged_data}
 use Rattle.ing_rows.specs.declared.rules.Rules.{Rules}
-use Rattle.ing_rows.specs.Rows.{State}
+use Rattle.ing_session.specs.Held.{Held}
 use Rattle.ing_session.specs.PushCommands.{StreamEntries}
-use Rattle.ing_session.specs.Session.{limits_of, is_too_many, stream_reply, after_stream, stream_replies, after_streams}
+use Rattle.ing_session.specs.Session.{limits_of, is_too_many, with_pushed, stream_reply, after_stream, stream_replies, after_streams}
 
 module _ (rules : Rules) (tenant : List ℕ) (now : ℕ) where
-  pub after_more : (ss : List StreamEntries) (s : StreamEntries) (st : State) → after_streams rules tenant now (ss ++ s ∷ []) st ≡ after_stream rules tenant now s (after_streams rules tenant now ss st)
-  after_more [] s st = refl
-  after_more (x ∷ ss) s st = after_more ss s (after_stream rules tenant now x st)
+  pub after_more : (ss : List StreamEntries) (s : StreamEntries) (held : Held) → after_streams rules tenant now (ss ++ s ∷ []) held ≡ after_stream rules tenant now s (after_streams rules tenant now ss held)
+  after_more [] s held = refl
+  after_more (x ∷ ss) s held = after_more ss s (after_stream rules tenant now x held)
 
-  pub replies_more : (ss : List StreamEntries) (s : StreamEntries) (st : State)
-      → stream_replies rules tenant now (ss ++ s ∷ []) st ≡ stream_replies rules tenant now ss st ++ stream_reply rules tenant now s (after_streams rules tenant now ss st) ∷ []
-  replies_more [] s st = refl
-  replies_more (x ∷ ss) s st = ap (λ l. stream_reply rules tenant now x st ∷ l) (replies_more ss s (after_stream rules tenant now x st))
+  pub replies_more : (ss : List StreamEntries) (s : StreamEntries) (held : Held)
+      → stream_replies rules tenant now (ss ++ s ∷ []) held ≡ stream_replies rules tenant now ss held ++ stream_reply rules tenant now s (after_streams rules tenant now ss held) ∷ []
+  replies_more [] s held = refl
+  replies_more (x ∷ ss) s held = ap (λ l. stream_reply rules tenant now x held ∷ l) (replies_more ss s (after_stream rules tenant now x held))
 
 -- ---- what a shard answers, as the model's reply
 
-module _ (rules : Rules) (tenant : List ℕ) (now : ℕ) (s : StreamEntries) (st : State) (labels : LabelMap) (read : labels_of (limits_of rules) s.labels ≡ Ok labels) (n : ℕ) (counted : n ≡ length s.entries) where
+module _ (rules : Rules) (tenant : List ℕ) (now : ℕ) (s : StreamEntries) (held : Held) (labels : LabelMap) (read : labels_of (limits_of rules) s.labels ≡ Ok labels) (n : ℕ) (counted : n ≡ length s.entries) where
   abbrev pub TooMany : {T : Type 0} → Result T PushFault → Type 0
   TooMany r = IsErrOf r TooManyEntries ↔ (rules.max_entries_per_push < n)
 
   abbrev pub Full : {T : Type 0} → Result T PushFault → Type 0
-  Full r = IsErrOf r CounterFull ↔ ((n ≤ rules.max_entries_per_push) × (is_full st (stream_of tenant labels) n ≡ true))
+  Full r = IsErrOf r CounterFull ↔ ((n ≤ rules.max_entries_per_push) × (is_full held.state (stream_of tenant labels) n ≡ true))
 
   few : (rules.max_entries_per_push < n → ⊥) → is_too_many rules s ≡ false
   few not_many = false_from_ne_true (is_too_many rules s) (λ is. not_many (grind (arith, nat_tests, is, counted)))
 
   -- the entries are judged
   pub judged : {T : Type 0} (x : T) → TooMany {T = T} (Ok x) → Full {T = T} (Ok x)
-      → (stream_reply rules tenant now s st ≡ judged_data (canonical_of labels) false (verdicts_of rules (stream_of tenant labels) now s.entries st))
-      × (after_stream rules tenant now s st ≡ after_push rules (stream_of tenant labels) now s.entries st)
+      → (stream_reply rules tenant now s held ≡ judged_data (canonical_of labels) false (verdicts_of rules (stream_of tenant labels) now s.entries held.state))
+      × (after_stream rules tenant now s held ≡ with_pushed rules (stream_of tenant labels) now s.entries held)
   judged x many full =
       let not_many : rules.max_entries_per_push < n → ⊥ = λ more. absurd (cc (many.1 more)) in
       let few_entries = few not_many in
       let at_most : n ≤ rules.max_entries_per_push = omega (arith, not_many) in
-      let room : is_full st (stream_of tenant labels) (length s.entries) ≡ false =
-      false_from_ne_true _ (λ is. absurd (cc (full.1 (at_most, subst (λ k. is_full st (stream_of tenant labels) k ≡ true) (sym counted) is)))) in
+      let room : is_full held.state (stream_of tenant labels) (length s.entries) ≡ false =
+      false_from_ne_true _ (λ is. absurd (cc (full.1 (at_most, subst (λ k. is_full held.state (stream_of tenant labels) k ≡ true) (sym counted) is)))) in
       rw (read, few_entries, room) (refl, refl)
 
   -- they are refused
   pub refused : {T : Type 0} (fault : PushFault) → TooMany {T = T} (Err fault) → Full {T = T} (Err fault) → fault ≢ NoMemory
-      → (stream_reply rules tenant now s st ≡ fault_data (refusal_of fault) None) × (after_stream rules tenant now s st ≡ st)
+      → (stream_reply rules tenant now s held ≡ fault_data (refusal_of fault) None) × (after_stream rules tenant now s held ≡ held)
   refused NoMemory many full other = absurd (other refl)
   refused TooManyEntries many full other =
       let more = many.0 refl in
@@ -63,7 +63,7 @@ module _ (rules : Rules) (tenant : List ℕ) (now : ℕ) (s : StreamEntries) (st
   refused CounterFull many full other =
       let is = full.0 refl in
       let few_entries = few (λ more. omega (arith, more, is.0)) in
-      let filled = subst (λ k. is_full st (stream_of tenant labels) k ≡ true) counted is.1 in
+      let filled = subst (λ k. is_full held.state (stream_of tenant labels) k ≡ true) counted is.1 in
       rw (read, few_entries, filled) (refl, refl)
 
 -- ---- results

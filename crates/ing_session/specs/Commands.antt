@@ -9,22 +9,34 @@ use Rattle.ing_session.specs.declared.command.fault.LineFault.{LineFault}
 use Rattle.ing_session.specs.declared.command.fault.LineFault.TheVariants.{BadCommand}
 use Rattle.ing_session.specs.PushCommands.{PushCommand, push_of}
 use Rattle.ing_session.specs.Shapes.{text_at}
+use Rattle.ing_session.specs.SweepCommands.{SweepCommand, sweep_of}
 
 pub data Command : Type 0 where
   Push : PushCommand → Command
+  Sweep : SweepCommand → Command
 
 abbrev pub pushed : PushCommand → Result Command LineFault
 pushed push = Ok (Push push)
+
+abbrev pub swept : SweepCommand → Result Command LineFault
+swept sweep = Ok (Sweep sweep)
 
 -- the JSON value of a line, which is UTF-8
 abbrev pub data_of : List ℕ → Result Data LineFault
 data_of line = if is_utf8 line then ok_or (json.read line) BadCommand else Err BadCommand
 
+-- what a value with this command says
+abbrev pub said_as : List ℕ → Data → Result Command LineFault
+said_as cmd d =
+    if bytes_eq cmd (codes "push") then push_of d >>= pushed
+    else if bytes_eq cmd (codes "sweep") then sweep_of d >>= swept
+    else Err BadCommand
+
 -- what a value commands, by its member `cmd`
 unfoldable pub said_by : Data → Result Command LineFault
 said_by d = do
   cmd ← text_at (codes "cmd") d
-  if bytes_eq cmd (codes "push") then push_of d >>= pushed else Err BadCommand
+  said_as cmd d
 
 -- what a line commands
 abbrev pub command_of : List ℕ → Result Command LineFault

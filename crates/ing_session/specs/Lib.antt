@@ -1,6 +1,7 @@
 pub mod Commands
 pub mod Endings
 pub mod Faults
+pub mod Held
 pub mod Lines
 pub mod Parts
 pub mod PushCommands
@@ -9,6 +10,7 @@ pub mod Runs
 pub mod Session
 pub mod Shapes
 pub mod Starting
+pub mod SweepCommands
 pub mod Unread
 pub mod Views
 pub mod Written

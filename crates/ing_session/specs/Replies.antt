@@ -43,6 +43,13 @@ judged_data name durable verdicts =
 abbrev pub push_data : List Data → Data
 push_data replies = object (member (codes "push") (array (items_of replies)) no_members)
 
+-- of a sweep: operations that it queued, and chunks that it sealed
+abbrev pub sweep_data : ℕ → ℕ → Data
+sweep_data queued sealed =
+    object (member (codes "sweep") (object (
+    member (codes "queued") (count queued) (
+    member (codes "sealed") (count sealed) no_members))) no_members)
+
 -- of a shard: entries accepted in this run, kept in memory, recovered from an earlier run, and stored
 abbrev pub shard_data : ShardReport → Data
 shard_data shard =

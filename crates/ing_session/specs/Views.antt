@@ -6,6 +6,7 @@ use Rattle.ing_session.specs.declared.command.push.StreamPush.{StreamPush}
 use Rattle.ing_session.specs.declared.command.push.texts.PushTexts.{PushTexts}
 use Rattle.ing_session.specs.declared.command.push.texts.StreamTexts.{StreamTexts}
 use Rattle.ing_session.specs.declared.command.push.texts.ValueTexts.{ValueTexts}
+use Rattle.ing_session.specs.declared.command.sweep.Sweep as sweep
 use Rattle.ing_session.specs.declared.command.Command as code
 use Rattle.ing_session.specs.declared.command.Command.TheVariants as variants
 use Rattle.ing_session.specs.declared.reply.Reply.{Reply}
@@ -14,9 +15,10 @@ use Rattle.ing_session.specs.declared.reply.StreamReply.{StreamReply}
 use Rattle.ing_session.specs.declared.reply.StreamReply.TheVariants as replies_of_streams
 use Rattle.ing_labels.specs.Canonical.{canonical_of}
 use Rattle.serde_json.specs.Data.{Data}
-use Rattle.ing_session.specs.Replies.{fault_data, judged_data, push_data, report_data}
+use Rattle.ing_session.specs.Replies.{fault_data, judged_data, push_data, sweep_data, report_data}
 use Rattle.ing_session.specs.PushCommands.{RawValue, RawStream, RawPush, PushCommand, StreamEntries}
-use Rattle.ing_session.specs.Commands.{Command, Push}
+use Rattle.ing_session.specs.SweepCommands.{SweepCommand}
+use Rattle.ing_session.specs.Commands.{Command, Push, Sweep}
 
 -- the bytes of a label and its value
 abbrev pub label_view : Bor (List ℕ) × Bor (List ℕ) → List ℕ × List ℕ
@@ -42,9 +44,14 @@ stream_view s = record { labels = map label_view s.labels.items; entries = s.ent
 abbrev pub push_view : push.Push → PushCommand
 push_view p = record { tenant = p.tenant; now = p.now; streams = map stream_view p.streams.items }
 
+-- a sweep
+abbrev pub sweep_view : sweep.Sweep → SweepCommand
+sweep_view s = record { now = s.now }
+
 -- a command
 abbrev pub command_view : code.Command → Command
 command_view (variants.Push p) = Push (push_view p)
+command_view (variants.Sweep s) = Sweep (sweep_view s)
 
 -- the reply to a stream
 abbrev pub stream_data : StreamReply → Data
@@ -55,4 +62,5 @@ stream_data (replies_of_streams.Judged labels durable verdicts) = judged_data (c
 abbrev pub reply_data : Reply → Data
 reply_data (replies.Fault refusal) = fault_data refusal None
 reply_data (replies.Push streams) = push_data (map stream_data streams.items)
+reply_data (replies.Sweep queued sealed) = sweep_data queued sealed
 reply_data (replies.Report shard) = report_data (shard ∷ [])

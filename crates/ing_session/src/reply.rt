@@ -1,6 +1,6 @@
 //! The replies, and the lines that they are written as.
 ghost use Rattle.std.specs.Prelude.{◌≡◌, ◌++◌, ◌∷◌, [], OnOk, OnErr, decimal, map};
-ghost use Rattle.ing_session.specs.Replies.{verdict_data, verdicts_data, fault_data, judged_data, push_data, shard_data, report_data, line_text, count};
+ghost use Rattle.ing_session.specs.Replies.{verdict_data, verdicts_data, fault_data, judged_data, push_data, sweep_data, shard_data, report_data, line_text, count};
 ghost use Rattle.ing_session.specs.Views.{stream_data, reply_data};
 ghost use Rattle.ing_session.specs.Written.{Adds, member_tokens, data_tokens, tokens_of_each};
 ghost use Rattle.serde_json.specs.Data.{string, object, no_members, member};
@@ -19,6 +19,8 @@ pub enum Reply {
     Fault(Refusal),
     /// One reply for each stream of a push.
     Push(Vec<StreamReply>),
+    /// How many operations a sweep queued, and how many chunks it sealed.
+    Sweep { queued: u64, sealed: u64 },
     /// What is reported of the one shard.
     Report(ShardReport),
 }
@@ -77,6 +79,7 @@ fn write_reply(out: &mut Writer, reply: &Reply) -> Result<(), AllocError>
     match reply {
         Reply::Fault(refusal) => write_fault(out, *refusal, None),
         Reply::Push(streams) => write_push(out, streams),
+        Reply::Sweep { queued, sealed } => write_sweep(out, *queued, *sealed),
         Reply::Report(shard) => write_report(out, shard),
     }
 }
@@ -230,6 +233,21 @@ fn write_quoted(out: &mut Writer, name: &str, number: u64) -> Result<(), AllocEr
     out.begin_object()?;
     out.key(name)?;
     out.quoted_u64(number)?;
+    out.end_object()?;
+    Ok(())
+}
+
+/// Writes the reply to a sweep.
+fn write_sweep(out: &mut Writer, queued: u64, sealed: u64) -> Result<(), AllocError>
+    ensures tokens { OnOk result (Adds out.old out.new (data_tokens (sweep_data queued sealed))) }
+    ensures before { out.new.before ≡ out.old.before }
+{
+    out.begin_object()?;
+    out.key("sweep")?;
+    out.begin_object()?;
+    write_count(out, "queued", queued)?;
+    write_count(out, "sealed", sealed)?;
+    out.end_object()?;
     out.end_object()?;
     Ok(())
 }

@@ -86,24 +86,24 @@ fn serve<R: Read, W: Write>(
 ) -> Result<bool, Ending>
     ensures served { IfOk result (λ more.
         (first : Option (List ℕ)) (settings : StoreSettings) (input : List ℕ) →
-        ServesKnown settings session.old.shard input first
+        ServesKnown settings session.old input first
         (with_replies (W.contents writer.old) replies.old.items) (is_ended lines.old)
         (left lines.old (R.remaining reader.old)) →
         MatchBool more
-        (ServesKnown settings session.new.shard input first
+        (ServesKnown settings session.new input first
         (with_replies (W.contents writer.new) replies.new.items) (is_ended lines.new)
         (left lines.new (R.remaining reader.new)))
         (Appends first (with_replies (W.contents writer.new) replies.new.items) (output_of settings input))) }
     ensures input_fault { IsErrOf result Ending.InputFault →
         (first : Option (List ℕ)) (settings : StoreSettings) (input : List ℕ) →
-        ServesKnown settings session.old.shard input first
+        ServesKnown settings session.old input first
         (with_replies (W.contents writer.old) replies.old.items) (is_ended lines.old)
         (left lines.old (R.remaining reader.old)) →
         AnswersWhatWasRead settings input (R.remaining reader.new) first
         (with_replies (W.contents writer.new) replies.new.items) }
     ensures no_memory { IsErrOf result Ending.NoMemory →
         (first : Option (List ℕ)) (settings : StoreSettings) (input : List ℕ) →
-        ServesKnown settings session.old.shard input first
+        ServesKnown settings session.old input first
         (with_replies (W.contents writer.old) replies.old.items) (is_ended lines.old)
         (left lines.old (R.remaining reader.old)) →
         AnswersFirstLines settings input first

@@ -8,7 +8,7 @@ use Rattle.ing_session.proofs.transport.answer_all.Given as goal
 abbrev pub invariant-loop-line : goal.invariant-loop-line
 invariant-loop-line g l =
     IfSome (g.R.Read.remaining l.fn.reader) (λ input.
-    ServesKnown l.fn.settings l.session.shard input (g.W.Write.contents l.fn.writer) (with_replies (g.W.Write.contents l.writer) l.replies.items) (is_ended l.lines) (left l.lines (g.R.Read.remaining l.reader)))
+    ServesKnown l.fn.settings l.session input (g.W.Write.contents l.fn.writer) (with_replies (g.W.Write.contents l.writer) l.replies.items) (is_ended l.lines) (left l.lines (g.R.Read.remaining l.reader)))
 
 -- each turn takes a byte or makes a read, and reads are bounded
 abbrev pub decreases-loop-line : goal.decreases-loop-line

@@ -1,0 +1,28 @@
+-- What a session holds between one line and the next.
+use Rattle.std.specs.Prelude.{◌≡◌, ℕ, List, []}
+use Rattle.ing_rows.specs.Rows.{StreamKey, State, empty_state}
+use Rattle.ing_shard.specs.declared.due.Op.{Op}
+use Rattle.ing_shard.specs.Contents.{Stands}
+use Rattle.ing_session.specs.declared.session.Session.{Session}
+
+-- the streams of the shard in the order of their numbers, its rows and marks, and the operations that its sweeps have
+-- listed, the oldest first
+pub record Held : Type 0 where
+  pub listed : List StreamKey
+  pub state : State
+  pub ops : List Op
+
+-- before the first line
+abbrev pub nothing_held : Held
+nothing_held = record { listed = []; state = empty_state; ops = [] }
+
+-- the number of the one shard
+abbrev pub shard_number : ℕ
+shard_number = 0
+
+-- the session holds this, its rows and marks in whatever order
+pub record IsHeld (session : Session) (held : Held) : Type 0 where
+  pub number : session.shard.number ≡ shard_number
+  pub listed : session.shard.listed ≡ held.listed
+  pub state : Stands session.shard held.state
+  pub ops : session.ops.items ≡ held.ops
