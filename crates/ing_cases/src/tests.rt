@@ -16,6 +16,11 @@ const REPLY: &str =
 
 const REPORT: &str = "{\"report\":[{\"accepted\":2,\"kept\":2,\"recovered\":0,\"stored\":0}]}\n";
 
+/// A sweep at which both chunks are due.
+const SWEEP: &str = "{\"cmd\":\"sweep\",\"now\":\"9000000000000000000\"}\n";
+
+const SWEPT: &str = "{\"sweep\":{\"queued\":2,\"sealed\":2}}\n";
+
 const BAD_COMMAND: &str = "{\"error\":\"BadCommand\",\"number\":33}\n";
 
 fn defaults(rt: &HostRuntime) -> Result<Settings, Fail> {
@@ -297,7 +302,7 @@ fn a_refused_allocation_ends_the_run_and_the_next_is_whole(rt: HostRuntime) -> R
             Ok(settings) => settings,
             Err(_) => defaults(&rt)?,
         };
-        let mut reader = PUSHES.as_bytes();
+        let mut reader = PUSHES.as_bytes().chain(SWEEP.as_bytes());
         let mut writer = room.as_mut_slice();
         match run(rt.alloc(), &mut reader, &mut writer, settings) {
             Ok(()) => break,
@@ -308,6 +313,8 @@ fn a_refused_allocation_ends_the_run_and_the_next_is_whole(rt: HostRuntime) -> R
     assert_eq!(rt; first, REPLY.as_bytes());
     let (second, others) = others.split_at(REPLY.len());
     assert_eq!(rt; second, REPLY.as_bytes());
+    let (third, others) = others.split_at(SWEPT.len());
+    assert_eq!(rt; third, SWEPT.as_bytes());
     assert!(rt; others.starts_with(REPORT.as_bytes()));
     Ok(())
 }
