@@ -3,5 +3,5 @@ mod FlightLaws
 mod JoinLaws
 mod KeptLaws
 mod ListingLaws
-mod PutLaws
+pub mod PutLaws
 mod SlotLaws
