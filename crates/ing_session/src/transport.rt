@@ -81,7 +81,7 @@ fn serve<R: Read, W: Write>(
     writer: &mut W,
     lines: &mut Lines,
     line: &mut Vec<u8>,
-    session: &mut Session,
+    session: &mut Session<'_>,
     replies: &mut Vec<u8>,
 ) -> Result<bool, Ending>
     ensures served { IfOk result (λ more.

@@ -1,13 +1,15 @@
 -- One stream of the list has changed: what is kept beside the streams can be changed with it.
-use Rattle.std.proofs.Common.{◌≡◌, ℕ, ◌+◌, ◌^◌, ◌<◌, ◌≤◌, List, [], ◌∷◌, ◌++◌, length, get_or, set, suc, take, drop, true, Some, cond, nat_lt, ap, sym, ◌∙◌, subst, arith, append-nil}
+use Rattle.std.proofs.Common.{◌≡◌, ℕ, ◌+◌, ◌^◌, ◌<◌, ◌≤◌, List, [], ◌∷◌, ◌++◌, length, get_or, set, suc, take, drop, true, Some, cond, nat_lt, refl, ap, sym, ◌∙◌, subst, arith, append-nil}
 use Rattle.std.specs.Prelude.{All, bytes_eq, sum_by}
 use Rattle.std.proofs.Math.Seq.{drop-cons, get_or-append_seam, set-append_seam}
 use Rattle.std.proofs.lemmas.List.{length-take-le, take-append-drop}
 use Rattle.std.proofs.lemmas.List.Elements.{All-append, All-cons, All-nil}
-use Rattle.ing_rows.specs.Rows.{StreamKey, empty_state}
+use Rattle.ing_rows.specs.Rows.{StreamKey, empty_state, is_stored}
+use Rattle.ing_stream.specs.Sums.{gauge_at}
+use Rattle.ing_stream.proofs.GaugeLaws.{gauge_claimed}
 use Rattle.ing_rows.specs.declared.rules.Rules.{Rules}
 use Rattle.ing_shard.specs.declared.sealing.Sealing.{Sealing}
-use Rattle.ing_shard.specs.declared.stream.Stream.{Stream}
+use Rattle.ing_shard.specs.OneStream.{Stream}
 use Rattle.ing_shard.specs.Sealing.{IsSealed}
 use Rattle.ing_shard.specs.declared.streams.Streams.{Streams}
 use Rattle.ing_shard.specs.Streams.{key_of, part_of, position_of, AreDistinct, IsKept, AreHeld, measure_of, measures_of}
@@ -17,6 +19,13 @@ use Rattle.ing_shard.proofs.PositionLaws.{position_splits, splits_read}
 use Rattle.ing_shard.proofs.SumLaws.{sum_split, within}
 use Rattle.ing_shard.proofs.TakeLaws.{sums_fit, changed_own}
 use Rattle.ing_shard.proofs.WholeLaws.{AreOthers}
+
+-- what is stored of a stream is told by the chunks that were claimed
+stored_of : (st : Stream) → (measure_of st).stored_entries ≡ (gauge_at is_stored st.chunks.sealed).entries
+stored_of st = ap (λ g. g.entries) (gauge_claimed is_stored refl refl (key_of st) st.chunks.memory st.chunks.sealed)
+
+pub stored_same : (st now : Stream) → now.chunks.sealed ≡ st.chunks.sealed → (measure_of now).stored_entries ≡ (measure_of st).stored_entries
+stored_same st now same = stored_of now ∙ ap (λ xs. (gauge_at is_stored xs).entries) same ∙ sym (stored_of st)
 
 -- the list around a stream that is read there
 pub record Around (sts : List Stream) (i : ℕ) (st : Stream) : Type 0 where
@@ -56,7 +65,7 @@ module _ (sts front : List Stream) (st : Stream) (back : List Stream) (i : ℕ) 
   pub written_there : (new : Stream) → set sts i new ≡ front ++ new ∷ back
   written_there new = (λ j. set (is j) (sym at j) new) ∙ set-append_seam front st back new
 
-module _ (old : Streams) (front : List Stream) (st : Stream) (back : List Stream) (held : AreHeld old) (was : old.list.items ≡ front ++ st ∷ back) where
+module _ {R : Type 0} (old : Streams R) (front : List Stream) (st : Stream) (back : List Stream) (held : AreHeld old) (was : old.list.items ≡ front ++ st ∷ back) where
   sums_here : kept_of old.tenants st.tenant ≡ measures_of st.tenant (front ++ st ∷ back)
   sums_here = held.sums st.tenant ∙ ap (measures_of st.tenant) was
 
@@ -69,22 +78,23 @@ module _ (old : Streams) (front : List Stream) (st : Stream) (back : List Stream
   pub within_here : IsWithin (measure_of st) (kept_of old.tenants st.tenant)
   within_here = subst (IsWithin (measure_of st)) (sym sums_here) (within front st back)
 
-  pub fits_here : (now : Stream) → IsKept now → now.tenant ≡ st.tenant → sum_by (λ o. o.chunks.next) (front ++ now ∷ back) ≤ 2 ^ 62 → Fits (changed (kept_of old.tenants st.tenant) (measure_of st) (measure_of now))
+  pub fits_here : (now : Stream) → IsKept now → now.tenant ≡ st.tenant → sum_by (λ o. o.chunks.memory.next) (front ++ now ∷ back) ≤ 2 ^ 62 → Fits (changed (kept_of old.tenants st.tenant) (measure_of st) (measure_of now))
   fits_here now kept tenant few =
       subst Fits (sym (ap (λ k. changed k (measure_of st) (measure_of now)) sums_here ∙ sym (changed_own front st now back tenant)))
       (sums_fit st.tenant (front ++ now ∷ back) (replaced IsKept front st now back (subst (All IsKept) was held.kept) kept) few)
 
   -- its growing chunk is sealed, and its tenant's sums are changed
-  pub sealed_here : (new : Streams) (which : Sealing) (rules : Rules) (now : Stream) → new.list.items ≡ front ++ now ∷ back → IsKept now → IsSealed which rules st now
+  pub sealed_here : (new : Streams R) (which : Sealing) (rules : Rules) (now : Stream) → new.list.items ≡ front ++ now ∷ back → IsKept now → IsSealed which rules st now
       → ((t n : List ℕ) → find_of new.tenants t n ≡ find_of old.tenants t n)
       → ((t : List ℕ) → is_known new.tenants t ≡ is_known old.tenants t)
       → ((t : List ℕ) → kept_of new.tenants t ≡ cond (bytes_eq st.tenant t) (changed (kept_of old.tenants st.tenant) (measure_of st) (measure_of now)) (kept_of old.tenants t))
-      → new.entries ≡ old.entries → new.active ≡ old.active → AreHeld new
-  sealed_here new which rules now is kept sealed find known sums entries active =
+      → new.entries ≡ old.entries → new.stored ≡ old.stored → new.active ≡ old.active → AreHeld new
+  sealed_here new which rules now is kept sealed find known sums entries stored active =
       let next = sealed.next in
       let few = held.few in
       held_changed old new front st now back held was is kept sealed.tenant sealed.labels find known sums
       (omega (arith, entries, next))
+      (let same = stored_same st now sealed.claimed in omega (arith, stored, same))
       (λ i. active i + cond (nat_lt 0 (sym next i)) 1 0)
       (omega (arith, entries, few))
 
@@ -93,25 +103,25 @@ module _ (old : Streams) (front : List Stream) (st : Stream) (back : List Stream
   sealed_fits which rules now kept sealed =
       let next = sealed.next in
       let few = held.few in
-      let before = held.entries ∙ ap (sum_by (λ o. o.chunks.next)) was ∙ sum_split (λ o. o.chunks.next) front st back in
-      let after = sum_split (λ (o : Stream). o.chunks.next) front now back in
+      let before = held.entries ∙ ap (sum_by (λ o. o.chunks.memory.next)) was ∙ sum_split (λ o. o.chunks.memory.next) front st back in
+      let after = sum_split (λ (o : Stream). o.chunks.memory.next) front now back in
       fits_here now kept sealed.tenant (omega (arith, next, few, before, after))
 
 -- a stream that was not listed begins with its first entries: it stands for the one without entries
-module _ (old : Streams) (st now : Stream) (held : AreHeld old) (next : st.chunks.next ≡ 0) (none : part_of st ≡ empty_state) (tenant : now.tenant ≡ st.tenant) where
+module _ {R : Type 0} (old : Streams R) (st now : Stream) (held : AreHeld old) (next : st.chunks.memory.next ≡ 0) (none : part_of st ≡ empty_state) (tenant : now.tenant ≡ st.tenant) where
   abbrev items : List Stream
   items = old.list.items
 
   begun_sums : changed (kept_of old.tenants st.tenant) (measure_of st) (measure_of now) ≡ measures_of st.tenant (items ++ now ∷ [])
   begun_sums =
-      ap (λ k. changed k (measure_of st) (measure_of now)) (held.sums st.tenant ∙ measures_more st.tenant items st (measures_nothing st none next))
+      ap (λ k. changed k (measure_of st) (measure_of now)) (held.sums st.tenant ∙ measures_more st.tenant items st (measures_nothing st none))
       ∙ sym (changed_own items st now [] tenant)
 
-  pub begun_fits : IsKept now → old.entries + now.chunks.next ≤ 2 ^ 62 → Fits (changed (kept_of old.tenants st.tenant) (measure_of st) (measure_of now))
+  pub begun_fits : IsKept now → old.entries + now.chunks.memory.next ≤ 2 ^ 62 → Fits (changed (kept_of old.tenants st.tenant) (measure_of st) (measure_of now))
   begun_fits kept few =
       let before = held.entries in
-      let after : ◌≡◌ {A = ℕ} (sum_by (λ (o : Stream). o.chunks.next) (items ++ now ∷ [])) (sum_by (λ o. o.chunks.next) (items ++ []) + now.chunks.next) =
-      sum_split (λ (o : Stream). o.chunks.next) items now [] ∙ omega arith in
-      let all = ap (sum_by (λ (o : Stream). o.chunks.next)) (append-nil items) in
+      let after : ◌≡◌ {A = ℕ} (sum_by (λ (o : Stream). o.chunks.memory.next) (items ++ now ∷ [])) (sum_by (λ o. o.chunks.memory.next) (items ++ []) + now.chunks.memory.next) =
+      sum_split (λ (o : Stream). o.chunks.memory.next) items now [] ∙ omega arith in
+      let all = ap (sum_by (λ (o : Stream). o.chunks.memory.next)) (append-nil items) in
       subst Fits (sym begun_sums)
       (sums_fit st.tenant (items ++ now ∷ []) (All-append IsKept items (now ∷ []) held.kept (All-cons IsKept now [] kept (All-nil IsKept))) (omega (arith, before, after, all, few)))

@@ -1,16 +1,17 @@
 -- Counts and sums over a shard's rows, stream by stream.
 use Rattle.std.proofs.Common.{◌≡◌, ◌≤◌, ℕ, ◌+◌, Bool, List, [], ◌∷◌, ◌++◌, length, cond, true, false, ◌&&◌, ◌==◌, nat_lt, refl, ap, sym, ◌∙◌, arith, filter}
 use Rattle.std.specs.Prelude.{All, IsPermutation, bytes_eq, sum_by}
-use Rattle.std.proofs.lemmas.List.Elements.{All-cons, All-head, All-nil, All-tail, All-weaker, filter-append}
+use Rattle.std.proofs.lemmas.List.Elements.{All-cons, All-head, All-nil, All-tail, filter-append}
 use Rattle.std.proofs.lemmas.List.{length-append}
 use Rattle.std.proofs.lemmas.List.Sums.{length-filter, sum_by-append}
 use Rattle.std.proofs.lemmas.List.Sorted.{sum_by-IsPermutation}
 use Rattle.std.proofs.lemmas.Slice.Eq.{bytes_eq-Decides}
 use Rattle.ing_rows.specs.declared.place.Place.{Place}
-use Rattle.ing_rows.specs.Rows.{StreamKey, Row, same_stream, size_of}
+use Rattle.ing_rows.specs.Rows.{StreamKey, Row, is_stored, same_stream, size_of}
+use Rattle.ing_shard.specs.Contents.{stored_count}
 use Rattle.ing_rows.specs.Gauges.{gauge_of}
-use Rattle.ing_shard.specs.declared.stream.Stream.{Stream}
-use Rattle.ing_shard.specs.Streams.{key_of, part_of, whole, IsKept, measure_of, sum_of}
+use Rattle.ing_shard.specs.OneStream.{Stream}
+use Rattle.ing_shard.specs.Streams.{key_of, part_of, whole, IsKept, measure_of}
 use Rattle.ing_shard.proofs.Parts.{all_rows}
 
 -- ---- tests that agree on the rows
@@ -51,20 +52,20 @@ same_self s = ap (λ b. b && bytes_eq s.name s.name) ((bytes_eq-Decides s.tenant
 -- ---- one stream's rows
 
 -- how many it has
-pub part_count : (st : Stream) → IsKept st → length (part_of st).rows ≡ st.chunks.next
+pub part_count : (st : Stream) → IsKept st → length (part_of st).rows ≡ st.chunks.memory.next
 part_count st kept =
     let s = key_of st in
     ap length (sym (filter_true (part_of st).rows)
-    ∙ filter_eq (λ r. true) (λ r. same_stream r.stream s) (part_of st).rows (all_rows s (λ r. true ≡ same_stream r.stream s) (λ first block e. sym (same_self s)) (λ first block e. sym (same_self s)) st.chunks))
+    ∙ filter_eq (λ r. true) (λ r. same_stream r.stream s) (part_of st).rows (all_rows s (λ r. true ≡ same_stream r.stream s) (λ first block place e. sym (same_self s)) st.chunks))
     ∙ ap (λ f. f.count) kept.facts
 
 -- how many have number 0
-pub part_first : (st : Stream) → IsKept st → length (filter (λ r. r.number == 0) (part_of st).rows) ≡ cond (nat_lt 0 st.chunks.next) 1 0
+pub part_first : (st : Stream) → IsKept st → length (filter (λ r. r.number == 0) (part_of st).rows) ≡ cond (nat_lt 0 st.chunks.memory.next) 1 0
 part_first st kept =
     let s = key_of st in
     let here : (b : Bool) → b ≡ (same_stream s s && b) = λ b. ap (λ x. x && b) (sym (same_self s)) in
     ap length (filter_eq (λ r. r.number == 0) (λ r. same_stream r.stream s && (r.number == 0)) (part_of st).rows
-    (all_rows s (λ r. (r.number == 0) ≡ (same_stream r.stream s && (r.number == 0))) (λ first block e. here (e.number == 0)) (λ first block e. here (e.number == 0)) st.chunks))
+    (all_rows s (λ r. (r.number == 0) ≡ (same_stream r.stream s && (r.number == 0))) (λ first block place e. here (e.number == 0)) st.chunks))
     ∙ kept.sound.once s 0
     ∙ ap (λ f. cond (nat_lt 0 f.count) 1 0) kept.facts
 
@@ -72,7 +73,7 @@ part_first st kept =
 part_under : (st : Stream) (t : List ℕ) (p : Row → Bool) → filter (λ r. bytes_eq r.stream.tenant t && p r) (part_of st).rows ≡ cond (bytes_eq st.tenant t) (filter p (part_of st).rows) []
 part_under st t p =
     filter_eq (λ r. bytes_eq r.stream.tenant t && p r) (λ r. bytes_eq st.tenant t && p r) (part_of st).rows
-    (all_rows (key_of st) (λ r. (bytes_eq r.stream.tenant t && p r) ≡ (bytes_eq st.tenant t && p r)) (λ first block e. refl) (λ first block e. refl) st.chunks)
+    (all_rows (key_of st) (λ r. (bytes_eq r.stream.tenant t && p r) ≡ (bytes_eq st.tenant t && p r)) (λ first block place e. refl) st.chunks)
     ∙ filter_under (bytes_eq st.tenant t) p (part_of st).rows
 
 -- ---- all streams' rows
@@ -110,33 +111,25 @@ tenant_sum t p f g (st ∷ sts) each =
     ∙ sym (chosen_sum b g st left)
 
 -- how many rows there are
-pub rows_total : (sts : List Stream) → All IsKept sts → length (whole sts).rows ≡ sum_by (λ st. st.chunks.next) sts
+pub rows_total : (sts : List Stream) → All IsKept sts → length (whole sts).rows ≡ sum_by (λ st. st.chunks.memory.next) sts
 rows_total [] kept = refl
 rows_total (st ∷ sts) kept =
     length-append (part_of st).rows (whole sts).rows
     ∙ (λ i. part_count st (All-head IsKept st sts kept) i + rows_total sts (All-tail IsKept st sts kept) i)
-    ∙ sym (sum_cons (λ o. o.chunks.next) st sts)
+    ∙ sym (sum_cons (λ o. o.chunks.memory.next) st sts)
 
 chosen_length : (b : Bool) (st : Stream) (sts : List Stream) → length (cond b (st ∷ sts) sts) ≡ cond b 1 0 + length sts
 chosen_length true st sts = omega arith
 chosen_length false st sts = omega arith
 
 -- how many streams have an entry
-pub streams_total : (sts : List Stream) → All IsKept sts → length (filter (λ r. r.number == 0) (whole sts).rows) ≡ length (filter (λ st. nat_lt 0 st.chunks.next) sts)
+pub streams_total : (sts : List Stream) → All IsKept sts → length (filter (λ r. r.number == 0) (whole sts).rows) ≡ length (filter (λ st. nat_lt 0 st.chunks.memory.next) sts)
 streams_total [] kept = refl
 streams_total (st ∷ sts) kept =
     ap length (filter-append (λ r. r.number == 0) (part_of st).rows (whole sts).rows)
     ∙ length-append (filter (λ r. r.number == 0) (part_of st).rows) (filter (λ r. r.number == 0) (whole sts).rows)
     ∙ (λ i. part_first st (All-head IsKept st sts kept) i + streams_total sts (All-tail IsKept st sts kept) i)
-    ∙ sym (chosen_length (nat_lt 0 st.chunks.next) st (filter (λ o. nat_lt 0 o.chunks.next) sts))
-
--- how many of a tenant's streams are live
-pub live_total : (t : List ℕ) (sts : List Stream) → All IsKept sts → length (filter (λ r. bytes_eq r.stream.tenant t && (r.number == 0)) (whole sts).rows) ≡ sum_of (λ k. k.live) t sts
-live_total t sts kept =
-    length_sum (filter (λ (r : Row). bytes_eq r.stream.tenant t && (r.number == 0)) (whole sts).rows)
-    ∙ tenant_sum t (λ r. r.number == 0) (λ r. 1) (λ st. (measure_of st).live) sts
-    (All-weaker IsKept (λ st. sum_by (λ r. 1) (filter (λ r. r.number == 0) (part_of st).rows) ≡ (measure_of st).live)
-    (λ st k. sym (length_sum (filter (λ (r : Row). r.number == 0) (part_of st).rows)) ∙ part_first st k) sts kept)
+    ∙ sym (chosen_length (nat_lt 0 st.chunks.memory.next) st (filter (λ o. nat_lt 0 o.chunks.memory.next) sts))
 
 own_rows : (st : Stream) (p : Row → Bool) → filter (λ r. bytes_eq r.stream.tenant st.tenant && p r) (part_of st).rows ≡ filter p (part_of st).rows
 own_rows st p = part_under st st.tenant p ∙ ap (λ b. cond b (filter p (part_of st).rows) []) ((bytes_eq-Decides st.tenant st.tenant).1 refl)
@@ -160,3 +153,12 @@ bytes_total at g is t sts =
     tenant_sum t (λ r. at r.place) (λ r. size_of r.entry) g sts
     (each_of (λ st. sum_by (λ r. size_of r.entry) (filter (λ r. at r.place) (part_of st).rows) ≡ g st)
     (λ st. ap (sum_by (λ r. size_of r.entry)) (sym (own_rows st (λ r. at r.place))) ∙ sym (is st)) sts)
+
+-- how many entries are stored
+pub stored_total : (sts : List Stream) → stored_count (whole sts).rows ≡ sum_by (λ st. (measure_of st).stored_entries) sts
+stored_total [] = refl
+stored_total (st ∷ sts) =
+    ap length (filter-append (λ (r : Row). is_stored r.place) (part_of st).rows (whole sts).rows)
+    ∙ length-append (filter (λ (r : Row). is_stored r.place) (part_of st).rows) (filter (λ (r : Row). is_stored r.place) (whole sts).rows)
+    ∙ (λ i. length (sym (own_rows st (λ r. is_stored r.place)) i) + stored_total sts i)
+    ∙ sym (sum_cons (λ (o : Stream). (measure_of o).stored_entries) st sts)

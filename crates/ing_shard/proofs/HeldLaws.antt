@@ -1,12 +1,13 @@
 -- What is held beside the streams, after one more is listed and after one has changed.
-use Rattle.std.proofs.Common.{◌≡◌, ℕ, ◌+◌, ◌^◌, ◌≤◌, Bool, List, [], ◌∷◌, ◌++◌, length, cond, true, false, ◌&&◌, nat_lt, Some, None, ap, sym, ◌∙◌, subst, arith, filter, append-nil}
+use Rattle.std.proofs.Common.{◌≡◌, ℕ, ◌+◌, ◌^◌, ◌≤◌, Bool, List, [], ◌∷◌, ◌++◌, length, cond, true, false, not, ◌&&◌, nat_lt, Some, None, ap, sym, ◌∙◌, subst, arith, filter, append-nil}
 use Rattle.std.specs.Prelude.{All, bytes_eq, sum_by}
+use Rattle.std.specs.List.{list_any}
 use Rattle.std.proofs.lemmas.List.Elements.{All-append, All-cons, All-head, All-nil, All-tail, All-weaker}
 use Rattle.ing_labels.specs.Canonical.{canonical_of}
-use Rattle.ing_rows.specs.Rows.{empty_state, is_head, is_block, same_stream}
+use Rattle.ing_rows.specs.Rows.{Row, empty_state, is_head, is_block, is_in_flight, is_stored, same_stream}
 use Rattle.ing_rows.specs.Gauges.{gauge_of}
 use Rattle.ing_rows.specs.Turns.{beside}
-use Rattle.ing_shard.specs.declared.stream.Stream.{Stream}
+use Rattle.ing_shard.specs.OneStream.{Stream}
 use Rattle.ing_shard.specs.declared.streams.Streams.{Streams}
 use Rattle.ing_shard.specs.declared.tenants.TenantKept.{TenantKept}
 use Rattle.ing_shard.specs.Tenants.{find_of, is_known, kept_of, changed, nothing_kept}
@@ -20,13 +21,17 @@ pub whole_more : (sts : List Stream) (st : Stream) → part_of st ≡ empty_stat
 whole_more [] st none = ap (λ p. beside p empty_state) none
 whole_more (f ∷ sts) st none = ap (beside (part_of f)) (whole_more sts st none)
 
-pub measures_nothing : (st : Stream) → part_of st ≡ empty_state → st.chunks.next ≡ 0 → measure_of st ≡ nothing_kept
-measures_nothing st none next = λ i. record {
-  live = cond (nat_lt 0 (next i)) 1 0;
+pub measures_nothing : (st : Stream) → part_of st ≡ empty_state → measure_of st ≡ nothing_kept
+measures_nothing st none = λ i. record {
+  live = cond (list_any (λ (r : Row). not (is_stored r.place)) (none i).rows) 1 0;
   head_entries = (gauge_of is_head (none i).rows st.tenant).entries;
   head_bytes = (gauge_of is_head (none i).rows st.tenant).bytes;
   block_entries = (gauge_of is_block (none i).rows st.tenant).entries;
   block_bytes = (gauge_of is_block (none i).rows st.tenant).bytes;
+  flight_entries = (gauge_of is_in_flight (none i).rows st.tenant).entries;
+  flight_bytes = (gauge_of is_in_flight (none i).rows st.tenant).bytes;
+  stored_entries = (gauge_of is_stored (none i).rows st.tenant).entries;
+  stored_bytes = (gauge_of is_stored (none i).rows st.tenant).bytes;
 }
 
 none_more : (b : Bool) (n r : ℕ) → n ≡ 0 → r ≡ cond b n 0 + r
@@ -46,27 +51,35 @@ measures_more t sts st none = λ i. record {
   head_bytes = sum_more (λ k. k.head_bytes) t sts st (ap (λ k. k.head_bytes) none) i;
   block_entries = sum_more (λ k. k.block_entries) t sts st (ap (λ k. k.block_entries) none) i;
   block_bytes = sum_more (λ k. k.block_bytes) t sts st (ap (λ k. k.block_bytes) none) i;
+  flight_entries = sum_more (λ k. k.flight_entries) t sts st (ap (λ k. k.flight_entries) none) i;
+  flight_bytes = sum_more (λ k. k.flight_bytes) t sts st (ap (λ k. k.flight_bytes) none) i;
+  stored_entries = sum_more (λ k. k.stored_entries) t sts st (ap (λ k. k.stored_entries) none) i;
+  stored_bytes = sum_more (λ k. k.stored_bytes) t sts st (ap (λ k. k.stored_bytes) none) i;
 }
 
-pub held_more : (old new : Streams) (st : Stream) → AreHeld old → new.list.items ≡ old.list.items ++ st ∷ [] → IsKept st → st.chunks.next ≡ 0 → part_of st ≡ empty_state
+pub held_more : {R : Type 0} (old new : Streams R) (st : Stream) → AreHeld old → new.list.items ≡ old.list.items ++ st ∷ [] → IsKept st → st.chunks.memory.next ≡ 0 → part_of st ≡ empty_state
     → position_of (key_of st) old.list.items ≡ None
     → ((t n : List ℕ) → find_of new.tenants t n ≡ cond (bytes_eq st.tenant t && bytes_eq (canonical_of st.labels) n) (Some (length old.list.items)) (find_of old.tenants t n))
     → is_known new.tenants st.tenant ≡ true
     → ((t : List ℕ) → is_known old.tenants t ≡ true → is_known new.tenants t ≡ true)
     → ((t : List ℕ) → kept_of new.tenants t ≡ kept_of old.tenants t)
-    → new.entries ≡ old.entries → new.active ≡ old.active → AreHeld new
-held_more old new st held is kept next none absent find known stay same entries active =
+    → new.entries ≡ old.entries → new.stored ≡ old.stored → new.active ≡ old.active → AreHeld new
+held_more old new st held is kept next none absent find known stay same entries stored active =
     let sts = old.list.items in
     let s = key_of st in
     let others = none_others s sts absent in
     let Known : Stream → Type 0 = λ o. is_known new.tenants o.tenant ≡ true in
-    let nothing = measures_nothing st none next in
-    let next_sum : ◌≡◌ {A = ℕ} old.entries (sum_by (λ o. o.chunks.next) (sts ++ st ∷ [])) =
-    held.entries ∙ none_more true st.chunks.next (sum_by (λ o. o.chunks.next) sts) next
-    ∙ ap (λ l. st.chunks.next + sum_by (λ o. o.chunks.next) l) (sym (append-nil sts)) ∙ sym (sum_split (λ o. o.chunks.next) sts st []) in
-    let counted : ◌≡◌ {A = ℕ} old.active (length (filter (λ o. nat_lt 0 o.chunks.next) (sts ++ st ∷ []))) =
-    held.active ∙ none_more true (cond (nat_lt 0 st.chunks.next) 1 0) (length (filter (λ o. nat_lt 0 o.chunks.next) sts)) (ap (λ n. cond (nat_lt 0 n) 1 0) next)
-    ∙ ap (λ l. cond (nat_lt 0 st.chunks.next) 1 0 + length (filter (λ o. nat_lt 0 o.chunks.next) l)) (sym (append-nil sts)) ∙ sym (count_split (λ o. nat_lt 0 o.chunks.next) sts st []) in
+    let nothing = measures_nothing st none in
+    let next_sum : ◌≡◌ {A = ℕ} old.entries (sum_by (λ o. o.chunks.memory.next) (sts ++ st ∷ [])) =
+    held.entries ∙ none_more true st.chunks.memory.next (sum_by (λ o. o.chunks.memory.next) sts) next
+    ∙ ap (λ l. st.chunks.memory.next + sum_by (λ o. o.chunks.memory.next) l) (sym (append-nil sts)) ∙ sym (sum_split (λ o. o.chunks.memory.next) sts st []) in
+    let counted : ◌≡◌ {A = ℕ} old.active (length (filter (λ o. nat_lt 0 o.chunks.memory.next) (sts ++ st ∷ []))) =
+    held.active ∙ none_more true (cond (nat_lt 0 st.chunks.memory.next) 1 0) (length (filter (λ o. nat_lt 0 o.chunks.memory.next) sts)) (ap (λ n. cond (nat_lt 0 n) 1 0) next)
+    ∙ ap (λ l. cond (nat_lt 0 st.chunks.memory.next) 1 0 + length (filter (λ o. nat_lt 0 o.chunks.memory.next) l)) (sym (append-nil sts)) ∙ sym (count_split (λ o. nat_lt 0 o.chunks.memory.next) sts st []) in
+    let empty = ap (λ k. k.stored_entries) nothing in
+    let stored_sum : ◌≡◌ {A = ℕ} old.stored (sum_by (λ o. (measure_of o).stored_entries) (sts ++ st ∷ [])) =
+    held.stored ∙ none_more true (measure_of st).stored_entries (sum_by (λ o. (measure_of o).stored_entries) sts) empty
+    ∙ ap (λ l. (measure_of st).stored_entries + sum_by (λ o. (measure_of o).stored_entries) l) (sym (append-nil sts)) ∙ sym (sum_split (λ o. (measure_of o).stored_entries) sts st []) in
     let bound = held.few in
     record {
       kept = subst (All IsKept) (sym is) (All-append IsKept sts (st ∷ []) held.kept (All-cons IsKept st [] kept (All-nil IsKept)));
@@ -74,8 +87,9 @@ held_more old new st held is kept next none absent find known stay same entries 
       found = λ k. find k.tenant k.name ∙ ap (cond (same_stream s k) (Some (length sts))) (held.found k) ∙ sym (position_more sts st others k) ∙ ap (position_of k) (sym is);
       known = subst (All Known) (sym is) (All-append Known sts (st ∷ []) (All-weaker (λ (o : Stream). is_known old.tenants o.tenant ≡ true) Known (λ o. stay o.tenant) sts held.known) (All-cons Known st [] known (All-nil Known)));
       sums = λ t. same t ∙ held.sums t ∙ measures_more t sts st nothing ∙ ap (measures_of t) (sym is);
-      entries = entries ∙ next_sum ∙ ap (sum_by (λ o. o.chunks.next)) (sym is);
-      active = active ∙ counted ∙ ap (λ l. length (filter (λ o. nat_lt 0 o.chunks.next) l)) (sym is);
+      entries = entries ∙ next_sum ∙ ap (sum_by (λ o. o.chunks.memory.next)) (sym is);
+      stored = stored ∙ stored_sum ∙ ap (sum_by (λ o. (measure_of o).stored_entries)) (sym is);
+      active = active ∙ counted ∙ ap (λ l. length (filter (λ o. nat_lt 0 o.chunks.memory.next) l)) (sym is);
       few = omega (arith, entries, bound);
     }
 
@@ -89,26 +103,31 @@ pub middle : (P : Stream → Type 0) (front : List Stream) (st : Stream) (back :
 middle P [] st back h = All-head P st back h
 middle P (f ∷ front) st back h = middle P front st back (All-tail P f (front ++ st ∷ back) h)
 
-pub held_changed : (old new : Streams) (front : List Stream) (st now : Stream) (back : List Stream) → AreHeld old
+pub held_changed : {R : Type 0} (old new : Streams R) (front : List Stream) (st now : Stream) (back : List Stream) → AreHeld old
     → old.list.items ≡ front ++ st ∷ back → new.list.items ≡ front ++ now ∷ back → IsKept now → now.tenant ≡ st.tenant → now.labels ≡ st.labels
     → ((t n : List ℕ) → find_of new.tenants t n ≡ find_of old.tenants t n)
     → ((t : List ℕ) → is_known new.tenants t ≡ is_known old.tenants t)
     → ((t : List ℕ) → kept_of new.tenants t ≡ cond (bytes_eq st.tenant t) (changed (kept_of old.tenants st.tenant) (measure_of st) (measure_of now)) (kept_of old.tenants t))
-    → new.entries + st.chunks.next ≡ old.entries + now.chunks.next
-    → new.active + cond (nat_lt 0 st.chunks.next) 1 0 ≡ old.active + cond (nat_lt 0 now.chunks.next) 1 0
+    → new.entries + st.chunks.memory.next ≡ old.entries + now.chunks.memory.next
+    → new.stored + (measure_of st).stored_entries ≡ old.stored + (measure_of now).stored_entries
+    → new.active + cond (nat_lt 0 st.chunks.memory.next) 1 0 ≡ old.active + cond (nat_lt 0 now.chunks.memory.next) 1 0
     → new.entries ≤ 2 ^ 62 → AreHeld new
-held_changed old new front st now back held was is kept tenant labels find known sums entries active few =
+held_changed old new front st now back held was is kept tenant labels find known sums entries stored active few =
     let key : key_of now ≡ key_of st = λ i. record { tenant = tenant i; name = canonical_of (labels i) } in
     let all = subst (All IsKept) was held.kept in
     let Known : Stream → Type 0 = λ o. is_known new.tenants o.tenant ≡ true in
     let known_before : All Known (front ++ st ∷ back) = subst (All Known) was (All-weaker (λ (o : Stream). is_known old.tenants o.tenant ≡ true) Known (λ o h. known o.tenant ∙ h) old.list.items held.known) in
-    let next_sum : ◌≡◌ {A = ℕ} new.entries (sum_by (λ o. o.chunks.next) (front ++ now ∷ back)) =
-    let before = held.entries ∙ ap (sum_by (λ o. o.chunks.next)) was ∙ sum_split (λ o. o.chunks.next) front st back in
-    let after = sum_split (λ o. o.chunks.next) front now back in
+    let next_sum : ◌≡◌ {A = ℕ} new.entries (sum_by (λ o. o.chunks.memory.next) (front ++ now ∷ back)) =
+    let before = held.entries ∙ ap (sum_by (λ o. o.chunks.memory.next)) was ∙ sum_split (λ o. o.chunks.memory.next) front st back in
+    let after = sum_split (λ o. o.chunks.memory.next) front now back in
     omega (arith, before, after, entries) in
-    let counted : ◌≡◌ {A = ℕ} new.active (length (filter (λ o. nat_lt 0 o.chunks.next) (front ++ now ∷ back))) =
-    let before = held.active ∙ ap (λ l. length (filter (λ o. nat_lt 0 o.chunks.next) l)) was ∙ count_split (λ o. nat_lt 0 o.chunks.next) front st back in
-    let after = count_split (λ o. nat_lt 0 o.chunks.next) front now back in
+    let stored_sum : ◌≡◌ {A = ℕ} new.stored (sum_by (λ o. (measure_of o).stored_entries) (front ++ now ∷ back)) =
+    let before = held.stored ∙ ap (sum_by (λ o. (measure_of o).stored_entries)) was ∙ sum_split (λ o. (measure_of o).stored_entries) front st back in
+    let after = sum_split (λ o. (measure_of o).stored_entries) front now back in
+    omega (arith, before, after, stored) in
+    let counted : ◌≡◌ {A = ℕ} new.active (length (filter (λ o. nat_lt 0 o.chunks.memory.next) (front ++ now ∷ back))) =
+    let before = held.active ∙ ap (λ l. length (filter (λ o. nat_lt 0 o.chunks.memory.next) l)) was ∙ count_split (λ o. nat_lt 0 o.chunks.memory.next) front st back in
+    let after = count_split (λ o. nat_lt 0 o.chunks.memory.next) front now back in
     omega (arith, before, after, active) in
     record {
       kept = subst (All IsKept) (sym is) (replaced IsKept front st now back all kept);
@@ -118,7 +137,8 @@ held_changed old new front st now back held was is kept tenant labels find known
       sums = λ t. sums t
           ∙ (λ i. cond (bytes_eq st.tenant t) (changed ((held.sums st.tenant ∙ ap (measures_of st.tenant) was) i) (measure_of st) (measure_of now)) ((held.sums t ∙ ap (measures_of t) was) i))
           ∙ sym (measures_changed front st now back tenant t) ∙ ap (measures_of t) (sym is);
-      entries = next_sum ∙ ap (sum_by (λ o. o.chunks.next)) (sym is);
-      active = counted ∙ ap (λ l. length (filter (λ o. nat_lt 0 o.chunks.next) l)) (sym is);
+      entries = next_sum ∙ ap (sum_by (λ o. o.chunks.memory.next)) (sym is);
+      stored = stored_sum ∙ ap (sum_by (λ o. (measure_of o).stored_entries)) (sym is);
+      active = counted ∙ ap (λ l. length (filter (λ o. nat_lt 0 o.chunks.memory.next) l)) (sym is);
       few = few;
     }

@@ -3,6 +3,7 @@ mod ChangeLaws
 mod CountLaws
 mod HeldLaws
 mod JudgeLaws
+mod LiveLaws
 mod Parts
 mod PositionLaws
 mod PushLaws

@@ -10,7 +10,7 @@ use Rattle.std.proofs.lemmas.Slice.Eq.{bytes_eq-Decides}
 use Rattle.ing_rows.specs.declared.entry.Entry.{Entry}
 use Rattle.ing_rows.specs.Rows.{StreamKey, has_stream, same_stream}
 use Rattle.ing_shard.specs.Contents.{listed_after}
-use Rattle.ing_shard.specs.declared.stream.Stream.{Stream}
+use Rattle.ing_shard.specs.OneStream.{Stream}
 use Rattle.ing_shard.specs.Streams.{key_of, AreDistinct, position_of}
 use Rattle.ing_shard.proofs.CountLaws.{same_self}
 use Rattle.ing_shard.proofs.WholeLaws.{IsOther, AreOthers}

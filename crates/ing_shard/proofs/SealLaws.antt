@@ -15,7 +15,7 @@ use Rattle.ing_rows.specs.Steps.{due_by, is_mark_of, seal_of, sealed_by, swept}
 use Rattle.ing_rows.specs.Turns.{beside, IsMarked, NoneMarked, OneMarkEach}
 use Rattle.ing_shard.specs.declared.sealing.Sealing.{Sealing}
 use Rattle.ing_shard.specs.declared.sealing.Sealing.TheVariants.{Due, Forced}
-use Rattle.ing_shard.specs.declared.stream.Stream.{Stream}
+use Rattle.ing_shard.specs.OneStream.{Stream}
 use Rattle.ing_shard.specs.Sealing.{AreSealed, AreSealedTo, IsSealed, SealsOne, count_sealed, is_sealing, op, ops_after, ops_from, sealed_among, sealed_of, why_by, why_of}
 use Rattle.ing_shard.specs.Streams.{key_of, part_of, whole, AreDistinct, IsKept}
 use Rattle.ing_shard.proofs.Alike.{same_refl, same_trans, beside_left, beside_right}
@@ -37,7 +37,7 @@ none_of_mine st sts others =
     let s = key_of st in
     All-weaker (λ (m : Mark). same_stream m.stream s ≡ false) (λ (m : Mark). All (λ r. is_of_chunk m.stream m.chunk r ≡ false) (part_of st).rows)
     (λ m other. all_rows s (λ r. is_of_chunk m.stream m.chunk r ≡ false)
-    (λ first block e. ap (λ b. b && (first == m.chunk)) (same_flip m.stream s other)) (λ first block e. ap (λ b. b && (first == m.chunk)) (same_flip m.stream s other)) st.chunks)
+    (λ first block place e. ap (λ b. b && (first == m.chunk)) (same_flip m.stream s other)) st.chunks)
     (whole sts).marks (others_marks s sts others)
 
 -- ---- parts
@@ -164,7 +164,7 @@ claims_apart (st ∷ sts) distinct =
           All-cons (ClaimsOwn (whole (st ∷ sts))) o os
           (All-head (ClaimsOwn (whole sts)) o os own
           ∙ sym (claims_right (key_of o) (part_of st) (whole sts) (
-            all_rows (key_of st) (λ r. same_stream r.stream (key_of o) ≡ false) (λ first block e. apart_from) (λ first block e. apart_from) st.chunks,
+            all_rows (key_of st) (λ r. same_stream r.stream (key_of o) ≡ false) (λ first block place e. apart_from) st.chunks,
             all_marks (key_of st) (λ m. same_stream m.stream (key_of o) ≡ false) (λ c. apart_from) st.chunks,
           )))
           (later os (All-tail (IsOther (key_of st)) o os others) (All-tail (ClaimsOwn (whole sts)) o os own))

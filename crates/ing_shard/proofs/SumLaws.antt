@@ -4,7 +4,7 @@ use Rattle.std.specs.Prelude.{All, bytes_eq, sum_by}
 use Rattle.std.proofs.lemmas.List.Elements.{All-head, All-tail}
 use Rattle.std.proofs.lemmas.Bool.{ltb-true}
 use Rattle.std.proofs.lemmas.Slice.Eq.{bytes_eq-Decides}
-use Rattle.ing_shard.specs.declared.stream.Stream.{Stream}
+use Rattle.ing_shard.specs.OneStream.{Stream}
 use Rattle.ing_shard.specs.declared.tenants.TenantKept.{TenantKept}
 use Rattle.ing_shard.specs.Tenants.{IsWithin, changed}
 use Rattle.ing_shard.specs.Streams.{measure_of, measures_of, sum_of}
@@ -59,6 +59,10 @@ within front st back =
       head_bytes = one (λ k. k.head_bytes);
       block_entries = one (λ k. k.block_entries);
       block_bytes = one (λ k. k.block_bytes);
+      flight_entries = one (λ k. k.flight_entries);
+      flight_bytes = one (λ k. k.flight_bytes);
+      stored_entries = one (λ k. k.stored_entries);
+      stored_bytes = one (λ k. k.stored_bytes);
     }
 
 field_case : (b : Bool) (own all x y r : ℕ) → cond b own all ≡ all → all ≡ cond b x 0 + r → cond b y 0 + r ≡ cond b (own - x + y) all
@@ -75,7 +79,7 @@ field_changed f front st new back tenant t =
     ∙ field_case (bytes_eq st.tenant t) (all st.tenant) (all t) (f (measure_of st)) (f (measure_of new)) rest (same_at all st.tenant t)
     (chosen_split (λ o. bytes_eq o.tenant t) (λ o. f (measure_of o)) front st back)
 
-kept_cond : (b : Bool) (x y : TenantKept) → record { live = cond b x.live y.live; head_entries = cond b x.head_entries y.head_entries; head_bytes = cond b x.head_bytes y.head_bytes; block_entries = cond b x.block_entries y.block_entries; block_bytes = cond b x.block_bytes y.block_bytes } ≡ cond b x y
+kept_cond : (b : Bool) (x y : TenantKept) → record { live = cond b x.live y.live; head_entries = cond b x.head_entries y.head_entries; head_bytes = cond b x.head_bytes y.head_bytes; block_entries = cond b x.block_entries y.block_entries; block_bytes = cond b x.block_bytes y.block_bytes; flight_entries = cond b x.flight_entries y.flight_entries; flight_bytes = cond b x.flight_bytes y.flight_bytes; stored_entries = cond b x.stored_entries y.stored_entries; stored_bytes = cond b x.stored_bytes y.stored_bytes } ≡ cond b x y
 kept_cond true x y = refl
 kept_cond false x y = refl
 
@@ -88,6 +92,10 @@ measures_changed front st new back tenant t =
       head_bytes = field_changed (λ k. k.head_bytes) front st new back tenant t i;
       block_entries = field_changed (λ k. k.block_entries) front st new back tenant t i;
       block_bytes = field_changed (λ k. k.block_bytes) front st new back tenant t i;
+      flight_entries = field_changed (λ k. k.flight_entries) front st new back tenant t i;
+      flight_bytes = field_changed (λ k. k.flight_bytes) front st new back tenant t i;
+      stored_entries = field_changed (λ k. k.stored_entries) front st new back tenant t i;
+      stored_bytes = field_changed (λ k. k.stored_bytes) front st new back tenant t i;
     })
     ∙ kept_cond (bytes_eq st.tenant t) (changed (measures_of st.tenant (front ++ st ∷ back)) (measure_of st) (measure_of new)) (measures_of t (front ++ st ∷ back))
 
@@ -98,23 +106,23 @@ bound_case true x n r m k apart h l = omega (arith, apart, h, l)
 bound_case false x n r m k apart h l = omega (arith, apart, h, l)
 
 -- each stream adds at most k for each of its entries, and so does their sum
-pub sum_bound : (f : TenantKept → ℕ) (k : ℕ) → ((n m : ℕ) → (n + m) * k ≡ n * k + m * k) → (t : List ℕ) (sts : List Stream) → All (λ st. f (measure_of st) ≤ st.chunks.next * k) sts
-    → sum_of f t sts ≤ sum_by (λ st. st.chunks.next) sts * k
+pub sum_bound : (f : TenantKept → ℕ) (k : ℕ) → ((n m : ℕ) → (n + m) * k ≡ n * k + m * k) → (t : List ℕ) (sts : List Stream) → All (λ st. f (measure_of st) ≤ st.chunks.memory.next * k) sts
+    → sum_of f t sts ≤ sum_by (λ st. st.chunks.memory.next) sts * k
 sum_bound f k apart t [] h = omega arith
 sum_bound f k apart t (st ∷ sts) h =
     let is = cond_sum (bytes_eq st.tenant t) (λ o. f (measure_of o)) st (filter (λ o. bytes_eq o.tenant t) sts) in
-    let all = sum_cons (λ (o : Stream). o.chunks.next) st sts in
-    let rest = sum_by (λ (o : Stream). o.chunks.next) sts in
-    let here = bound_case (bytes_eq st.tenant t) (f (measure_of st)) st.chunks.next (sum_of f t sts) rest k (apart st.chunks.next rest)
-    (All-head (λ (o : Stream). f (measure_of o) ≤ o.chunks.next * k) st sts h) (sum_bound f k apart t sts (All-tail (λ (o : Stream). f (measure_of o) ≤ o.chunks.next * k) st sts h)) in
-    subst (λ n. sum_of f t (st ∷ sts) ≤ n * k) (sym all) (subst (λ n. n ≤ (st.chunks.next + rest) * k) (sym is) here)
+    let all = sum_cons (λ (o : Stream). o.chunks.memory.next) st sts in
+    let rest = sum_by (λ (o : Stream). o.chunks.memory.next) sts in
+    let here = bound_case (bytes_eq st.tenant t) (f (measure_of st)) st.chunks.memory.next (sum_of f t sts) rest k (apart st.chunks.memory.next rest)
+    (All-head (λ (o : Stream). f (measure_of o) ≤ o.chunks.memory.next * k) st sts h) (sum_bound f k apart t sts (All-tail (λ (o : Stream). f (measure_of o) ≤ o.chunks.memory.next * k) st sts h)) in
+    subst (λ n. sum_of f t (st ∷ sts) ≤ n * k) (sym all) (subst (λ n. n ≤ (st.chunks.memory.next + rest) * k) (sym is) here)
 
 -- so many streams have an entry
-pub count_bound : (sts : List Stream) → length (filter (λ st. nat_lt 0 st.chunks.next) sts) ≤ sum_by (λ st. st.chunks.next) sts
+pub count_bound : (sts : List Stream) → length (filter (λ st. nat_lt 0 st.chunks.memory.next) sts) ≤ sum_by (λ st. st.chunks.memory.next) sts
 count_bound [] = omega arith
-count_bound (st ∷ sts) = counted (nat_lt 0 st.chunks.next) refl (count_bound sts) (sum_cons (λ (o : Stream). o.chunks.next) st sts) where
-  counted : (b : Bool) → nat_lt 0 st.chunks.next ≡ b → length (filter (λ o. nat_lt 0 o.chunks.next) sts) ≤ sum_by (λ o. o.chunks.next) sts
-      → sum_by (λ o. o.chunks.next) (st ∷ sts) ≡ st.chunks.next + sum_by (λ o. o.chunks.next) sts
-      → length (cond b (st ∷ filter (λ o. nat_lt 0 o.chunks.next) sts) (filter (λ o. nat_lt 0 o.chunks.next) sts)) ≤ sum_by (λ o. o.chunks.next) (st ∷ sts)
-  counted true is h all = let some : 0 < st.chunks.next = ltb-true 0 st.chunks.next is in omega (arith, some, h, all)
+count_bound (st ∷ sts) = counted (nat_lt 0 st.chunks.memory.next) refl (count_bound sts) (sum_cons (λ (o : Stream). o.chunks.memory.next) st sts) where
+  counted : (b : Bool) → nat_lt 0 st.chunks.memory.next ≡ b → length (filter (λ o. nat_lt 0 o.chunks.memory.next) sts) ≤ sum_by (λ o. o.chunks.memory.next) sts
+      → sum_by (λ o. o.chunks.memory.next) (st ∷ sts) ≡ st.chunks.memory.next + sum_by (λ o. o.chunks.memory.next) sts
+      → length (cond b (st ∷ filter (λ o. nat_lt 0 o.chunks.memory.next) sts) (filter (λ o. nat_lt 0 o.chunks.memory.next) sts)) ≤ sum_by (λ o. o.chunks.memory.next) (st ∷ sts)
+  counted true is h all = let some : 0 < st.chunks.memory.next = ltb-true 0 st.chunks.memory.next is in omega (arith, some, h, all)
   counted false is h all = omega (arith, h, all)

@@ -1,15 +1,13 @@
 -- A shard's state as its streams' parts side by side.
-use Rattle.std.proofs.Common.{◌≡◌, Bool, List, [], ◌∷◌, ◌++◌, length, true, false, ◌&&◌, None, refl, ap, sym, ◌∙◌}
+use Rattle.std.proofs.Common.{◌≡◌, List, [], ◌∷◌, ◌++◌, length, true, false, ◌&&◌, None, ap, sym, ◌∙◌}
 use Rattle.std.specs.Prelude.{All, is_none}
 use Rattle.std.proofs.lemmas.List.Elements.{All-append, All-head, All-nil, All-tail, All-weaker}
-use Rattle.ing_rows.specs.declared.place.Place.{Place}
-use Rattle.ing_rows.specs.declared.place.Place.TheVariants.{Head, Block}
-use Rattle.ing_rows.specs.Rows.{StreamKey, Row, Mark, State, IsSame, empty_state, same_stream, is_stored, live_streams}
+use Rattle.ing_rows.specs.Rows.{StreamKey, Row, Mark, State, IsSame, empty_state, same_stream, live_streams}
 use Rattle.ing_rows.specs.Facts.{facts_of}
 use Rattle.ing_rows.specs.Sound.{IsSound}
 use Rattle.ing_rows.specs.Steps.{is_growing}
 use Rattle.ing_rows.specs.Turns.{beside}
-use Rattle.ing_shard.specs.declared.stream.Stream.{Stream}
+use Rattle.ing_shard.specs.OneStream.{Stream}
 use Rattle.ing_shard.specs.Streams.{key_of, part_of, whole, facts_kept, with_live, IsKept, AreDistinct}
 use Rattle.ing_shard.proofs.Alike.{same_refl, same_trans, beside_right, beside_front}
 use Rattle.ing_shard.proofs.Parts.{all_rows, all_marks}
@@ -35,7 +33,7 @@ others_rows s [] h = All-nil (λ (r : Row). same_stream r.stream s ≡ false)
 others_rows s (st ∷ sts) h =
     let here : IsOther s st = All-head (IsOther s) st sts h in
     All-append (λ (r : Row). same_stream r.stream s ≡ false) (part_of st).rows (whole sts).rows
-    (all_rows (key_of st) (λ r. same_stream r.stream s ≡ false) (λ first block e. here) (λ first block e. here) st.chunks)
+    (all_rows (key_of st) (λ r. same_stream r.stream s ≡ false) (λ first block place e. here) st.chunks)
     (others_rows s sts (All-tail (IsOther s) st sts h))
 
 pub others_marks : (s : StreamKey) (sts : List Stream) → AreOthers s sts → All (λ m. same_stream m.stream s ≡ false) (whole sts).marks
@@ -48,18 +46,6 @@ others_marks s (st ∷ sts) h =
 
 pub others_growing : (s : StreamKey) (ms : List Mark) → All (λ m. same_stream m.stream s ≡ false) ms → All (λ m. is_growing s m ≡ false) ms
 others_growing s ms h = All-weaker (λ (m : Mark). same_stream m.stream s ≡ false) (λ (m : Mark). is_growing s m ≡ false) (λ m e. ap (λ b. b && is_none m.reason) e) ms h
-
--- each row is in a head or in a block
-pub none_elsewhere : (test : Place → Bool) → test Head ≡ false → test Block ≡ false → (sts : List Stream) → All (λ r. test r.place ≡ false) (whole sts).rows
-none_elsewhere test head block [] = All-nil (λ (r : Row). test r.place ≡ false)
-none_elsewhere test head block (st ∷ sts) =
-    All-append (λ (r : Row). test r.place ≡ false) (part_of st).rows (whole sts).rows
-    (all_rows (key_of st) (λ r. test r.place ≡ false) (λ first block_at e. head) (λ first block_at e. block) st.chunks)
-    (none_elsewhere test head block sts)
-
--- nothing is stored
-pub none_stored : (sts : List Stream) → All (λ r. is_stored r.place ≡ false) (whole sts).rows
-none_stored = none_elsewhere is_stored refl refl
 
 -- ---- soundness
 
@@ -75,7 +61,7 @@ whole_sound law empty (st ∷ sts) distinct kept =
     let rows = others_rows s sts distinct.0 in
     let marks = others_growing s (whole sts).marks (others_marks s sts distinct.0) in
     law (part_of st) (whole sts)
-    (all_rows s (λ r. All (λ q. same_stream q.stream r.stream ≡ false) (whole sts).rows) (λ first block e. rows) (λ first block e. rows) st.chunks)
+    (all_rows s (λ r. All (λ q. same_stream q.stream r.stream ≡ false) (whole sts).rows) (λ first block place e. rows) st.chunks)
     (all_marks s (λ m. is_none m.reason ≡ true → All (λ k. is_growing m.stream k ≡ false) (whole sts).marks) (λ c h. marks) st.chunks)
     (All-head IsKept st sts kept).sound
     (whole_sound law empty sts distinct.1 (All-tail IsKept st sts kept))

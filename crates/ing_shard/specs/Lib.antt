@@ -2,6 +2,7 @@ pub mod Coded
 pub mod Contents
 pub mod Faults
 pub mod KeptFacts
+pub mod OneStream
 pub mod Tenants
 pub mod Streams
 pub mod Sealing

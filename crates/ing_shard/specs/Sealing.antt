@@ -8,11 +8,12 @@ use Rattle.ing_rows.specs.Rows.{StreamKey, Row, Mark, State, IsSame}
 use Rattle.ing_rows.specs.Steps.{due_of, sealed_by}
 use Rattle.ing_rows.specs.Events.{sealed_count}
 use Rattle.ing_rows.specs.Claims.{claimable_count}
-use Rattle.ing_chunk.specs.Chunks.{ChunksContents, growing_due}
+use Rattle.ing_chunk.specs.Chunks.{growing_due}
+use Rattle.ing_stream.specs.Contents.{StreamContents}
 use Rattle.ing_shard.specs.declared.due.Op.{Op}
 use Rattle.ing_shard.specs.declared.sealing.Sealing.{Sealing}
 use Rattle.ing_shard.specs.declared.sealing.Sealing.TheVariants.{Due, Forced}
-use Rattle.ing_shard.specs.declared.stream.Stream.{Stream}
+use Rattle.ing_shard.specs.OneStream.{Stream}
 use Rattle.ing_shard.specs.Streams.{key_of, part_of}
 
 -- ---- operations
@@ -47,15 +48,16 @@ count_sealed which rules st = sealed_count (why_of which rules st.rows) st.marks
 -- ---- one stream
 
 -- its growing chunk is one of these
-abbrev pub is_sealing : Sealing → Rules → ChunksContents → Bool
-is_sealing (Due now) rules c = is_some (growing_due rules now c)
-is_sealing Forced rules c = is_some c.growing
+abbrev pub is_sealing : Sealing → Rules → StreamContents → Bool
+is_sealing (Due now) rules c = is_some (growing_due rules now c.memory)
+is_sealing Forced rules c = is_some c.memory.growing
 
 -- a stream, before and after its growing chunk is sealed where it is one of these
 pub record IsSealed (which : Sealing) (rules : Rules) (old new : Stream) : Type 0 where
   pub tenant : new.tenant ≡ old.tenant
   pub labels : new.labels ≡ old.labels
-  pub next : new.chunks.next ≡ old.chunks.next
+  pub next : new.chunks.memory.next ≡ old.chunks.memory.next
+  pub claimed : new.chunks.sealed ≡ old.chunks.sealed
   pub state : IsSame (part_of new) (sealed_by (why_by which rules (part_of old).rows) (part_of old))
   pub counts : sealed_count (why_by which rules (part_of old).rows) (part_of old).marks ≡ (if is_sealing which rules old.chunks then 1 else 0)
   pub waiting : claimable_count (key_of new) (part_of new) ≡ claimable_count (key_of old) (part_of old) + (if is_sealing which rules old.chunks then 1 else 0)

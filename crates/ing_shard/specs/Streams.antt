@@ -1,15 +1,16 @@
 -- What the streams of a shard stand for, and what is kept of each.
-use Rattle.std.specs.Prelude.{◌≡◌, ℕ, ◌+◌, ◌*◌, ◌≤◌, ◌^◌, max, true, false, List, [], ◌∷◌, All, bytes_eq, filter, length, sum_by, nat_lt, if◌then◌else◌, Option, Some, None}
+use Rattle.std.specs.Prelude.{◌≡◌, ℕ, ◌+◌, ◌*◌, ◌≤◌, ◌^◌, max, Bool, true, false, not, List, [], ◌∷◌, All, bytes_eq, filter, length, sum_by, nat_lt, if◌then◌else◌, Option, Some, None}
+use Rattle.std.specs.List.{list_any}
 use Rattle.std.specs.Option.{option_map}
 use Rattle.ing_labels.specs.Canonical.{canonical_of}
 use Rattle.ing_rows.specs.declared.entry.Entry.{Entry}
-use Rattle.ing_rows.specs.Rows.{StreamKey, State, empty_state, is_head, is_block, same_stream}
+use Rattle.ing_rows.specs.Rows.{StreamKey, State, empty_state, is_head, is_block, is_in_flight, is_stored, same_stream}
 use Rattle.ing_rows.specs.Facts.{Facts, facts_of}
 use Rattle.ing_rows.specs.Gauges.{gauge_of}
 use Rattle.ing_rows.specs.Sound.{IsSound}
 use Rattle.ing_rows.specs.Turns.{beside, IsMarked}
-use Rattle.ing_chunk.specs.Chunks.{stream_state}
-use Rattle.ing_shard.specs.declared.stream.Stream.{Stream}
+use Rattle.ing_stream.specs.Contents.{whole_state}
+use Rattle.ing_shard.specs.OneStream.{Stream}
 use Rattle.ing_shard.specs.declared.tenants.TenantKept.{TenantKept}
 use Rattle.ing_shard.specs.declared.streams.Streams.{Streams}
 use Rattle.ing_shard.specs.Tenants.{find_of, is_known, kept_of}
@@ -19,7 +20,7 @@ key_of st = record { tenant = st.tenant; name = canonical_of st.labels }
 
 -- its part of the state of a shard
 abbrev pub part_of : Stream → State
-part_of st = stream_state (key_of st) st.chunks
+part_of st = whole_state (key_of st) st.chunks
 
 -- the state of a shard that has these streams
 abbrev pub whole : List Stream → State
@@ -28,15 +29,19 @@ whole (st ∷ sts) = beside (part_of st) (whole sts)
 
 -- ---- what is kept of a stream
 
+-- it has an entry that is not stored
+abbrev pub has_live : Stream → Bool
+has_live st = list_any (λ r. not (is_stored r.place)) (part_of st).rows
+
 -- what is kept of it, as if it were its tenant's only one
 abbrev pub facts_kept : Stream → Facts
 facts_kept st =
     record {
-      count = st.chunks.next;
+      count = st.chunks.memory.next;
       greatest = st.greatest;
       last = st.last;
-      is_live = nat_lt 0 st.chunks.next;
-      live = if nat_lt 0 st.chunks.next then 1 else 0;
+      is_live = has_live st;
+      live = if has_live st then 1 else 0;
     }
 
 abbrev pub with_live : ℕ → Facts → Facts
@@ -48,21 +53,33 @@ measure_of st =
     let rows = (part_of st).rows in
     let head = gauge_of is_head rows st.tenant in
     let block = gauge_of is_block rows st.tenant in
+    let flight = gauge_of is_in_flight rows st.tenant in
+    let stored = gauge_of is_stored rows st.tenant in
     record {
-      live = if nat_lt 0 st.chunks.next then 1 else 0;
+      live = if has_live st then 1 else 0;
       head_entries = head.entries;
       head_bytes = head.bytes;
       block_entries = block.entries;
       block_bytes = block.bytes;
+      flight_entries = flight.entries;
+      flight_bytes = flight.bytes;
+      stored_entries = stored.entries;
+      stored_bytes = stored.bytes;
     }
+
+-- sums over so many entries, of which no line is longer than memory
+pub record IsSmall (count : ℕ) (sums : TenantKept) : Type 0 where
+  pub head : sums.head_bytes ≤ count * 2 ^ 65
+  pub block : sums.block_bytes ≤ count * (3 * 2 ^ 64)
+  pub flight : sums.flight_bytes ≤ count * 2 ^ 64
+  pub stored : sums.stored_bytes ≤ count * 2 ^ 64
 
 -- it is what its rows give, each of its chunks has one mark, and no line is longer than memory
 pub record IsKept (st : Stream) : Type 0 where
   pub facts : facts_of (part_of st).rows (key_of st) ≡ facts_kept st
   pub sound : IsSound (part_of st)
   pub marked : IsMarked (part_of st)
-  pub head_small : (measure_of st).head_bytes ≤ st.chunks.next * 2 ^ 65
-  pub block_small : (measure_of st).block_bytes ≤ st.chunks.next * 2 ^ 65
+  pub small : IsSmall st.chunks.memory.next (measure_of st)
 
 -- the greatest stamp of entries, beside this one
 abbrev pub greatest_with : ℕ → List Entry → ℕ
@@ -83,6 +100,10 @@ measures_of tenant streams =
       head_bytes = sum_of (λ k. k.head_bytes) tenant streams;
       block_entries = sum_of (λ k. k.block_entries) tenant streams;
       block_bytes = sum_of (λ k. k.block_bytes) tenant streams;
+      flight_entries = sum_of (λ k. k.flight_entries) tenant streams;
+      flight_bytes = sum_of (λ k. k.flight_bytes) tenant streams;
+      stored_entries = sum_of (λ k. k.stored_entries) tenant streams;
+      stored_bytes = sum_of (λ k. k.stored_bytes) tenant streams;
     }
 
 -- ---- streams by name
@@ -101,12 +122,13 @@ AreDistinct (st ∷ sts) = All (λ other. same_stream (key_of other) (key_of st)
 
 -- What is kept beside the streams is what they give: no two have the same name, each is found by it, and the sums of each
 -- tenant are those of its streams.
-pub record AreHeld (streams : Streams) : Type 0 where
+pub record AreHeld {R : Type 0} (streams : Streams R) : Type 0 where
   pub kept : All IsKept streams.list.items
   pub distinct : AreDistinct streams.list.items
   pub found : (s : StreamKey) → find_of streams.tenants s.tenant s.name ≡ position_of s streams.list.items
   pub known : All (λ st. is_known streams.tenants st.tenant ≡ true) streams.list.items
   pub sums : (tenant : List ℕ) → kept_of streams.tenants tenant ≡ measures_of tenant streams.list.items
-  pub entries : streams.entries ≡ sum_by (λ st. st.chunks.next) streams.list.items
-  pub active : streams.active ≡ length (filter (λ st. nat_lt 0 st.chunks.next) streams.list.items)
+  pub entries : streams.entries ≡ sum_by (λ st. st.chunks.memory.next) streams.list.items
+  pub stored : streams.stored ≡ sum_by (λ st. (measure_of st).stored_entries) streams.list.items
+  pub active : streams.active ≡ length (filter (λ st. nat_lt 0 st.chunks.memory.next) streams.list.items)
   pub few : streams.entries ≤ 2 ^ 62

@@ -7,7 +7,17 @@ use Rattle.ing_shard.specs.declared.tenants.Tenants.{Tenants}
 
 -- of a tenant without streams
 abbrev pub nothing_kept : TenantKept
-nothing_kept = record { live = 0; head_entries = 0; head_bytes = 0; block_entries = 0; block_bytes = 0 }
+nothing_kept = record {
+  live = 0;
+  head_entries = 0;
+  head_bytes = 0;
+  block_entries = 0;
+  block_bytes = 0;
+  flight_entries = 0;
+  flight_bytes = 0;
+  stored_entries = 0;
+  stored_bytes = 0;
+}
 
 -- the number under which a stream is listed, by its tenant and its canonical name
 abbrev pub find_of : Tenants → List ℕ → List ℕ → Option ℕ
@@ -28,6 +38,10 @@ pub record IsWithin (part sums : TenantKept) : Type 0 where
   pub head_bytes : part.head_bytes ≤ sums.head_bytes
   pub block_entries : part.block_entries ≤ sums.block_entries
   pub block_bytes : part.block_bytes ≤ sums.block_bytes
+  pub flight_entries : part.flight_entries ≤ sums.flight_entries
+  pub flight_bytes : part.flight_bytes ≤ sums.flight_bytes
+  pub stored_entries : part.stored_entries ≤ sums.stored_entries
+  pub stored_bytes : part.stored_bytes ≤ sums.stored_bytes
 
 -- the sums can be kept
 pub record Fits (sums : TenantKept) : Type 0 where
@@ -36,6 +50,10 @@ pub record Fits (sums : TenantKept) : Type 0 where
   pub head_bytes : sums.head_bytes < 2 ^ 128
   pub block_entries : sums.block_entries < 2 ^ 64
   pub block_bytes : sums.block_bytes < 2 ^ 128
+  pub flight_entries : sums.flight_entries < 2 ^ 64
+  pub flight_bytes : sums.flight_bytes < 2 ^ 128
+  pub stored_entries : sums.stored_entries < 2 ^ 64
+  pub stored_bytes : sums.stored_bytes < 2 ^ 128
 
 -- the sums where one of the streams has changed
 abbrev pub changed : TenantKept → TenantKept → TenantKept → TenantKept
@@ -46,4 +64,8 @@ changed sums before after =
       head_bytes = sums.head_bytes - before.head_bytes + after.head_bytes;
       block_entries = sums.block_entries - before.block_entries + after.block_entries;
       block_bytes = sums.block_bytes - before.block_bytes + after.block_bytes;
+      flight_entries = sums.flight_entries - before.flight_entries + after.flight_entries;
+      flight_bytes = sums.flight_bytes - before.flight_bytes + after.flight_bytes;
+      stored_entries = sums.stored_entries - before.stored_entries + after.stored_entries;
+      stored_bytes = sums.stored_bytes - before.stored_bytes + after.stored_bytes;
     }

@@ -18,6 +18,14 @@ pub struct TenantKept {
     pub block_entries: u64,
     /// Their sizes in bytes.
     pub block_bytes: u128,
+    /// Entries in chunks in flight.
+    pub flight_entries: u64,
+    /// Their sizes in bytes.
+    pub flight_bytes: u128,
+    /// Entries in stored chunks.
+    pub stored_entries: u64,
+    /// Their sizes in bytes.
+    pub stored_bytes: u128,
 }
 
 /// One tenant: the number of each of its streams by the canonical name, and the sums over them.
@@ -40,6 +48,10 @@ const NOTHING: TenantKept = TenantKept {
     head_bytes: 0,
     block_entries: 0,
     block_bytes: 0,
+    flight_entries: 0,
+    flight_bytes: 0,
+    stored_entries: 0,
+    stored_bytes: 0,
 };
 
 impl TenantKept {
@@ -55,6 +67,10 @@ impl TenantKept {
             head_bytes: self.head_bytes - before.head_bytes + after.head_bytes,
             block_entries: self.block_entries - before.block_entries + after.block_entries,
             block_bytes: self.block_bytes - before.block_bytes + after.block_bytes,
+            flight_entries: self.flight_entries - before.flight_entries + after.flight_entries,
+            flight_bytes: self.flight_bytes - before.flight_bytes + after.flight_bytes,
+            stored_entries: self.stored_entries - before.stored_entries + after.stored_entries,
+            stored_bytes: self.stored_bytes - before.stored_bytes + after.stored_bytes,
         }
     }
 }

@@ -7,6 +7,7 @@ use ing_postings::StreamNo;
 use ing_refusals::Refusal;
 use ing_rows::{Entry, Gauge, Gauges, Line, Stamp, Tenant, Verdict};
 use ing_shard::{Due, Op, PushFault, Shard};
+use ing_store::MemoryReceipt;
 use std::alloc::Global;
 use std::test::Fail;
 
@@ -34,7 +35,11 @@ fn entries(alloc: Global, count: u64) -> Result<Vec<Entry>, Fail> {
 
 #[test]
 fn a_push_is_judged_and_counted(rt: HostRuntime) -> Result<(), Fail> {
-    let mut shard = Shard::fresh(rt.alloc(), Settings::from_toml(rt.alloc(), "")?, 0);
+    let mut shard: Shard<MemoryReceipt<'_>> = Shard::fresh(
+        rt.alloc(),
+        Settings::from_toml(rt.alloc(), "")?,
+        0,
+    );
     let tenant = Tenant::of_text(rt.alloc(), "acme")?;
     let labels = Labels::of_pairs(rt.alloc(), &[("app", "web")], &LIMITS)?;
     let two = entries(rt.alloc(), 2)?;
@@ -64,7 +69,7 @@ fn a_push_is_judged_and_counted(rt: HostRuntime) -> Result<(), Fail> {
 #[test]
 fn more_entries_than_one_push_of_a_tenant_may_have(rt: HostRuntime) -> Result<(), Fail> {
     let settings = Settings::from_toml(rt.alloc(), "[tenants.acme]\nmax_entries_per_push = 1\n")?;
-    let mut shard = Shard::fresh(rt.alloc(), settings, 0);
+    let mut shard: Shard<MemoryReceipt<'_>> = Shard::fresh(rt.alloc(), settings, 0);
     let acme = Tenant::of_text(rt.alloc(), "acme")?;
     let other = Tenant::of_text(rt.alloc(), "t")?;
     let labels = Labels::of_pairs(rt.alloc(), &[("app", "web")], &LIMITS)?;
@@ -95,7 +100,11 @@ fn more_entries_than_one_push_of_a_tenant_may_have(rt: HostRuntime) -> Result<()
 
 #[test]
 fn pushes_of_no_entry_and_of_the_most(rt: HostRuntime) -> Result<(), Fail> {
-    let mut shard = Shard::fresh(rt.alloc(), Settings::from_toml(rt.alloc(), "")?, 0);
+    let mut shard: Shard<MemoryReceipt<'_>> = Shard::fresh(
+        rt.alloc(),
+        Settings::from_toml(rt.alloc(), "")?,
+        0,
+    );
     let tenant = Tenant::of_text(rt.alloc(), "a".repeat(rt.alloc(), 150)?.as_str())?;
     for (name, count, total) in [("none", 0, 0), ("one", 1, 1), ("most", 10_000, 10_001)] {
         let labels = Labels::of_pairs(rt.alloc(), &[("app", name)], &LIMITS)?;
@@ -125,7 +134,11 @@ fn four_bytes(alloc: Global, nanoseconds: u64) -> Result<Vec<Entry>, Fail> {
 #[test]
 fn two_lines_fill_a_block_and_two_blocks_a_chunk(rt: HostRuntime) -> Result<(), Fail> {
     let text = "chunk_block_size = 40\nchunk_target_size = 80\n";
-    let mut shard = Shard::fresh(rt.alloc(), Settings::from_toml(rt.alloc(), text)?, 0);
+    let mut shard: Shard<MemoryReceipt<'_>> = Shard::fresh(
+        rt.alloc(),
+        Settings::from_toml(rt.alloc(), text)?,
+        0,
+    );
     let tenant = Tenant::of_text(rt.alloc(), "acme")?;
     let labels = Labels::of_pairs(rt.alloc(), &[("app", "web")], &LIMITS)?;
     for (nanoseconds, in_head, in_blocks) in [
@@ -165,7 +178,7 @@ fn held(in_head: u64, in_blocks: u64) -> Gauges {
 /// Sweeps, or seals everything where there is no time. A refused call leaves the gauges as they were, and the same call then
 /// succeeds.
 fn sealed(
-    shard: &mut Shard,
+    shard: &mut Shard<MemoryReceipt<'_>>,
     alloc: Global,
     now: Option<u64>,
     tenant: &Tenant,
@@ -181,7 +194,11 @@ fn sealed(
 }
 
 /// Nothing where memory ran out.
-fn sealed_once(shard: &mut Shard, alloc: Global, now: Option<u64>) -> Result<Option<Due>, Fail> {
+fn sealed_once(
+    shard: &mut Shard<MemoryReceipt<'_>>,
+    alloc: Global,
+    now: Option<u64>,
+) -> Result<Option<Due>, Fail> {
     Ok(match now {
         Some(now) => shard.sweep(alloc, stamp(now)?).ok(),
         None => shard.seal_all(alloc).ok(),
@@ -202,7 +219,7 @@ fn ops_of(alloc: Global, streams: &[u64]) -> Result<Vec<Op>, Fail> {
 
 /// Whether so many chunks are sealed now, and there is one operation for each of these streams.
 fn seals(
-    shard: &mut Shard,
+    shard: &mut Shard<MemoryReceipt<'_>>,
     alloc: Global,
     now: Option<u64>,
     tenant: &Tenant,
@@ -216,7 +233,7 @@ fn seals(
 
 /// Pushes so many entries of an application.
 fn push_of(
-    shard: &mut Shard,
+    shard: &mut Shard<MemoryReceipt<'_>>,
     alloc: Global,
     tenant: &Tenant,
     app: &str,
@@ -229,9 +246,9 @@ fn push_of(
 }
 
 /// The third shard, with one entry of a first stream at time 0, and two of a second at time 5.
-fn third_shard(alloc: Global, tenant: &Tenant) -> Result<Shard, Fail> {
+fn third_shard<'a>(alloc: Global, tenant: &Tenant) -> Result<Shard<MemoryReceipt<'a>>, Fail> {
     let settings = Settings::from_toml(alloc, "chunk_idle_period = \"10ns\"\n")?;
-    let mut shard = Shard::fresh(alloc, settings, 3);
+    let mut shard: Shard<MemoryReceipt<'_>> = Shard::fresh(alloc, settings, 3);
     push_of(&mut shard, alloc, tenant, "web", 1, 0)?;
     push_of(&mut shard, alloc, tenant, "api", 2, 5)?;
     Ok(shard)
@@ -327,9 +344,9 @@ fn drawn_entries(alloc: Global, lots: &mut Lots, time: u64) -> Result<Vec<Entry>
 
 /// A shard and the slow program, which get the same pushes by lot.
 #[derive(Drop)]
-struct Both {
+struct Both<'a> {
     settings: Settings,
-    shard: Shard,
+    shard: Shard<MemoryReceipt<'a>>,
     plain: Plain,
     tenants: Vec<Tenant>,
     streams: Vec<Labels>,
@@ -339,8 +356,8 @@ struct Both {
     most_in_blocks: u64,
 }
 
-impl Both {
-    fn new(alloc: Global) -> Result<Both, Fail> {
+impl<'a> Both<'a> {
+    fn new(alloc: Global) -> Result<Both<'a>, Fail> {
         Ok(Both {
             settings: Settings::from_toml(alloc, SMALL)?,
             shard: Shard::fresh(alloc, Settings::from_toml(alloc, SMALL)?, 0),
