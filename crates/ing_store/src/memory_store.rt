@@ -1,5 +1,6 @@
 //! A store in memory.
-ghost use Rattle.std.specs.Prelude.{◌≡◌, IfOk, IfSome};
+ghost use Rattle.std.specs.Prelude.{◌≡◌, IfOk, IfSome, IsSome};
+ghost use Rattle.std.specs.BTreeMap.{get_by_text};
 ghost use Rattle.ing_store.specs.MemoryEnds.{new_end};
 ghost use Rattle.ing_store.specs.StoredObjects.{stored_object};
 
@@ -8,6 +9,7 @@ use crate::memory_end::MemoryEnd;
 use crate::memory_object::MemoryObject;
 use std::alloc::{AllocError, Global};
 use std::collections::BTreeMap;
+use std::collections::btree_map::Entry;
 use std::sync::{Mutex, Wait};
 
 /// Where the objects are, by name.
@@ -67,7 +69,8 @@ impl MemoryStore {
         self.listed(&places, name)
     }
 
-    /// Writes an object, unless one of this name with these bytes is there.
+    /// Writes an object, unless one of this name with these bytes is there. Where memory ran out, the
+    /// store is as it was.
     pub(crate) fn write<R: Wait>(
         &self,
         rt: &R,
@@ -83,12 +86,38 @@ impl MemoryStore {
                 return Ok(object);
             }
         }
+        self.write_new(rt, alloc, &mut places, name, bytes)
+    }
+
+    /// Writes an object and lists it. Where memory ran out, nothing is written, and what is listed
+    /// stays. No contract says so: none sees how many objects there are, nor what a map holds once an
+    /// entry of it was given up.
+    fn write_new<R: Wait>(
+        &self,
+        rt: &R,
+        alloc: Global,
+        places: &mut Places,
+        name: &str,
+        bytes: &[u8],
+    ) -> Result<&MemoryObject, AllocError>
+        ensures object { IfOk result (λ o. o.now ≡ stored_object name.now bytes.now) }
+        ensures listed { IfOk result (λ _. IsSome (get_by_text places.new name.now)) }
+    {
         let key = String::from_str(alloc, name)?;
         let object = MemoryObject::of(alloc, name, bytes)?;
+        // Room for the name comes first: an object that is pushed is listed without further memory.
+        let entry = places.entry(key)?;
         let Ok(pushed) = self.objects.push_shown(rt, object) else {
             return Err(AllocError);
         };
-        places.insert(key, pushed.index())?;
+        match entry {
+            Entry::Occupied(mut listed) => {
+                listed.insert(pushed.index());
+            }
+            Entry::Vacant(unlisted) => {
+                unlisted.insert(pushed.index());
+            }
+        }
         Ok(self.objects.value(&pushed))
     }
 }

@@ -74,6 +74,25 @@ fn what_was_written_stays(rt: HostRuntime) -> Result<(), Fail> {
     Ok(())
 }
 
+/// One allocation at most is refused in a run of this test: a refused put leaves no object, with a name
+/// or without, and the same put then succeeds.
+#[test]
+fn a_refused_put_leaves_no_object(rt: HostRuntime) -> Result<(), Fail> {
+    let store = MemoryStore::new(rt.alloc())?;
+    let mut end = store.end(&rt, Fuse::None);
+    for (name, before, after) in [("a", 0, 1), ("b", 1, 2)] {
+        if let Some(fault) = answer(&mut end, rt.alloc(), name) {
+            assert_eq!(rt; fault, StoreFault::NoMemory);
+            assert_eq!(rt; store.written(), before, "{name}");
+            assert!(rt; end.find(rt.alloc(), name)?.is_none(), "{name}");
+            assert_eq!(rt; answer(&mut end, rt.alloc(), name), None, "{name}");
+        }
+        assert_eq!(rt; store.written(), after, "{name}");
+        assert!(rt; end.find(rt.alloc(), name)?.is_some(), "{name}");
+    }
+    Ok(())
+}
+
 #[test]
 fn a_fuse_fails_one_call(rt: HostRuntime) -> Result<(), Fail> {
     let store = MemoryStore::new(rt.alloc())?;
