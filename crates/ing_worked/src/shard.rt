@@ -1,12 +1,12 @@
-//! The calls that take memory, once each, what a refusal leaves, pushes of the sizes at the ends of their range, worked
-//! blocks, and pushes drawn by lot beside the slow program.
+//! The calls that take memory, once each, what a refusal leaves, worked blocks, and pushes drawn by
+//! lot beside the slow program.
 use ing_labels::{LabelLimits, Labels};
 use ing_limits::Settings;
 use ing_plain::Plain;
 use ing_postings::StreamNo;
 use ing_refusals::Refusal;
 use ing_rows::{Entry, Gauge, Gauges, Line, Stamp, Tenant, Verdict};
-use ing_shard::{Due, Op, PushFault, Shard};
+use ing_shard::{Due, Op, Pushed, Shard};
 use ing_store::MemoryReceipt;
 use std::alloc::Global;
 use std::test::Fail;
@@ -33,114 +33,100 @@ fn entries(alloc: Global, count: u64) -> Result<Vec<Entry>, Fail> {
     Ok(entries)
 }
 
+/// A shard of this number by these settings.
+fn fresh<'a>(alloc: Global, settings: &str, number: u32) -> Result<Shard<MemoryReceipt<'a>>, Fail> {
+    let settings = Settings::from_toml(alloc, settings)?;
+    Ok(Shard::fresh(alloc, settings, number))
+}
+
+/// Pushes so many entries; nothing where memory ran out.
+fn pushed_once(
+    shard: &mut Shard<MemoryReceipt<'_>>,
+    alloc: Global,
+    tenant: &Tenant,
+    labels: &Labels,
+    count: u64,
+) -> Result<Option<Pushed>, Fail> {
+    match shard.push(alloc, tenant, labels, entries(alloc, count)?, stamp(1)?) {
+        Ok(pushed) => Ok(Some(pushed)),
+        Err(fault) => {
+            if fault.refusal() != Refusal::NoMemory {
+                Err("another refusal")?;
+            }
+            Ok(None)
+        }
+    }
+}
+
+/// The same for one stream. A refused push leaves the totals as they were, and the same push then
+/// succeeds.
+fn pushed(
+    shard: &mut Shard<MemoryReceipt<'_>>,
+    alloc: Global,
+    tenant: &Tenant,
+    count: u64,
+) -> Result<Pushed, Fail> {
+    let labels = Labels::of_pairs(alloc, &[("app", "web")], &LIMITS)?;
+    let before = shard.totals();
+    if let Some(pushed) = pushed_once(shard, alloc, tenant, &labels, count)? {
+        return Ok(pushed);
+    }
+    if shard.totals() != before {
+        Err("a refused push changed something")?;
+    }
+    Ok(pushed_once(shard, alloc, tenant, &labels, count)?.ok_or("a second refusal")?)
+}
+
+/// Whether the verdicts are those of so many entries that are accepted one after another, from
+/// number 0 on.
+fn are_accepted(verdicts: &[Verdict], count: u64) -> bool {
+    let mut numbers = 0..count;
+    for verdict in verdicts {
+        match numbers.next() {
+            Some(number) if *verdict == Verdict::Accepted { number } => {}
+            _ => return false,
+        }
+    }
+    numbers.next().is_none()
+}
+
+// One allocation at most is refused in a run of this test.
 #[test]
 fn a_push_is_judged_and_counted(rt: HostRuntime) -> Result<(), Fail> {
-    let mut shard: Shard<MemoryReceipt<'_>> = Shard::fresh(
-        rt.alloc(),
-        Settings::from_toml(rt.alloc(), "")?,
-        0,
-    );
     let tenant = Tenant::of_text(rt.alloc(), "acme")?;
-    let labels = Labels::of_pairs(rt.alloc(), &[("app", "web")], &LIMITS)?;
-    let two = entries(rt.alloc(), 2)?;
+    let mut shard = fresh(rt.alloc(), "", 0)?;
     assert_eq!(rt; shard.totals(), (0, 0));
     assert_eq!(rt; shard.rules(&tenant).max_line_size, 262_144);
-    // One allocation at most is refused in a run of this test: a refused push leaves the shard as it was, and the same
-    // push then succeeds.
-    let pushed = match shard.push(rt.alloc(), &tenant, &labels, two, stamp(1)?) {
-        Ok(pushed) => pushed,
-        Err(fault) => {
-            assert_eq!(rt; fault.refusal(), Refusal::NoMemory);
-            assert_eq!(rt; shard.totals(), (0, 0));
-            let again = entries(rt.alloc(), 2)?;
-            shard.push(rt.alloc(), &tenant, &labels, again, stamp(1)?)?
-        }
-    };
-    let all = [
-        Verdict::Accepted { number: 0 },
-        Verdict::Accepted { number: 1 },
-    ];
-    assert_eq!(rt; pushed.verdicts.as_slice(), all.as_slice());
-    assert!(rt; !pushed.durable);
+    let two = pushed(&mut shard, rt.alloc(), &tenant, 2)?;
+    assert!(rt; are_accepted(&two.verdicts, 2));
+    assert!(rt; !two.durable);
     assert_eq!(rt; shard.totals(), (2, 0));
     Ok(())
 }
 
-#[test]
-fn more_entries_than_one_push_of_a_tenant_may_have(rt: HostRuntime) -> Result<(), Fail> {
-    let settings = Settings::from_toml(rt.alloc(), "[tenants.acme]\nmax_entries_per_push = 1\n")?;
-    let mut shard: Shard<MemoryReceipt<'_>> = Shard::fresh(rt.alloc(), settings, 0);
-    let acme = Tenant::of_text(rt.alloc(), "acme")?;
-    let other = Tenant::of_text(rt.alloc(), "t")?;
-    let labels = Labels::of_pairs(rt.alloc(), &[("app", "web")], &LIMITS)?;
-    let fault = shard
-        .push(
-            rt.alloc(),
-            &acme,
-            &labels,
-            entries(rt.alloc(), 2)?,
-            stamp(1)?,
-        )
-        .err();
-    assert_eq!(rt;
-        fault.map(|fault| fault.refusal()),
-        Some(Refusal::TooManyEntries)
-    );
-    assert_eq!(rt; shard.totals(), (0, 0));
-    shard.push(
-        rt.alloc(),
-        &other,
-        &labels,
-        entries(rt.alloc(), 2)?,
-        stamp(1)?,
-    )?;
-    assert_eq!(rt; shard.totals(), (2, 0));
-    Ok(())
-}
-
-#[test]
-fn pushes_of_no_entry_and_of_the_most(rt: HostRuntime) -> Result<(), Fail> {
-    let mut shard: Shard<MemoryReceipt<'_>> = Shard::fresh(
-        rt.alloc(),
-        Settings::from_toml(rt.alloc(), "")?,
-        0,
-    );
-    let tenant = Tenant::of_text(rt.alloc(), "a".repeat(rt.alloc(), 150)?.as_str())?;
-    for (name, count, total) in [("none", 0, 0), ("one", 1, 1), ("most", 10_000, 10_001)] {
-        let labels = Labels::of_pairs(rt.alloc(), &[("app", name)], &LIMITS)?;
-        let these = entries(rt.alloc(), count)?;
-        let pushed = shard.push(rt.alloc(), &tenant, &labels, these, stamp(1)?)?;
-        let mut numbers = 0..count;
-        for verdict in &pushed.verdicts {
-            let number = numbers.next().ok_or("a verdict of no entry")?;
-            assert_eq!(rt; *verdict, Verdict::Accepted { number }, "{name}");
-        }
-        assert_eq!(rt; numbers.next(), None, "{name}");
-        assert_eq!(rt; shard.totals(), (total, 0), "{name}");
-    }
-    Ok(())
-}
-
-/// One entry with a line of four bytes.
-fn four_bytes(alloc: Global, nanoseconds: u64) -> Result<Vec<Entry>, Fail> {
+/// Pushes one entry with a line of four bytes.
+fn push_four_bytes(
+    shard: &mut Shard<MemoryReceipt<'_>>,
+    alloc: Global,
+    tenant: &Tenant,
+    nanoseconds: u64,
+) -> Result<(), Fail> {
+    let labels = Labels::of_pairs(alloc, &[("app", "web")], &LIMITS)?;
+    let now = stamp(nanoseconds)?;
     let mut entries = Vec::new(alloc);
     entries.push(Entry {
-        stamp: stamp(nanoseconds)?,
+        stamp: now,
         line: Line::of_text(alloc, "abcd")?,
     })?;
-    Ok(entries)
+    shard.push(alloc, tenant, &labels, entries, now)?;
+    Ok(())
 }
 
 #[test]
 fn two_lines_fill_a_block_and_two_blocks_a_chunk(rt: HostRuntime) -> Result<(), Fail> {
-    let text = "chunk_block_size = 40\nchunk_target_size = 80\n";
-    let mut shard: Shard<MemoryReceipt<'_>> = Shard::fresh(
-        rt.alloc(),
-        Settings::from_toml(rt.alloc(), text)?,
-        0,
-    );
     let tenant = Tenant::of_text(rt.alloc(), "acme")?;
-    let labels = Labels::of_pairs(rt.alloc(), &[("app", "web")], &LIMITS)?;
+    let text = "chunk_block_size = 40\nchunk_target_size = 80\n";
+    let mut shard = fresh(rt.alloc(), text, 0)?;
     for (nanoseconds, in_head, in_blocks) in [
         (1, 1, 0),
         (2, 0, 2),
@@ -148,13 +134,9 @@ fn two_lines_fill_a_block_and_two_blocks_a_chunk(rt: HostRuntime) -> Result<(), 
         (4, 0, 4),
         (5, 1, 4),
     ] {
-        let entries = four_bytes(rt.alloc(), nanoseconds)?;
-        shard.push(rt.alloc(), &tenant, &labels, entries, stamp(nanoseconds)?)?;
-        assert_eq!(rt;
-            shard.gauges(&tenant),
-            held(in_head, in_blocks),
-            "{nanoseconds}"
-        );
+        push_four_bytes(&mut shard, rt.alloc(), &tenant, nanoseconds)?;
+        let as_wanted = shard.gauges(&tenant) == held(in_head, in_blocks);
+        assert!(rt; as_wanted, "{nanoseconds}");
     }
     Ok(())
 }
@@ -247,8 +229,7 @@ fn push_of(
 
 /// The third shard, with one entry of a first stream at time 0, and two of a second at time 5.
 fn third_shard<'a>(alloc: Global, tenant: &Tenant) -> Result<Shard<MemoryReceipt<'a>>, Fail> {
-    let settings = Settings::from_toml(alloc, "chunk_idle_period = \"10ns\"\n")?;
-    let mut shard: Shard<MemoryReceipt<'_>> = Shard::fresh(alloc, settings, 3);
+    let mut shard = fresh(alloc, "chunk_idle_period = \"10ns\"\n", 3)?;
     push_of(&mut shard, alloc, tenant, "web", 1, 0)?;
     push_of(&mut shard, alloc, tenant, "api", 2, 5)?;
     Ok(shard)
@@ -321,6 +302,15 @@ impl Given {
         };
         *counter = counter.saturating_add(1);
     }
+
+    /// Whether each verdict was given.
+    fn has_each(&self) -> bool {
+        self.accepted > 0
+            && self.duplicate > 0
+            && self.line_too_long > 0
+            && self.too_far_behind > 0
+            && self.too_many_streams > 0
+    }
 }
 
 /// Small blocks and chunks, short lines, a window of 8 nanoseconds, and fewer streams than there are sets of labels.
@@ -352,6 +342,8 @@ struct Both<'a> {
     streams: Vec<Labels>,
     lots: Lots,
     time: u64,
+    given: Given,
+    sealed: u64,
     most_in_heads: u64,
     most_in_blocks: u64,
 }
@@ -366,6 +358,8 @@ impl<'a> Both<'a> {
             streams: eight_streams(alloc)?,
             lots: Lots { state: 20_261_122 },
             time: 100,
+            given: Given::default(),
+            sealed: 0,
             most_in_heads: 0,
             most_in_blocks: 0,
         })
@@ -390,6 +384,22 @@ impl<'a> Both<'a> {
         Ok((pushed.verdicts, wanted))
     }
 
+    /// Whether both judge the next push alike, and count its entries alike.
+    fn are_answered_alike(&mut self, alloc: Global) -> Result<bool, Fail> {
+        let (verdicts, wanted) = self.push(alloc)?;
+        for verdict in &wanted {
+            self.given.count(verdict);
+        }
+        Ok(verdicts.as_slice() == wanted.as_slice())
+    }
+
+    /// Whether both seal as many chunks now.
+    fn are_sealed_alike(&mut self, alloc: Global) -> Result<bool, Fail> {
+        let (count, wanted) = self.seal(alloc)?;
+        self.sealed = self.sealed.saturating_add(count);
+        Ok(count == wanted)
+    }
+
     /// How many chunks both seal now: by lot those that are due, or all.
     fn seal(&mut self, alloc: Global) -> Result<(u64, u64), Fail> {
         if self.lots.draw() % 3 == 0 {
@@ -402,8 +412,11 @@ impl<'a> Both<'a> {
         Ok((due.sealed, self.plain.sweep(rules, self.time)))
     }
 
-    /// Whether both have the same gauges of each tenant.
+    /// Whether both have the same totals, and the same gauges of each tenant.
     fn are_measured_alike(&mut self) -> bool {
+        if self.shard.totals() != (self.plain.len() as u64, 0) {
+            return false;
+        }
         let mut in_heads = self.most_in_heads;
         let mut in_blocks = self.most_in_blocks;
         for tenant in &self.tenants {
@@ -445,45 +458,17 @@ fn copies(alloc: Global, entries: &[Entry]) -> Result<Vec<Entry>, Fail> {
 }
 
 #[test]
-fn drawn_pushes_sweeps_and_seals_are_answered_as_by_the_slow_program(
-    rt: HostRuntime,
-) -> Result<(), Fail> {
-    let mut both = Both::new(rt.alloc())?;
-    let mut given = Given::default();
-    let mut sealed: u64 = 0;
-    for turn in 0..500u64 {
-        let (verdicts, wanted) = both.push(rt.alloc())?;
-        assert_eq!(rt; verdicts.as_slice(), wanted.as_slice(), "{turn}");
-        if turn % 4 == 3 {
-            let (count, wanted) = both.seal(rt.alloc())?;
-            assert_eq!(rt; count, wanted, "{turn}");
-            sealed = sealed.saturating_add(count);
-        }
-        assert_eq!(rt; both.shard.totals(), (both.plain.len() as u64, 0), "{turn}");
-        for verdict in &wanted {
-            given.count(verdict);
-        }
-    }
-    assert!(rt; given.accepted > 0, "{given:?}");
-    assert!(rt; given.duplicate > 0, "{given:?}");
-    assert!(rt; given.line_too_long > 0, "{given:?}");
-    assert!(rt; given.too_far_behind > 0, "{given:?}");
-    assert!(rt; given.too_many_streams > 0, "{given:?}");
-    assert!(rt; sealed > 0);
-    Ok(())
-}
-
-/// The same pushes, sweeps and seals: after each turn both have the same gauges.
-#[test]
-fn drawn_pushes_are_measured_as_by_the_slow_program(rt: HostRuntime) -> Result<(), Fail> {
+fn drawn_pushes_sweeps_and_seals_are_as_by_the_slow_program(rt: HostRuntime) -> Result<(), Fail> {
     let mut both = Both::new(rt.alloc())?;
     for turn in 0..500u64 {
-        both.push(rt.alloc())?;
+        assert!(rt; both.are_answered_alike(rt.alloc())?, "{turn}");
         if turn % 4 == 3 {
-            both.seal(rt.alloc())?;
+            assert!(rt; both.are_sealed_alike(rt.alloc())?, "{turn}");
         }
         assert!(rt; both.are_measured_alike(), "{turn}");
     }
+    assert!(rt; both.given.has_each(), "{:?}", both.given);
+    assert!(rt; both.sealed > 0);
     assert!(rt; both.most_in_heads > 0);
     assert!(rt; both.most_in_blocks > 0);
     Ok(())
