@@ -7,14 +7,12 @@ use Rattle.std.proofs.lemmas.List.Elements.{All-append, All-cons, All-nil}
 use Rattle.ing_rows.specs.Rows.{StreamKey, empty_state, is_stored}
 use Rattle.ing_stream.specs.Sums.{gauge_at}
 use Rattle.ing_stream.proofs.GaugeLaws.{gauge_claimed}
-use Rattle.ing_rows.specs.declared.rules.Rules.{Rules}
-use Rattle.ing_shard.specs.declared.sealing.Sealing.{Sealing}
 use Rattle.ing_shard.specs.OneStream.{Stream}
-use Rattle.ing_shard.specs.Sealing.{IsSealed}
+use Rattle.ing_shard.specs.Flights.{AreApart}
 use Rattle.ing_shard.specs.declared.streams.Streams.{Streams}
-use Rattle.ing_shard.specs.Streams.{key_of, part_of, position_of, AreDistinct, IsKept, AreHeld, measure_of, measures_of}
+use Rattle.ing_shard.specs.Streams.{key_of, part_of, position_of, AreDistinct, IsKept, AreHeld, Stays, measure_of, measures_of}
 use Rattle.ing_shard.specs.Tenants.{Fits, IsWithin, changed, find_of, is_known, kept_of}
-use Rattle.ing_shard.proofs.HeldLaws.{held_changed, measures_more, measures_nothing, middle, replaced}
+use Rattle.ing_shard.proofs.HeldLaws.{apart_kept, held_changed, measures_more, measures_nothing, middle, replaced}
 use Rattle.ing_shard.proofs.PositionLaws.{position_splits, splits_read}
 use Rattle.ing_shard.proofs.SumLaws.{sum_split, within}
 use Rattle.ing_shard.proofs.TakeLaws.{sums_fit, changed_own}
@@ -83,29 +81,35 @@ module _ {R : Type 0} (old : Streams R) (front : List Stream) (st : Stream) (bac
       subst Fits (sym (ap (λ k. changed k (measure_of st) (measure_of now)) sums_here ∙ sym (changed_own front st now back tenant)))
       (sums_fit st.tenant (front ++ now ∷ back) (replaced IsKept front st now back (subst (All IsKept) was held.kept) kept) few)
 
-  -- its growing chunk is sealed, and its tenant's sums are changed
-  pub sealed_here : (new : Streams R) (which : Sealing) (rules : Rules) (now : Stream) → new.list.items ≡ front ++ now ∷ back → IsKept now → IsSealed which rules st now
+  -- it has changed, but for its name and how many entries it has, and its tenant's sums are changed
+  pub stays_here : (new : Streams R) (now : Stream) → new.list.items ≡ front ++ now ∷ back → Stays st now
       → ((t n : List ℕ) → find_of new.tenants t n ≡ find_of old.tenants t n)
       → ((t : List ℕ) → is_known new.tenants t ≡ is_known old.tenants t)
       → ((t : List ℕ) → kept_of new.tenants t ≡ cond (bytes_eq st.tenant t) (changed (kept_of old.tenants st.tenant) (measure_of st) (measure_of now)) (kept_of old.tenants t))
-      → new.entries ≡ old.entries → new.stored ≡ old.stored → new.active ≡ old.active → AreHeld new
-  sealed_here new which rules now is kept sealed find known sums entries stored active =
-      let next = sealed.next in
+      → new.entries ≡ old.entries → new.stored + (measure_of st).stored_entries ≡ old.stored + (measure_of now).stored_entries → new.active ≡ old.active
+      → AreApart new.flights (front ++ now ∷ back) → AreHeld new
+  stays_here new now is stays find known sums entries stored active apart =
+      let next = stays.next in
       let few = held.few in
-      held_changed old new front st now back held was is kept sealed.tenant sealed.labels find known sums
+      held_changed old new front st now back held was is stays.kept stays.tenant stays.labels find known sums
       (omega (arith, entries, next))
-      (let same = stored_same st now sealed.claimed in omega (arith, stored, same))
+      stored
       (λ i. active i + cond (nat_lt 0 (sym next i)) 1 0)
       (omega (arith, entries, few))
+      apart
 
   -- and they can be
-  pub sealed_fits : (which : Sealing) (rules : Rules) (now : Stream) → IsKept now → IsSealed which rules st now → Fits (changed (kept_of old.tenants st.tenant) (measure_of st) (measure_of now))
-  sealed_fits which rules now kept sealed =
-      let next = sealed.next in
+  pub stays_fits : (now : Stream) → Stays st now → Fits (changed (kept_of old.tenants st.tenant) (measure_of st) (measure_of now))
+  stays_fits now stays =
+      let next = stays.next in
       let few = held.few in
       let before = held.entries ∙ ap (sum_by (λ o. o.chunks.memory.next)) was ∙ sum_split (λ o. o.chunks.memory.next) front st back in
       let after = sum_split (λ (o : Stream). o.chunks.memory.next) front now back in
-      fits_here now kept sealed.tenant (omega (arith, next, few, before, after))
+      fits_here now stays.kept stays.tenant (omega (arith, next, few, before, after))
+
+  -- no flight has two chunks, where the sealed chunks are the same
+  pub apart_here : (now : Stream) → now.chunks.sealed ≡ st.chunks.sealed → AreApart old.flights (front ++ now ∷ back)
+  apart_here now same = apart_kept old.flights front st now back (subst (AreApart old.flights) was held.flights) same
 
 -- a stream that was not listed begins with its first entries: it stands for the one without entries
 module _ {R : Type 0} (old : Streams R) (st now : Stream) (held : AreHeld old) (next : st.chunks.memory.next ≡ 0) (none : part_of st ≡ empty_state) (tenant : now.tenant ≡ st.tenant) where

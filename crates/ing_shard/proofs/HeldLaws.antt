@@ -1,13 +1,16 @@
 -- What is held beside the streams, after one more is listed and after one has changed.
-use Rattle.std.proofs.Common.{◌≡◌, ℕ, ◌+◌, ◌^◌, ◌≤◌, Bool, List, [], ◌∷◌, ◌++◌, length, cond, true, false, not, ◌&&◌, nat_lt, Some, None, ap, sym, ◌∙◌, subst, arith, filter, append-nil}
-use Rattle.std.specs.Prelude.{All, bytes_eq, sum_by}
+use Rattle.std.proofs.Common.{◌≡◌, ℕ, ◌+◌, ◌^◌, ◌≤◌, Bool, List, [], ◌∷◌, ◌++◌, length, cond, true, false, not, ◌&&◌, ◌==◌, nat_lt, Some, None, ap, sym, ◌∙◌, subst, arith, filter, append-nil}
+use Rattle.std.specs.Prelude.{All, bytes_eq, is_some, sum_by}
+use Rattle.slab.specs.Slab.{Slab, get}
 use Rattle.std.specs.List.{list_any}
 use Rattle.std.proofs.lemmas.List.Elements.{All-append, All-cons, All-head, All-nil, All-tail, All-weaker}
 use Rattle.ing_labels.specs.Canonical.{canonical_of}
 use Rattle.ing_rows.specs.Rows.{Row, empty_state, is_head, is_block, is_in_flight, is_stored, same_stream}
 use Rattle.ing_rows.specs.Gauges.{gauge_of}
 use Rattle.ing_rows.specs.Turns.{beside}
+use Rattle.ing_stream.specs.Contents.{flights_of}
 use Rattle.ing_shard.specs.OneStream.{Stream}
+use Rattle.ing_shard.specs.Flights.{AreApart, flights_among, flights_in}
 use Rattle.ing_shard.specs.declared.streams.Streams.{Streams}
 use Rattle.ing_shard.specs.declared.tenants.TenantKept.{TenantKept}
 use Rattle.ing_shard.specs.Tenants.{find_of, is_known, kept_of, changed, nothing_kept}
@@ -57,14 +60,21 @@ measures_more t sts st none = λ i. record {
   stored_bytes = sum_more (λ k. k.stored_bytes) t sts st (ap (λ k. k.stored_bytes) none) i;
 }
 
+-- no chunk of it is in flight
+flights_more : (f : ℕ) (sts : List Stream) (st : Stream) → st.chunks.sealed ≡ [] → flights_among f sts ≡ flights_among f (sts ++ st ∷ [])
+flights_more f sts st unclaimed =
+    none_more true (flights_in f st) (flights_among f sts) (ap (λ xs. length (filter (λ g. g == f) (flights_of xs))) unclaimed)
+    ∙ ap (λ l. flights_in f st + flights_among f l) (sym (append-nil sts))
+    ∙ sym (sum_split (flights_in f) sts st [])
+
 pub held_more : {R : Type 0} (old new : Streams R) (st : Stream) → AreHeld old → new.list.items ≡ old.list.items ++ st ∷ [] → IsKept st → st.chunks.memory.next ≡ 0 → part_of st ≡ empty_state
     → position_of (key_of st) old.list.items ≡ None
     → ((t n : List ℕ) → find_of new.tenants t n ≡ cond (bytes_eq st.tenant t && bytes_eq (canonical_of st.labels) n) (Some (length old.list.items)) (find_of old.tenants t n))
     → is_known new.tenants st.tenant ≡ true
     → ((t : List ℕ) → is_known old.tenants t ≡ true → is_known new.tenants t ≡ true)
     → ((t : List ℕ) → kept_of new.tenants t ≡ kept_of old.tenants t)
-    → new.entries ≡ old.entries → new.stored ≡ old.stored → new.active ≡ old.active → AreHeld new
-held_more old new st held is kept next none absent find known stay same entries stored active =
+    → new.entries ≡ old.entries → new.stored ≡ old.stored → new.active ≡ old.active → new.flights ≡ old.flights → st.chunks.sealed ≡ [] → AreHeld new
+held_more old new st held is kept next none absent find known stay same entries stored active taken unclaimed =
     let sts = old.list.items in
     let s = key_of st in
     let others = none_others s sts absent in
@@ -91,6 +101,7 @@ held_more old new st held is kept next none absent find known stay same entries 
       stored = stored ∙ stored_sum ∙ ap (sum_by (λ o. (measure_of o).stored_entries)) (sym is);
       active = active ∙ counted ∙ ap (λ l. length (filter (λ o. nat_lt 0 o.chunks.memory.next) l)) (sym is);
       few = omega (arith, entries, bound);
+      flights = λ f. let apart = held.flights f in subst (λ n. n ≡ cond (is_some (get new.flights f)) 1 0) (flights_more f sts st unclaimed ∙ ap (flights_among f) (sym is)) (subst (λ t. flights_among f sts ≡ cond (is_some (get t f)) 1 0) (sym taken) apart);
     }
 
 -- ---- a stream has changed
@@ -103,6 +114,15 @@ pub middle : (P : Stream → Type 0) (front : List Stream) (st : Stream) (back :
 middle P [] st back h = All-head P st back h
 middle P (f ∷ front) st back h = middle P front st back (All-tail P f (front ++ st ∷ back) h)
 
+-- no flight has two chunks, where the sealed chunks are the same
+pub apart_kept : {T : Type 0} (taken : Slab T) (front : List Stream) (st now : Stream) (back : List Stream) → AreApart taken (front ++ st ∷ back) → now.chunks.sealed ≡ st.chunks.sealed → AreApart taken (front ++ now ∷ back)
+apart_kept taken front st now back apart same f =
+    subst (λ n. n ≡ cond (is_some (get taken f)) 1 0)
+    (sum_split (flights_in f) front st back
+    ∙ ap (λ xs. length (filter (λ g. g == f) (flights_of xs)) + flights_among f (front ++ back)) (sym same)
+    ∙ sym (sum_split (flights_in f) front now back))
+    (apart f)
+
 pub held_changed : {R : Type 0} (old new : Streams R) (front : List Stream) (st now : Stream) (back : List Stream) → AreHeld old
     → old.list.items ≡ front ++ st ∷ back → new.list.items ≡ front ++ now ∷ back → IsKept now → now.tenant ≡ st.tenant → now.labels ≡ st.labels
     → ((t n : List ℕ) → find_of new.tenants t n ≡ find_of old.tenants t n)
@@ -111,8 +131,8 @@ pub held_changed : {R : Type 0} (old new : Streams R) (front : List Stream) (st 
     → new.entries + st.chunks.memory.next ≡ old.entries + now.chunks.memory.next
     → new.stored + (measure_of st).stored_entries ≡ old.stored + (measure_of now).stored_entries
     → new.active + cond (nat_lt 0 st.chunks.memory.next) 1 0 ≡ old.active + cond (nat_lt 0 now.chunks.memory.next) 1 0
-    → new.entries ≤ 2 ^ 62 → AreHeld new
-held_changed old new front st now back held was is kept tenant labels find known sums entries stored active few =
+    → new.entries ≤ 2 ^ 62 → AreApart new.flights (front ++ now ∷ back) → AreHeld new
+held_changed old new front st now back held was is kept tenant labels find known sums entries stored active few apart =
     let key : key_of now ≡ key_of st = λ i. record { tenant = tenant i; name = canonical_of (labels i) } in
     let all = subst (All IsKept) was held.kept in
     let Known : Stream → Type 0 = λ o. is_known new.tenants o.tenant ≡ true in
@@ -141,4 +161,5 @@ held_changed old new front st now back held was is kept tenant labels find known
       stored = stored_sum ∙ ap (sum_by (λ o. (measure_of o).stored_entries)) (sym is);
       active = counted ∙ ap (λ l. length (filter (λ o. nat_lt 0 o.chunks.memory.next) l)) (sym is);
       few = few;
+      flights = subst (AreApart new.flights) (sym is) apart;
     }

@@ -1,6 +1,8 @@
 mod Alike
 mod ChangeLaws
 mod CountLaws
+mod FlightLaws
+mod FlushLaws
 mod HeldLaws
 mod JudgeLaws
 mod LiveLaws

@@ -12,7 +12,9 @@ use Rattle.ing_rows.specs.Events.{is_full}
 use Rattle.ing_rows.specs.Turns.{accepted_among}
 use Rattle.ing_rows.specs.Verdicts.{accepted_number}
 use Rattle.ing_rows.specs.Rows.{StreamKey, Row, State, chunk_starts, count_of, streams_of, is_head, is_block, is_in_flight, is_stored, same_stream}
+use Rattle.slab.specs.Slab.{get}
 use Rattle.ing_shard.specs.OneStream.{Stream}
+use Rattle.ing_shard.specs.Flights.{AreApart, flights_among}
 use Rattle.ing_shard.specs.declared.streams.Streams.{Streams}
 use Rattle.ing_shard.specs.Tenants.{Fits, changed, find_of, is_known, kept_of}
 use Rattle.ing_shard.specs.Streams.{part_of, IsKept, AreDistinct, AreHeld, measure_of, measures_of, position_of}
@@ -44,7 +46,7 @@ by_lines n m = omega arith
 by_half : (n m : ℕ) → (n + m) * 2 ^ 64 ≡ n * 2 ^ 64 + m * 2 ^ 64
 by_half n m = omega arith
 
-entries_small : (st : Stream) (p : Row → Bool) → IsKept st → length (filter p (part_of st).rows) ≤ st.chunks.memory.next * 1
+pub entries_small : (st : Stream) (p : Row → Bool) → IsKept st → length (filter p (part_of st).rows) ≤ st.chunks.memory.next * 1
 entries_small st p kept = let short = filter_short p (part_of st).rows in let count = part_count st kept in omega (arith, short, count)
 
 -- the sums of a tenant's streams can be kept
@@ -79,8 +81,8 @@ changed_own front st new back tenant =
     ∙ ap (λ b. cond b (changed (measures_of st.tenant (front ++ st ∷ back)) (measure_of st) (measure_of new)) (measures_of st.tenant (front ++ st ∷ back))) ((bytes_eq-Decides st.tenant st.tenant).1 refl)
 
 -- the same list of streams is held alike
-pub held_same : {R : Type 0} (old new : Streams R) → AreHeld old → new.list.items ≡ old.list.items → new.tenants ≡ old.tenants → new.entries ≡ old.entries → new.stored ≡ old.stored → new.active ≡ old.active → AreHeld new
-held_same old new held is tenants entries stored active =
+pub held_same : {R : Type 0} (old new : Streams R) → AreHeld old → new.list.items ≡ old.list.items → new.tenants ≡ old.tenants → new.entries ≡ old.entries → new.stored ≡ old.stored → new.active ≡ old.active → ((f : ℕ) → get new.flights f ≡ get old.flights f) → AreHeld new
+held_same old new held is tenants entries stored active taken =
     let few = held.few in
     record {
       kept = subst (All IsKept) (sym is) held.kept;
@@ -92,13 +94,14 @@ held_same old new held is tenants entries stored active =
       stored = stored ∙ held.stored ∙ ap (sum_by (λ st. (measure_of st).stored_entries)) (sym is);
       active = active ∙ held.active ∙ ap (λ l. length (filter (λ st. nat_lt 0 st.chunks.memory.next) l)) (sym is);
       few = omega (arith, entries, few);
+      flights = subst (AreApart new.flights) (sym is) (λ f. subst (λ o. flights_among f old.list.items ≡ cond (is_some o) 1 0) (sym (taken f)) (held.flights f));
     }
 
 -- and where the tenants' streams are found alike
 pub held_found : {R : Type 0} (old new : Streams R) → AreHeld old → new.list.items ≡ old.list.items → ((t n : List ℕ) → find_of new.tenants t n ≡ find_of old.tenants t n)
     → ((t : List ℕ) → is_known old.tenants t ≡ true → is_known new.tenants t ≡ true) → ((t : List ℕ) → kept_of new.tenants t ≡ kept_of old.tenants t)
-    → new.entries ≡ old.entries → new.stored ≡ old.stored → new.active ≡ old.active → AreHeld new
-held_found old new held is find stay kept entries stored active =
+    → new.entries ≡ old.entries → new.stored ≡ old.stored → new.active ≡ old.active → new.flights ≡ old.flights → AreHeld new
+held_found old new held is find stay kept entries stored active taken =
     let few = held.few in
     record {
       kept = subst (All IsKept) (sym is) held.kept;
@@ -110,6 +113,7 @@ held_found old new held is find stay kept entries stored active =
       stored = stored ∙ held.stored ∙ ap (sum_by (λ st. (measure_of st).stored_entries)) (sym is);
       active = active ∙ held.active ∙ ap (λ l. length (filter (λ st. nat_lt 0 st.chunks.memory.next) l)) (sym is);
       few = omega (arith, entries, few);
+      flights = subst (AreApart new.flights) (sym is) (subst (λ t. AreApart t old.list.items) (sym taken) held.flights);
     }
 
 -- a stream has no more entries than all have

@@ -7,14 +7,17 @@ use Rattle.ing_rows.specs.Rows.{StreamKey, Row, State, IsSame, has_stream, is_st
 use Rattle.ing_rows.specs.Events.{Reply}
 use Rattle.ing_rows.specs.Events as events
 use Rattle.ing_limits.specs.Settings.{StoreSettings}
+use Rattle.ing_sealed.specs.Slots.{Slot}
 use Rattle.ing_shard.specs.declared.fault.PushFault.{PushFault}
 use Rattle.ing_shard.specs.declared.fault.PushFault.TheVariants.{NoMemory, CounterFull, TooManyEntries}
 
--- its settings, its number, the streams that have been listed, in the order of their numbers, and its rows and marks
+-- its settings, its number, the streams that have been listed, in the order of their numbers, the sealed chunks of each that
+-- a claim has taken over, the oldest first, and its rows and marks
 pub record Contents : Type 0 where
   pub settings : StoreSettings
   pub number : ℕ
   pub listed : List StreamKey
+  pub sealed : List (List Slot)
   pub state : State
 
 -- the shard's rows and marks are those of the state, in whatever order

@@ -3,6 +3,7 @@ pub mod Contents
 pub mod Faults
 pub mod KeptFacts
 pub mod OneStream
+pub mod Flights
 pub mod Tenants
 pub mod Streams
 pub mod Sealing

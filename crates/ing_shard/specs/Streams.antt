@@ -1,5 +1,5 @@
 -- What the streams of a shard stand for, and what is kept of each.
-use Rattle.std.specs.Prelude.{◌≡◌, ℕ, ◌+◌, ◌*◌, ◌≤◌, ◌^◌, max, Bool, true, false, not, List, [], ◌∷◌, All, bytes_eq, filter, length, sum_by, nat_lt, if◌then◌else◌, Option, Some, None}
+use Rattle.std.specs.Prelude.{◌≡◌, ℕ, ◌+◌, ◌*◌, ◌≤◌, ◌^◌, max, Bool, true, false, not, List, [], ◌∷◌, All, bytes_eq, filter, length, sum_by, nat_lt, slice_get, if◌then◌else◌, Option, Some, None}
 use Rattle.std.specs.List.{list_any}
 use Rattle.std.specs.Option.{option_map}
 use Rattle.ing_labels.specs.Canonical.{canonical_of}
@@ -8,9 +8,14 @@ use Rattle.ing_rows.specs.Rows.{StreamKey, State, empty_state, is_head, is_block
 use Rattle.ing_rows.specs.Facts.{Facts, facts_of}
 use Rattle.ing_rows.specs.Gauges.{gauge_of}
 use Rattle.ing_rows.specs.Sound.{IsSound}
+use Rattle.ing_rows.specs.declared.place.Place.TheVariants.{Flight}
+use Rattle.ing_rows.specs.Steps.{Claims}
 use Rattle.ing_rows.specs.Turns.{beside, IsMarked}
+use Rattle.ing_chunk.specs.Chunks.{ChunkContents}
+use Rattle.ing_sealed.specs.Slots.{Slot, slot_at}
 use Rattle.ing_stream.specs.Contents.{whole_state}
 use Rattle.ing_shard.specs.OneStream.{Stream}
+use Rattle.ing_shard.specs.Flights.{AreApart}
 use Rattle.ing_shard.specs.declared.tenants.TenantKept.{TenantKept}
 use Rattle.ing_shard.specs.declared.streams.Streams.{Streams}
 use Rattle.ing_shard.specs.Tenants.{find_of, is_known, kept_of}
@@ -21,6 +26,10 @@ key_of st = record { tenant = st.tenant; name = canonical_of st.labels }
 -- its part of the state of a shard
 abbrev pub part_of : Stream → State
 part_of st = whole_state (key_of st) st.chunks
+
+-- its sealed chunks that a claim has taken over
+abbrev pub slots_of : Stream → List Slot
+slots_of st = st.chunks.sealed
 
 -- the state of a shard that has these streams
 abbrev pub whole : List Stream → State
@@ -81,6 +90,13 @@ pub record IsKept (st : Stream) : Type 0 where
   pub marked : IsMarked (part_of st)
   pub small : IsSmall st.chunks.memory.next (measure_of st)
 
+-- a stream before and after a flush has changed where one of its chunks stands
+pub record Stays (old new : Stream) : Type 0 where
+  pub kept : IsKept new
+  pub tenant : new.tenant ≡ old.tenant
+  pub labels : new.labels ≡ old.labels
+  pub next : new.chunks.memory.next ≡ old.chunks.memory.next
+
 -- the greatest stamp of entries, beside this one
 abbrev pub greatest_with : ℕ → List Entry → ℕ
 greatest_with before [] = before
@@ -121,7 +137,7 @@ AreDistinct (st ∷ sts) = All (λ other. same_stream (key_of other) (key_of st)
 -- ---- all streams of a shard
 
 -- What is kept beside the streams is what they give: no two have the same name, each is found by it, and the sums of each
--- tenant are those of its streams.
+-- tenant are those of its streams; no two chunks are in the same flight.
 pub record AreHeld {R : Type 0} (streams : Streams R) : Type 0 where
   pub kept : All IsKept streams.list.items
   pub distinct : AreDistinct streams.list.items
@@ -132,3 +148,16 @@ pub record AreHeld {R : Type 0} (streams : Streams R) : Type 0 where
   pub stored : streams.stored ≡ sum_by (λ st. (measure_of st).stored_entries) streams.list.items
   pub active : streams.active ≡ length (filter (λ st. nat_lt 0 st.chunks.memory.next) streams.list.items)
   pub few : streams.entries ≤ 2 ^ 62
+  pub flights : AreApart streams.flights streams.list.items
+
+-- ---- flushes
+
+-- of the stream under this number, a chunk was put into this flight
+pub record FliesAt (number f index : ℕ) (chunk : ChunkContents) (olds news : List Stream) : Type 0 where
+  pub st : Stream
+  pub was : slice_get olds number ≡ Some st
+  pub now : Stream
+  pub is : slice_get news number ≡ Some now
+  pub key : key_of now ≡ key_of st
+  pub claims : Claims (key_of st) chunk.first f (whole olds) (whole news)
+  pub stands : slice_get now.chunks.sealed index ≡ Some (slot_at (Flight f) chunk)

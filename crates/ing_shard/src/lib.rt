@@ -1,8 +1,10 @@
 //! The value under one lock: the streams of one shard.
 #![tactic(auto)]
 
+mod claimed;
 mod due;
 mod fault;
+mod flushes;
 mod judge;
 mod sealing;
 mod shard;
@@ -10,6 +12,7 @@ mod stream;
 mod streams;
 mod tenants;
 
+pub use claimed::{ClaimedChunk, Finished, Stranger, Stray, Ticket};
 pub use due::{Due, Op};
 pub use fault::PushFault;
 pub use shard::{Pushed, Shard};

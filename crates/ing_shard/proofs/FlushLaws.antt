@@ -1,0 +1,154 @@
+-- A flush has changed where a chunk of one stream stands: what is kept beside the streams is set right.
+use Rattle.std.proofs.Common.{◌≡◌, ℕ, ◌+◌, ◌^◌, ◌<◌, ◌≤◌, ◌&&◌, Bool, true, false, List, ◌∷◌, ◌++◌, cond, get_or, length, map, set, Some, ap, sym, ◌∙◌, subst, arith}
+use Rattle.std.specs.Prelude.{bytes_eq, is_some, slice_get, sum_by}
+use Rattle.std.specs.Option.{option_map}
+use Rattle.slab.specs.Slab.{Slab, get}
+use Rattle.std.proofs.Math.Seq.{get_or-append_seam}
+use Rattle.std.proofs.lemmas.List.{length-append, length-map}
+use Rattle.std.proofs.lemmas.Option.{same_Some, slice_get-get_or, slice_get-map, slice_get_within}
+use Rattle.ing_rows.specs.Rows.{StreamKey, is_stored}
+use Rattle.ing_rows.specs.Steps.{Claims}
+use Rattle.ing_shard.specs.OneStream.{Stream}
+use Rattle.ing_shard.specs.Flights.{AreApart, Flown, IsAt, IsIn, flights_among, flights_in, key_in}
+use Rattle.ing_shard.specs.declared.streams.Streams.{Streams}
+use Rattle.ing_shard.specs.declared.tenants.TenantKept.{TenantKept}
+use Rattle.ing_shard.specs.Streams.{key_of, slots_of, whole, AreHeld, FliesAt, Stays, measure_of}
+use Rattle.ing_shard.specs.Tenants.{Fits, IsWithin, changed, find_of, is_known, kept_of}
+use Rattle.ing_labels.specs.Canonical.{canonical_of}
+use Rattle.ing_shard.proofs.ChangeLaws.{Around, around, known_here, stays_fits, stays_here, within_here, written_there}
+use Rattle.ing_shard.proofs.CountLaws.{filter_short, rows_total, stored_total}
+use Rattle.ing_shard.proofs.PositionLaws.{keys_same}
+use Rattle.ing_shard.proofs.SumLaws.{sum_split}
+use Rattle.ing_shard.proofs.TakeLaws.{entries_small, next_within}
+
+-- the same name
+pub same_name : (st now : Stream) → Stays st now → key_of now ≡ key_of st
+same_name st now stays = λ i. record { tenant = stays.tenant i; name = canonical_of (stays.labels i) }
+
+module _ {R : Type 0} (old : Streams R) (i : ℕ) (st now : Stream) (m : TenantKept) (held : AreHeld old) (split : Around old.list.items i st) (stays : Stays st now) (is : m ≡ measure_of st) where
+  written : set old.list.items i now ≡ split.front ++ now ∷ split.back
+  written = written_there old.list.items split.front st split.back i split.is split.at now
+
+  pub settle_known : is_known old.tenants now.tenant ≡ true
+  settle_known = ap (is_known old.tenants) stays.tenant ∙ known_here old split.front st split.back held split.is
+
+  pub settle_before : IsWithin m (kept_of old.tenants now.tenant)
+  settle_before =
+      subst (λ k. IsWithin k (kept_of old.tenants now.tenant)) (sym is)
+      (subst (λ t. IsWithin (measure_of st) (kept_of old.tenants t)) (sym stays.tenant) (within_here old split.front st split.back held split.is))
+
+  pub settle_after : Fits (changed (kept_of old.tenants now.tenant) m (measure_of now))
+  settle_after =
+      subst (λ k. Fits (changed (kept_of old.tenants now.tenant) k (measure_of now))) (sym is)
+      (subst (λ t. Fits (changed (kept_of old.tenants t) (measure_of st) (measure_of now))) (sym stays.tenant) (stays_fits old split.front st split.back held split.is now stays))
+
+  all_stored : ◌≡◌ {A = ℕ} old.stored ((measure_of st).stored_entries + sum_by (λ o. (measure_of o).stored_entries) (split.front ++ split.back))
+  all_stored = held.stored ∙ ap (sum_by (λ o. (measure_of o).stored_entries)) split.is ∙ sum_split (λ o. (measure_of o).stored_entries) split.front st split.back
+
+  pub settle_stored : m.stored_entries ≤ old.stored
+  settle_stored = let all = all_stored in let same = ap (λ k. k.stored_entries) is in omega (arith, all, same)
+
+  pub settle_few : old.stored + (measure_of now).stored_entries < 2 ^ 64
+  settle_few =
+      let stored = held.stored ∙ sym (stored_total old.list.items) in
+      let short = filter_short (λ r. is_stored r.place) (whole old.list.items).rows in
+      let entries = rows_total old.list.items held.kept ∙ sym held.entries in
+      let here = entries_small now (λ r. bytes_eq r.stream.tenant now.tenant && is_stored r.place) stays.kept in
+      let next = stays.next in
+      let within = subst (λ l. st.chunks.memory.next ≤ sum_by (λ o. o.chunks.memory.next) l) (sym split.is) (next_within split.front st split.back) in
+      let total = held.entries in
+      let few = held.few in
+      omega (arith, stored, short, entries, here, next, within, total, few)
+
+  pub settled : (new : Streams R) → new.list.items ≡ set old.list.items i now
+      → ((t n : List ℕ) → find_of new.tenants t n ≡ find_of old.tenants t n)
+      → ((t : List ℕ) → is_known new.tenants t ≡ is_known old.tenants t)
+      → ((t : List ℕ) → kept_of new.tenants t ≡ cond (bytes_eq now.tenant t) (changed (kept_of old.tenants now.tenant) m (measure_of now)) (kept_of old.tenants t))
+      → new.entries ≡ old.entries → new.stored + m.stored_entries ≡ old.stored + (measure_of now).stored_entries → new.active ≡ old.active
+      → AreApart new.flights (split.front ++ now ∷ split.back) → AreHeld new
+  settled new items find known sums entries stored active apart =
+      stays_here old split.front st split.back held split.is new now (items ∙ written) stays find known
+      (λ t. sums t ∙ (λ j. cond (bytes_eq (stays.tenant j) t) (changed (kept_of old.tenants (stays.tenant j)) (is j) (measure_of now)) (kept_of old.tenants t)))
+      entries (ap (λ k. new.stored + k.stored_entries) (sym is) ∙ stored) active apart
+
+  pub settled_keys : map key_of (set old.list.items i now) ≡ map key_of old.list.items
+  settled_keys = ap (map key_of) written ∙ keys_same split.front st now split.back (same_name st now stays) ∙ ap (map key_of) (sym split.is)
+
+  -- what holds of the whole list where the stream stands apart
+  pub settled_whole : (P : List Stream → List Stream → Type 0) → P (split.front ++ st ∷ split.back) (split.front ++ now ∷ split.back) → P old.list.items (set old.list.items i now)
+  settled_whole P h = subst (λ l. P l (set old.list.items i now)) (sym split.is) (subst (P (split.front ++ st ∷ split.back)) (sym written) h)
+
+-- ---- where a claimed chunk stands
+
+-- the stream of a claimed chunk, which is in flight in it
+pub record Standing (f : Flown) (sts : List Stream) (i : ℕ) (st : Stream) : Type 0 where
+  pub split : Around sts i st
+  pub here : IsIn f st
+  pub key : key_of st ≡ key_in f
+
+at_below : (f : Flown) (sts : List Stream) → IsAt f (map key_of sts) (map slots_of sts) → f.stream < length sts
+at_below f sts at = subst (λ n. f.stream < n) (length-map sts key_of) (slice_get_within (map key_of sts) f.stream (key_in f) at.stream)
+
+pub standing : (f : Flown) (sts : List Stream) (i : ℕ) (st : Stream) → IsAt f (map key_of sts) (map slots_of sts) → i ≡ f.stream → st ≡ get_or sts i st → Standing f sts i st
+standing f sts i st at is read =
+    let below : i < length sts = subst (λ n. n < length sts) (sym is) (at_below f sts at) in
+    let listed : slice_get sts i ≡ Some st = slice_get-get_or sts i st below ∙ ap Some (sym read) in
+    let key : key_of st ≡ key_in f =
+    same_Some (key_of st) (key_in f) (sym (ap (option_map key_of) listed) ∙ sym (slice_get-map key_of sts i) ∙ ap (slice_get (map key_of sts)) is ∙ at.stream) in
+    let slots : st.chunks.sealed ≡ at.slots =
+    same_Some st.chunks.sealed at.slots (sym (ap (option_map slots_of) listed) ∙ sym (slice_get-map slots_of sts i) ∙ ap (slice_get (map slots_of sts)) is ∙ at.listed) in
+    record {
+      split = around sts i st below read;
+      here = record {
+        tenant = ap (λ k. k.tenant) key;
+        name = ap (λ k. k.name) key;
+        stands = ap (λ xs. slice_get xs f.index) slots ∙ at.stands;
+      };
+      key = key;
+    }
+
+-- a number is that of one flight at most
+at_most_one : (b : Bool) (n : ℕ) → n ≡ cond b 1 0 → n ≤ 1
+at_most_one true n h = omega (arith, h)
+at_most_one false n h = omega (arith, h)
+
+pub one_flight : {T : Type 0} (taken : Slab T) (sts : List Stream) (f : ℕ) → AreApart taken sts → flights_among f sts ≤ 1
+one_flight taken sts f apart = at_most_one (is_some (get taken f)) (flights_among f sts) (apart f)
+
+-- a number that no chunk has is none of this stream's
+pub free_here : (f : ℕ) (sts : List Stream) (i : ℕ) (st : Stream) → Around sts i st → flights_among f sts ≡ 0 → flights_in f st ≡ 0
+free_here f sts i st split none =
+    let sum = ap (flights_among f) split.is ∙ sum_split (flights_in f) split.front st split.back in
+    omega (arith, none, sum)
+
+-- the stream that is read there
+pub listed_here : (sts : List Stream) (n i : ℕ) (st : Stream) → n ≡ length sts → i < n → st ≡ get_or sts i st → slice_get sts i ≡ Some st
+listed_here sts n i st long below read = slice_get-get_or sts i st (subst (λ k. i < k) long below) ∙ ap Some (sym read)
+
+-- the key under which it is listed
+pub key_here : (sts : List Stream) (i : ℕ) (st : Stream) (s : StreamKey) → slice_get sts i ≡ Some st → slice_get (map key_of sts) i ≡ Some s → key_of st ≡ s
+key_here sts i st s read listed = same_Some (key_of st) s (sym (ap (option_map key_of) read) ∙ sym (slice_get-map key_of sts i) ∙ listed)
+
+-- a stream that has been written is listed there
+pub now_here : (sts : List Stream) (i : ℕ) (st now : Stream) → Around sts i st → slice_get (set sts i now) i ≡ Some now
+now_here sts i st now split =
+    let written = written_there sts split.front st split.back i split.is split.at now in
+    let long = ap length written ∙ length-append split.front (now ∷ split.back) in
+    let at = split.at in
+    slice_get-get_or (set sts i now) i now (omega (arith, long, at))
+    ∙ ap Some ((λ j. get_or (written j) (sym at j) now) ∙ get_or-append_seam split.front now split.back now)
+
+-- a chunk that was put in flight is in flight there
+pub flown_at : (f : Flown) (olds news : List Stream) → FliesAt f.stream f.flight f.index f.chunk olds news
+    → (st : Stream) → slice_get olds f.stream ≡ Some st → key_in f ≡ key_of st
+    → IsAt f (map key_of news) (map slots_of news) × Claims (key_in f) f.chunk.first f.flight (whole olds) (whole news)
+flown_at f olds news flies st read key =
+    let same : key_in f ≡ key_of flies.st = key ∙ ap key_of (same_Some st flies.st (sym read ∙ flies.was)) in (
+      record {
+        stream = slice_get-map key_of news f.stream ∙ ap (option_map key_of) flies.is ∙ ap Some (flies.key ∙ sym same);
+        slots = flies.now.chunks.sealed;
+        listed = slice_get-map slots_of news f.stream ∙ ap (option_map slots_of) flies.is;
+        stands = flies.stands;
+      },
+      subst (λ s. Claims s f.chunk.first f.flight (whole olds) (whole news)) (sym same) flies.claims,
+    )

@@ -1,0 +1,82 @@
+-- Chunks that are claimed: where they stand, and what a flush does to a stream.
+-- What names no section of the Loki documentation is own.
+use Rattle.std.specs.Prelude.{◌≡◌, ℕ, ◌==◌, List, length, filter, sum_by, slice_get, is_some, if◌then◌else◌, Some}
+use Rattle.slab.specs.Slab.{Slab, get}
+use Rattle.sha2.specs.Sha256.{sha256}
+use Rattle.ing_labels.specs.Labels.{LabelMap}
+use Rattle.ing_labels.specs.Canonical.{canonical_of}
+use Rattle.ing_rows.specs.declared.place.Place.TheVariants.{Flight}
+use Rattle.ing_rows.specs.Rows.{StreamKey}
+use Rattle.ing_chunk.specs.Chunks.{ChunkContents}
+use Rattle.ing_codec.specs.ChunkObjects.{ChunkObject, chunk_text}
+use Rattle.ing_codec.specs.ChunkReading.{chunk_object}
+use Rattle.ing_codec.specs.ObjectNames.{chunk_name, row_name}
+use Rattle.ing_codec.specs.RowObjects.{IsExtentOf, row_object, row_text}
+use Rattle.ing_codec.specs.declared.extent.Extent.{Extent}
+use Rattle.ing_sealed.specs.Listings.{Listed}
+use Rattle.ing_sealed.specs.Slots.{Slot, slot_at}
+use Rattle.ing_stream.specs.Contents.{flights_of}
+use Rattle.ing_shard.specs.Contents.{Contents, stream_of}
+use Rattle.ing_shard.specs.OneStream.{Stream}
+
+-- A claimed chunk: its shard and its stream by number, its index among the stream's sealed chunks, the number of its flight,
+-- whose stream it is of, and the chunk.
+pub record Flown : Type 0 where
+  pub shard : ℕ
+  pub stream : ℕ
+  pub index : ℕ
+  pub flight : ℕ
+  pub tenant : List ℕ
+  pub labels : LabelMap
+  pub chunk : ChunkContents
+
+-- its stream
+abbrev pub key_in : Flown → StreamKey
+key_in f = stream_of f.tenant f.labels
+
+-- the object that it is stored as
+abbrev pub object_in : Flown → ChunkObject
+object_in f = chunk_object f.tenant (canonical_of f.labels) f.chunk.first f.chunk.blocks
+
+-- it is in flight among the sealed chunks of this stream
+pub record IsIn (f : Flown) (st : Stream) : Type 0 where
+  pub tenant : st.tenant ≡ f.tenant
+  pub name : canonical_of st.labels ≡ canonical_of f.labels
+  pub stands : slice_get st.chunks.sealed f.index ≡ Some (slot_at (Flight f.flight) f.chunk)
+
+-- it is in flight among these sealed chunks of these streams
+pub record IsAt (f : Flown) (keys : List StreamKey) (sealed : List (List Slot)) : Type 0 where
+  pub stream : slice_get keys f.stream ≡ Some (key_in f)
+  pub slots : List Slot
+  pub listed : slice_get sealed f.stream ≡ Some slots
+  pub stands : slice_get slots f.index ≡ Some (slot_at (Flight f.flight) f.chunk)
+
+-- it is in flight in the shard
+abbrev pub IsInFlight : Flown → Contents → Type 0
+IsInFlight f contents = (f.shard ≡ contents.number) × IsAt f contents.listed contents.sealed
+
+-- What is listed of it is the chunk, under the key of its text; the receipts mean that text and the text of its index row,
+-- each under its name.
+pub record IsUploaded (f : Flown) (listing : Listed) (row_bytes row_named : List ℕ) : Type 0 where
+  pub first : listing.first ≡ f.chunk.first
+  pub blocks : listing.blocks ≡ f.chunk.blocks
+  pub key : listing.key ≡ sha256 (chunk_text (object_in f))
+  pub bytes : listing.bytes ≡ chunk_text (object_in f)
+  pub name : listing.name ≡ chunk_name listing.key
+  pub extent : Extent
+  pub extends : IsExtentOf f.chunk extent
+  pub row : row_bytes ≡ row_text (row_object f.tenant (canonical_of f.labels) extent listing.key)
+  pub named : row_named ≡ row_name f.tenant (canonical_of f.labels) listing.key
+
+-- ---- numbers of flights
+
+-- how many chunks of a stream are in this flight, and how many of all streams
+abbrev pub flights_in : ℕ → Stream → ℕ
+flights_in f st = length (filter (λ g. g == f) (flights_of st.chunks.sealed))
+
+abbrev pub flights_among : ℕ → List Stream → ℕ
+flights_among f sts = sum_by (flights_in f) sts
+
+-- no two chunks are in the same flight, and no number is taken but those of flights
+abbrev pub AreApart : {T : Type 0} → Slab T → List Stream → Type 0
+AreApart taken sts = (f : ℕ) → flights_among f sts ≡ (if is_some (get taken f) then 1 else 0)

@@ -1,0 +1,140 @@
+//! Claimed chunks, and the tickets for them.
+ghost use Rattle.std.specs.Prelude.{◌≡◌, ◌<◌, ◌^◌, IfOk, length};
+ghost use Rattle.ing_chunk.specs.Chunks.{IsWhole};
+ghost use Rattle.ing_labels.specs.Canonical.{canonical_of};
+ghost use Rattle.ing_store.specs.StoreFaults.{IsCounted};
+ghost use Rattle.ing_shard.specs.Flights.{IsUploaded};
+
+use ing_chunk::Chunk;
+use ing_labels::Labels;
+use ing_postings::StreamNo;
+use ing_rows::Tenant;
+use ing_sealed::{Flushed, upload};
+use ing_store::{Receipt, StoreEnd, StoreFault};
+use std::alloc::Global;
+use std::marker::Model;
+use std::sync::Arc;
+
+/// A sealed chunk that was claimed: where it stands in its shard, and whose stream it is of. The chunk is the one that the
+/// shard has, not a copy.
+#[derive(Drop)]
+pub struct ClaimedChunk {
+    pub(crate) shard: u32,
+    pub(crate) stream: StreamNo,
+    pub(crate) index: usize,
+    pub(crate) flight: u64,
+    pub(crate) tenant: Tenant,
+    pub(crate) labels: Labels,
+    pub(crate) chunk: Arc<Chunk>,
+}
+
+impl Model for ClaimedChunk {
+    ghost use Rattle.ing_shard.specs.Flights.{Flown};
+
+    ghost Value = { Flown };
+
+    ghost use Rattle.std.specs.Coded.{codes};
+    ghost use Rattle.ing_shard.specs.Coded.{flown_code};
+
+    ghost coded = { flown_code (Prim.hlevel (codes)) };
+
+    ghost view = { λ claimed. record {
+      shard = claimed.shard;
+      stream = claimed.stream;
+      index = claimed.index;
+      flight = claimed.flight;
+      tenant = claimed.tenant;
+      labels = claimed.labels;
+      chunk = claimed.chunk.value;
+    } };
+
+    ghost use Rattle.ing_chunk.specs.Chunks.{IsWhole};
+
+    ghost invariant = { λ claimed. IsWhole claimed.chunk.value };
+}
+
+impl ClaimedChunk {
+    /// Whose stream it is of.
+    pub fn tenant(&self) -> &Tenant
+        ensures { result.now ≡ self.now.tenant }
+    {
+        &self.tenant
+    }
+
+    /// The labels of its stream.
+    pub fn labels(&self) -> &Labels
+        ensures { result.now ≡ self.now.labels }
+    {
+        &self.labels
+    }
+
+    /// The chunk, with all its entries.
+    pub fn chunk(&self) -> &Chunk
+        ensures value { result.now ≡ self.now.chunk }
+        ensures whole { IsWhole result.now }
+    {
+        &self.chunk
+    }
+}
+
+/// The right to say what became of a claimed chunk: it is stored, or it is given back. It cannot be dropped.
+pub struct Ticket {
+    pub(crate) claimed: ClaimedChunk,
+}
+
+/// What may be dropped, and a ticket beside it. The two impls would overlap if a ticket could be dropped, which the check
+/// refuses: so it notices where `Ticket` comes to derive `Drop`.
+trait IsDroppedOrSpent {}
+
+impl<T: Drop> IsDroppedOrSpent for T {}
+
+impl IsDroppedOrSpent for Ticket {}
+
+/// A ticket for a chunk that is not in flight in the shard that it was handed to.
+#[derive(Drop)]
+pub struct Stray {
+    /// The chunk of the ticket.
+    pub claimed: ClaimedChunk,
+}
+
+/// A ticket for a chunk that is not in flight in the shard that it was handed to, with what was uploaded of the chunk.
+#[derive(Drop)]
+pub struct Stranger<R: Receipt> {
+    /// The ticket.
+    pub stray: Stray,
+    /// The listing and the receipt of the index row.
+    pub flushed: Flushed<R>,
+}
+
+/// What listing a chunk as stored left.
+#[derive(Clone, Copy, Debug, PartialEq, Eq)]
+pub struct Finished {
+    /// Whether the listing would survive a crash. There is no log yet, so it is always false.
+    pub durable: bool,
+}
+
+impl Ticket {
+    /// The chunk that it is for.
+    pub fn claimed(&self) -> &ClaimedChunk
+        ensures { result.now ≡ self.now.claimed }
+    {
+        &self.claimed
+    }
+
+    /// Puts the whole chunk into a store, and then its index row, and gives what the shard lists of it and the receipt of
+    /// the row. No canonical name may have 2^32 bytes. `NoMemory` where memory ran out, and any other fault only where the
+    /// end has failed; a fault leaves open what of both is stored. (Own.)
+    pub fn upload<S: StoreEnd>(
+        &self,
+        alloc: Global,
+        end: &mut S,
+    ) -> Result<Flushed<S::Receipt>, StoreFault>
+        requires { length (canonical_of self.now.claimed.labels) < 2 ^ 32 }
+        ensures uploaded { IfOk result (λ done. IsUploaded self.now.claimed done.listing
+            (S.Receipt.bytes done.row) (S.Receipt.name done.row)) }
+        ensures count { IsCounted (S.failure_count end.old) (S.failure_count end.new) result }
+    {
+        let claimed = &self.claimed;
+        upload(alloc, end, &claimed.tenant, &claimed.labels, &claimed.chunk)
+    }
+}
