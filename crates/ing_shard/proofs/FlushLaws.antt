@@ -12,7 +12,7 @@ use Rattle.ing_shard.specs.OneStream.{Stream}
 use Rattle.ing_shard.specs.Flights.{AreApart, Flown, IsAt, IsIn, flights_among, flights_in, key_in}
 use Rattle.ing_shard.specs.declared.streams.Streams.{Streams}
 use Rattle.ing_shard.specs.declared.tenants.TenantKept.{TenantKept}
-use Rattle.ing_shard.specs.Streams.{key_of, slots_of, whole, AreHeld, FliesAt, Stays, measure_of}
+use Rattle.ing_shard.specs.Streams.{key_of, slots_of, whole, AreHeld, CanSettle, FliesAt, Stays, measure_of}
 use Rattle.ing_shard.specs.Tenants.{Fits, IsWithin, changed, find_of, is_known, kept_of}
 use Rattle.ing_labels.specs.Canonical.{canonical_of}
 use Rattle.ing_shard.proofs.ChangeLaws.{Around, around, known_here, stays_fits, stays_here, within_here, written_there}
@@ -29,27 +29,11 @@ module _ {R : Type 0} (old : Streams R) (i : ℕ) (st now : Stream) (m : TenantK
   written : set old.list.items i now ≡ split.front ++ now ∷ split.back
   written = written_there old.list.items split.front st split.back i split.is split.at now
 
-  pub settle_known : is_known old.tenants now.tenant ≡ true
-  settle_known = ap (is_known old.tenants) stays.tenant ∙ known_here old split.front st split.back held split.is
-
-  pub settle_before : IsWithin m (kept_of old.tenants now.tenant)
-  settle_before =
-      subst (λ k. IsWithin k (kept_of old.tenants now.tenant)) (sym is)
-      (subst (λ t. IsWithin (measure_of st) (kept_of old.tenants t)) (sym stays.tenant) (within_here old split.front st split.back held split.is))
-
-  pub settle_after : Fits (changed (kept_of old.tenants now.tenant) m (measure_of now))
-  settle_after =
-      subst (λ k. Fits (changed (kept_of old.tenants now.tenant) k (measure_of now))) (sym is)
-      (subst (λ t. Fits (changed (kept_of old.tenants t) (measure_of st) (measure_of now))) (sym stays.tenant) (stays_fits old split.front st split.back held split.is now stays))
-
   all_stored : ◌≡◌ {A = ℕ} old.stored ((measure_of st).stored_entries + sum_by (λ o. (measure_of o).stored_entries) (split.front ++ split.back))
   all_stored = held.stored ∙ ap (sum_by (λ o. (measure_of o).stored_entries)) split.is ∙ sum_split (λ o. (measure_of o).stored_entries) split.front st split.back
 
-  pub settle_stored : m.stored_entries ≤ old.stored
-  settle_stored = let all = all_stored in let same = ap (λ k. k.stored_entries) is in omega (arith, all, same)
-
-  pub settle_few : old.stored + (measure_of now).stored_entries < 2 ^ 64
-  settle_few =
+  few_stored : old.stored + (measure_of now).stored_entries < 2 ^ 64
+  few_stored =
       let stored = held.stored ∙ sym (stored_total old.list.items) in
       let short = filter_short (λ r. is_stored r.place) (whole old.list.items).rows in
       let entries = rows_total old.list.items held.kept ∙ sym held.entries in
@@ -59,6 +43,20 @@ module _ {R : Type 0} (old : Streams R) (i : ℕ) (st now : Stream) (m : TenantK
       let total = held.entries in
       let few = held.few in
       omega (arith, stored, short, entries, here, next, within, total, few)
+
+  pub can_settle : CanSettle old.tenants old.stored now m
+  can_settle =
+      let all = all_stored in
+      let same = ap (λ k. k.stored_entries) is in
+      record {
+        known = ap (is_known old.tenants) stays.tenant ∙ known_here old split.front st split.back held split.is;
+        before = subst (λ k. IsWithin k (kept_of old.tenants now.tenant)) (sym is)
+            (subst (λ t. IsWithin (measure_of st) (kept_of old.tenants t)) (sym stays.tenant) (within_here old split.front st split.back held split.is));
+        after = subst (λ k. Fits (changed (kept_of old.tenants now.tenant) k (measure_of now))) (sym is)
+            (subst (λ t. Fits (changed (kept_of old.tenants t) (measure_of st) (measure_of now))) (sym stays.tenant) (stays_fits old split.front st split.back held split.is now stays));
+        stored = omega (arith, all, same);
+        few = few_stored;
+      }
 
   pub settled : (new : Streams R) → new.list.items ≡ set old.list.items i now
       → ((t n : List ℕ) → find_of new.tenants t n ≡ find_of old.tenants t n)
@@ -124,6 +122,10 @@ free_here f sts i st split none =
 -- the stream that is read there
 pub listed_here : (sts : List Stream) (n i : ℕ) (st : Stream) → n ≡ length sts → i < n → st ≡ get_or sts i st → slice_get sts i ≡ Some st
 listed_here sts n i st long below read = slice_get-get_or sts i st (subst (λ k. i < k) long below) ∙ ap Some (sym read)
+
+-- and the list around it
+pub around_here : (sts : List Stream) (n i : ℕ) (st : Stream) → n ≡ length sts → i < n → st ≡ get_or sts i st → Around sts i st
+around_here sts n i st long below read = around sts i st (subst (λ k. i < k) long below) read
 
 -- the key under which it is listed
 pub key_here : (sts : List Stream) (i : ℕ) (st : Stream) (s : StreamKey) → slice_get sts i ≡ Some st → slice_get (map key_of sts) i ≡ Some s → key_of st ≡ s

@@ -1,5 +1,5 @@
 -- What the streams of a shard stand for, and what is kept of each.
-use Rattle.std.specs.Prelude.{◌≡◌, ℕ, ◌+◌, ◌*◌, ◌≤◌, ◌^◌, max, Bool, true, false, not, List, [], ◌∷◌, All, bytes_eq, filter, length, sum_by, nat_lt, slice_get, if◌then◌else◌, Option, Some, None}
+use Rattle.std.specs.Prelude.{◌≡◌, ℕ, ◌+◌, ◌*◌, ◌≤◌, ◌<◌, ◌^◌, max, Bool, true, false, not, List, [], ◌∷◌, All, bytes_eq, filter, length, sum_by, nat_lt, slice_get, if◌then◌else◌, Option, Some, None}
 use Rattle.std.specs.List.{list_any}
 use Rattle.std.specs.Option.{option_map}
 use Rattle.ing_labels.specs.Canonical.{canonical_of}
@@ -18,7 +18,8 @@ use Rattle.ing_shard.specs.OneStream.{Stream}
 use Rattle.ing_shard.specs.Flights.{AreApart}
 use Rattle.ing_shard.specs.declared.tenants.TenantKept.{TenantKept}
 use Rattle.ing_shard.specs.declared.streams.Streams.{Streams}
-use Rattle.ing_shard.specs.Tenants.{find_of, is_known, kept_of}
+use Rattle.ing_shard.specs.declared.tenants.Tenants.{Tenants}
+use Rattle.ing_shard.specs.Tenants.{Fits, IsWithin, changed, find_of, is_known, kept_of}
 
 abbrev pub key_of : Stream → StreamKey
 key_of st = record { tenant = st.tenant; name = canonical_of st.labels }
@@ -151,6 +152,14 @@ pub record AreHeld {R : Type 0} (streams : Streams R) : Type 0 where
   pub flights : AreApart streams.flights streams.list.items
 
 -- ---- flushes
+
+-- what is kept beside the streams can be set right after a flush has changed a stream, which had this measure
+pub record CanSettle (tenants : Tenants) (total : ℕ) (now : Stream) (was : TenantKept) : Type 0 where
+  pub known : is_known tenants now.tenant ≡ true
+  pub before : IsWithin was (kept_of tenants now.tenant)
+  pub after : Fits (changed (kept_of tenants now.tenant) was (measure_of now))
+  pub stored : was.stored_entries ≤ total
+  pub few : total + (measure_of now).stored_entries < 2 ^ 64
 
 -- of the stream under this number, a chunk was put into this flight
 pub record FliesAt (number f index : ℕ) (chunk : ChunkContents) (olds news : List Stream) : Type 0 where

@@ -1,4 +1,4 @@
-use Rattle.std.proofs.Common.{◌≡◌, ◌∷◌, ◌++◌, None, Option, Some, arith, refl, subst, sym, ◌∙◌}
+use Rattle.std.proofs.Common.{◌≡◌, ◌∷◌, ◌++◌, None, Option, Some, refl, subst, sym, ◌∙◌}
 use Rattle.std.specs.Prelude.{IfNone, IfSome, IsPermutation, slice_get}
 use Rattle.slab.specs.Slab.{Updates}
 use Rattle.ing_rows.specs.declared.place.Place.TheVariants.{Flight}
@@ -10,9 +10,9 @@ use Rattle.ing_rows.specs.Steps.{Claims, ClaimsNone}
 use Rattle.ing_shard.specs.Flights.{AreApart, flights_among}
 use Rattle.ing_shard.specs.declared.streams.Streams.{Streams}
 use Rattle.ing_shard.specs.Streams.{AreDistinct, key_of, part_of, whole}
-use Rattle.ing_shard.proofs.ChangeLaws.{around, kept_here}
+use Rattle.ing_shard.proofs.ChangeLaws.{kept_here}
 use Rattle.ing_shard.proofs.FlightLaws.{apart_claimed, apart_same, claims_whole, free_number, free_slots, none_whole, same_whole}
-use Rattle.ing_shard.proofs.FlushLaws.{free_here, key_here, listed_here, now_here, same_name, settle_after, settle_before, settle_few, settle_known, settle_stored, settled, settled_keys, settled_whole}
+use Rattle.ing_shard.proofs.FlushLaws.{around_here, free_here, key_here, listed_here, now_here, same_name, can_settle, settled, settled_keys, settled_whole}
 use Rattle.ing_shard.proofs.TenantLaws.{always_on_err}
 use Rattle.ing_shard.proofs.streams.Streams.fly.Goals as goal
 
@@ -22,61 +22,25 @@ if_none (Some x) P not h = absurd (not x refl)
 
 pub claim-claimed-requires-clause-kept : goal.claim-claimed-requires-clause-kept
 claim-claimed-requires-clause-kept g c =
-    let long = c.args.self.now.list.ok.0 in
-    let listed = c.requires.listed in
-    let split = around c.args.self.now.list.items c.args.number c.index_mut-stream.result.now (omega (arith, long, listed)) c.index_mut-stream.ensures.value in
+    let split = around_here c.args.self.now.list.items _ c.args.number c.index_mut-stream.result.now c.args.self.now.list.ok.0 c.requires.listed c.index_mut-stream.ensures.value in
     kept_here c.args.self.now split.front c.index_mut-stream.result.now split.back c.requires.held split.is
 
 pub claim-claimed-requires-clause-free : goal.claim-claimed-requires-clause-free
 claim-claimed-requires-clause-free g c =
-    let long = c.args.self.now.list.ok.0 in
-    let listed = c.requires.listed in
-    let split = around c.args.self.now.list.items c.args.number c.index_mut-stream.result.now (omega (arith, long, listed)) c.index_mut-stream.ensures.value in
+    let split = around_here c.args.self.now.list.items _ c.args.number c.index_mut-stream.result.now c.args.self.now.list.ok.0 c.requires.listed c.index_mut-stream.ensures.value in
     let old = c.args.self.now in
     let f = c.vacant_key-flight.result in
     let none = free_number f old.flights old.list.items c.requires.held.flights c.vacant_key-flight.ensures.vacant in
     free_slots f c.index_mut-stream.result.now (free_here f old.list.items c.args.number c.index_mut-stream.result.now split none)
 
-pub settle-requires-clause-known : goal.settle-requires-clause-known
-settle-requires-clause-known g c =
-    let long = c.args.self.now.list.ok.0 in
-    let listed = c.requires.listed in
-    let split = around c.args.self.now.list.items c.args.number c.index_mut-stream.result.now (omega (arith, long, listed)) c.index_mut-stream.ensures.value in
-    settle_known c.args.self.now c.args.number c.index_mut-stream.result.now c.claim-claimed.new.self c.measure-before.result c.requires.held split c.claim-claimed.ensures.stays c.measure-before.ensures.measure
-
-pub settle-requires-clause-before : goal.settle-requires-clause-before
-settle-requires-clause-before g c =
-    let long = c.args.self.now.list.ok.0 in
-    let listed = c.requires.listed in
-    let split = around c.args.self.now.list.items c.args.number c.index_mut-stream.result.now (omega (arith, long, listed)) c.index_mut-stream.ensures.value in
-    settle_before c.args.self.now c.args.number c.index_mut-stream.result.now c.claim-claimed.new.self c.measure-before.result c.requires.held split c.claim-claimed.ensures.stays c.measure-before.ensures.measure
-
-pub settle-requires-clause-after : goal.settle-requires-clause-after
-settle-requires-clause-after g c =
-    let long = c.args.self.now.list.ok.0 in
-    let listed = c.requires.listed in
-    let split = around c.args.self.now.list.items c.args.number c.index_mut-stream.result.now (omega (arith, long, listed)) c.index_mut-stream.ensures.value in
-    settle_after c.args.self.now c.args.number c.index_mut-stream.result.now c.claim-claimed.new.self c.measure-before.result c.requires.held split c.claim-claimed.ensures.stays c.measure-before.ensures.measure
-
-pub settle-requires-clause-stored : goal.settle-requires-clause-stored
-settle-requires-clause-stored g c =
-    let long = c.args.self.now.list.ok.0 in
-    let listed = c.requires.listed in
-    let split = around c.args.self.now.list.items c.args.number c.index_mut-stream.result.now (omega (arith, long, listed)) c.index_mut-stream.ensures.value in
-    settle_stored c.args.self.now c.args.number c.index_mut-stream.result.now c.claim-claimed.new.self c.measure-before.result c.requires.held split c.claim-claimed.ensures.stays c.measure-before.ensures.measure
-
-pub settle-requires-clause-few : goal.settle-requires-clause-few
-settle-requires-clause-few g c =
-    let long = c.args.self.now.list.ok.0 in
-    let listed = c.requires.listed in
-    let split = around c.args.self.now.list.items c.args.number c.index_mut-stream.result.now (omega (arith, long, listed)) c.index_mut-stream.ensures.value in
-    settle_few c.args.self.now c.args.number c.index_mut-stream.result.now c.claim-claimed.new.self c.measure-before.result c.requires.held split c.claim-claimed.ensures.stays c.measure-before.ensures.measure
+pub settle-requires : goal.settle-requires
+settle-requires g c =
+    let split = around_here c.args.self.now.list.items _ c.args.number c.index_mut-stream.result.now c.args.self.now.list.ok.0 c.requires.listed c.index_mut-stream.ensures.value in
+    can_settle c.args.self.now c.args.number c.index_mut-stream.result.now c.claim-claimed.new.self c.measure-before.result c.requires.held split c.claim-claimed.ensures.stays c.measure-before.ensures.measure
 
 pub returns-in_err-claim-clause-held : goal.returns-in_err-claim-clause-held
 returns-in_err-claim-clause-held g c =
-    let long = c.args.self.now.list.ok.0 in
-    let listed = c.requires.listed in
-    let split = around c.args.self.now.list.items c.args.number c.index_mut-stream.result.now (omega (arith, long, listed)) c.index_mut-stream.ensures.value in
+    let split = around_here c.args.self.now.list.items _ c.args.number c.index_mut-stream.result.now c.args.self.now.list.ok.0 c.requires.listed c.index_mut-stream.ensures.value in
     let old = c.args.self.now in
     let st = c.index_mut-stream.result.now in
     let now = c.claim-claimed.new.self in
@@ -87,25 +51,19 @@ returns-in_err-claim-clause-held g c =
 
 pub returns-in_err-claim-clause-keys : goal.returns-in_err-claim-clause-keys
 returns-in_err-claim-clause-keys g c =
-    let long = c.args.self.now.list.ok.0 in
-    let listed = c.requires.listed in
-    let split = around c.args.self.now.list.items c.args.number c.index_mut-stream.result.now (omega (arith, long, listed)) c.index_mut-stream.ensures.value in
+    let split = around_here c.args.self.now.list.items _ c.args.number c.index_mut-stream.result.now c.args.self.now.list.ok.0 c.requires.listed c.index_mut-stream.ensures.value in
     settled_keys c.args.self.now c.args.number c.index_mut-stream.result.now c.claim-claimed.new.self c.measure-before.result c.requires.held split c.claim-claimed.ensures.stays c.measure-before.ensures.measure
 
 pub returns-in_err-claim-clause-err : goal.returns-in_err-claim-clause-err
 returns-in_err-claim-clause-err g c =
-    let long = c.args.self.now.list.ok.0 in
-    let listed = c.requires.listed in
-    let split = around c.args.self.now.list.items c.args.number c.index_mut-stream.result.now (omega (arith, long, listed)) c.index_mut-stream.ensures.value in
+    let split = around_here c.args.self.now.list.items _ c.args.number c.index_mut-stream.result.now c.args.self.now.list.ok.0 c.requires.listed c.index_mut-stream.ensures.value in
     let st = c.index_mut-stream.result.now in
     always_on_err c.from_residual.result (settled_whole c.args.self.now c.args.number c.index_mut-stream.result.now c.claim-claimed.new.self c.measure-before.result c.requires.held split c.claim-claimed.ensures.stays c.measure-before.ensures.measure (λ olds news. IsSame (whole news) (whole olds))
     (same_whole split.front st c.claim-claimed.new.self split.back c.in_err-claim.ensures.err))
 
 pub returns-in_default-clause-held : goal.returns-in_default-clause-held
 returns-in_default-clause-held g c =
-    let long = c.args.self.now.list.ok.0 in
-    let listed = c.requires.listed in
-    let split = around c.args.self.now.list.items c.args.number c.index_mut-stream.result.now (omega (arith, long, listed)) c.index_mut-stream.ensures.value in
+    let split = around_here c.args.self.now.list.items _ c.args.number c.index_mut-stream.result.now c.args.self.now.list.ok.0 c.requires.listed c.index_mut-stream.ensures.value in
     let old = c.args.self.now in
     let st = c.index_mut-stream.result.now in
     let now = c.claim-claimed.new.self in
@@ -116,19 +74,15 @@ returns-in_default-clause-held g c =
 
 pub returns-in_default-clause-keys : goal.returns-in_default-clause-keys
 returns-in_default-clause-keys g c =
-    let long = c.args.self.now.list.ok.0 in
-    let listed = c.requires.listed in
-    let split = around c.args.self.now.list.items c.args.number c.index_mut-stream.result.now (omega (arith, long, listed)) c.index_mut-stream.ensures.value in
+    let split = around_here c.args.self.now.list.items _ c.args.number c.index_mut-stream.result.now c.args.self.now.list.ok.0 c.requires.listed c.index_mut-stream.ensures.value in
     settled_keys c.args.self.now c.args.number c.index_mut-stream.result.now c.claim-claimed.new.self c.measure-before.result c.requires.held split c.claim-claimed.ensures.stays c.measure-before.ensures.measure
 
 pub returns-in_default-clause-none : goal.returns-in_default-clause-none
 returns-in_default-clause-none g c s named =
-    let long = c.args.self.now.list.ok.0 in
-    let listed = c.requires.listed in
-    let split = around c.args.self.now.list.items c.args.number c.index_mut-stream.result.now (omega (arith, long, listed)) c.index_mut-stream.ensures.value in
+    let split = around_here c.args.self.now.list.items _ c.args.number c.index_mut-stream.result.now c.args.self.now.list.ok.0 c.requires.listed c.index_mut-stream.ensures.value in
     let items = c.args.self.now.list.items in
     let st = c.index_mut-stream.result.now in
-    let key = key_here items c.args.number st s (listed_here items _ c.args.number st long listed c.index_mut-stream.ensures.value) named in
+    let key = key_here items c.args.number st s (listed_here items _ c.args.number st c.args.self.now.list.ok.0 c.requires.listed c.index_mut-stream.ensures.value) named in
     settled_whole c.args.self.now c.args.number c.index_mut-stream.result.now c.claim-claimed.new.self c.measure-before.result c.requires.held split c.claim-claimed.ensures.stays c.measure-before.ensures.measure (λ olds news. ClaimsNone s (whole olds) (whole news))
     (subst (λ k. ClaimsNone k (whole (split.front ++ st ∷ split.back)) (whole (split.front ++ c.claim-claimed.new.self ∷ split.back))) key
     (none_whole c.flushes_are_apart.ensures c.flushes_have_no_order.ensures split.front st c.claim-claimed.new.self split.back (subst AreDistinct split.is c.requires.held.distinct)
@@ -136,9 +90,7 @@ returns-in_default-clause-none g c s named =
 
 pub returns-clause-held : goal.returns-clause-held
 returns-clause-held g c =
-    let long = c.args.self.now.list.ok.0 in
-    let listed = c.requires.listed in
-    let split = around c.args.self.now.list.items c.args.number c.index_mut-stream.result.now (omega (arith, long, listed)) c.index_mut-stream.ensures.value in
+    let split = around_here c.args.self.now.list.items _ c.args.number c.index_mut-stream.result.now c.args.self.now.list.ok.0 c.requires.listed c.index_mut-stream.ensures.value in
     let old = c.args.self.now in
     let st = c.index_mut-stream.result.now in
     let now = c.claim-claimed.new.self in
@@ -151,16 +103,12 @@ returns-clause-held g c =
 
 pub returns-clause-keys : goal.returns-clause-keys
 returns-clause-keys g c =
-    let long = c.args.self.now.list.ok.0 in
-    let listed = c.requires.listed in
-    let split = around c.args.self.now.list.items c.args.number c.index_mut-stream.result.now (omega (arith, long, listed)) c.index_mut-stream.ensures.value in
+    let split = around_here c.args.self.now.list.items _ c.args.number c.index_mut-stream.result.now c.args.self.now.list.ok.0 c.requires.listed c.index_mut-stream.ensures.value in
     settled_keys c.args.self.now c.args.number c.index_mut-stream.result.now c.claim-claimed.new.self c.measure-before.result c.requires.held split c.claim-claimed.ensures.stays c.measure-before.ensures.measure
 
 pub returns-clause-flies : goal.returns-clause-flies
 returns-clause-flies g c =
-    let long = c.args.self.now.list.ok.0 in
-    let listed = c.requires.listed in
-    let split = around c.args.self.now.list.items c.args.number c.index_mut-stream.result.now (omega (arith, long, listed)) c.index_mut-stream.ensures.value in
+    let split = around_here c.args.self.now.list.items _ c.args.number c.index_mut-stream.result.now c.args.self.now.list.ok.0 c.requires.listed c.index_mut-stream.ensures.value in
     let items = c.args.self.now.list.items in
     let st = c.index_mut-stream.result.now in
     let now = c.claim-claimed.new.self in
@@ -170,7 +118,7 @@ returns-clause-flies g c =
     let none = free_number f c.args.self.now.flights items c.requires.held.flights c.vacant_key-flight.ensures.vacant in
     record {
       st = st;
-      was = listed_here items _ c.args.number st long listed c.index_mut-stream.ensures.value;
+      was = listed_here items _ c.args.number st c.args.self.now.list.ok.0 c.requires.listed c.index_mut-stream.ensures.value;
       now = now;
       is = now_here items c.args.number st now split;
       key = same_name st now done.stays;
