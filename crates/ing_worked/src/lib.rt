@@ -3,6 +3,8 @@
 #![tactic(auto)]
 
 #[cfg(test)]
+mod flushes;
+#[cfg(test)]
 mod labels;
 #[cfg(test)]
 mod postings;
