@@ -2,12 +2,14 @@
 ghost use Rattle.std.specs.Prelude.{◌≡◌, ◌<◌, ◌^◌, IfOk, length};
 ghost use Rattle.ing_chunk.specs.Chunks.{IsWhole};
 ghost use Rattle.ing_labels.specs.Canonical.{canonical_of};
+ghost use Rattle.ing_refusals.specs.declared.refusal.Refusal.TheVariants as refusal;
 ghost use Rattle.ing_store.specs.StoreFaults.{IsCounted};
 ghost use Rattle.ing_shard.specs.Flights.{IsUploaded};
 
 use ing_chunk::Chunk;
 use ing_labels::Labels;
 use ing_postings::StreamNo;
+use ing_refusals::Refusal;
 use ing_rows::Tenant;
 use ing_sealed::{Flushed, upload};
 use ing_store::{Receipt, StoreEnd, StoreFault};
@@ -95,6 +97,15 @@ impl IsDroppedOrSpent for Ticket {}
 pub struct Stray {
     /// The chunk of the ticket.
     pub claimed: ClaimedChunk,
+}
+
+impl Stray {
+    /// Which refusal it is. Takes no memory.
+    pub fn refusal(&self) -> Refusal
+        ensures { result ≡ refusal.Stranger }
+    {
+        Refusal::Stranger
+    }
 }
 
 /// A ticket for a chunk that is not in flight in the shard that it was handed to, with what was uploaded of the chunk.
