@@ -19,3 +19,4 @@ pub mod CanonicalChars
 pub mod CanonicalEnds
 pub mod Copied
 pub mod Decided
+pub mod ShortNames

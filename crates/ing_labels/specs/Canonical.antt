@@ -1,9 +1,10 @@
 -- The canonical name of a label map: `{a="x", b="y"}`.
 -- What names no section of the Loki documentation is own.
-use Rattle.std.specs.Prelude.{◌≡◌, ◌↔◌, ℕ, Bool, ◌||◌, List, [], ◌∷◌, ◌++◌, codes, ◌==◌, if◌then◌else◌}
+use Rattle.std.specs.Prelude.{◌≡◌, ◌↔◌, ◌≤◌, ℕ, ◌+◌, ◌*◌, Bool, ◌||◌, List, [], ◌∷◌, ◌++◌, length, codes, ◌==◌, if◌then◌else◌}
 use Rattle.std.specs.List.{flat_map, join_by}
 use Rattle.std.specs.FinMap.{entries}
-use Rattle.ing_labels.specs.Labels.{LabelMap, Pair, HasLabelNames}
+use Rattle.ing_labels.specs.declared.fault.LabelLimits.{LabelLimits}
+use Rattle.ing_labels.specs.Labels.{LabelMap, Pair, HasLabelNames, KeepsLimits}
 
 -- a byte of a value as it is written: a backslash, a quote and a line feed are escaped, nothing else is
 abbrev pub written_byte : ℕ → List ℕ
@@ -37,3 +38,10 @@ canonical_of m = written_pairs (entries m)
 abbrev pub CanonicalNamesAreExact : Type 0
 CanonicalNamesAreExact =
     (m n : LabelMap) → HasLabelNames m → HasLabelNames n → (canonical_of m ≡ canonical_of n) ↔ (m ≡ n)
+
+-- a canonical name has at most so many bytes: two braces, and for each label its name, its value with each byte
+-- escaped at most, and five bytes around them
+abbrev pub CanonicalNamesAreShort : Type 0
+CanonicalNamesAreShort =
+    (limits : LabelLimits) (m : LabelMap) → KeepsLimits limits m
+    → length (canonical_of m) ≤ 2 + limits.names * (limits.name_bytes + 2 * limits.value_bytes + 5)

@@ -1,5 +1,5 @@
 //! What the definitions say, as contracts of functions that do nothing.
-ghost use Rattle.ing_labels.specs.Canonical.{CanonicalNamesAreExact};
+ghost use Rattle.ing_labels.specs.Canonical.{CanonicalNamesAreExact, CanonicalNamesAreShort};
 ghost use Rattle.ing_labels.specs.CanonicalTests.{CanonicalNamesAreDecided};
 ghost use Rattle.ing_labels.specs.Selectors.{SelectorTextsAreExact};
 ghost use Rattle.ing_labels.specs.Worked.{EmptyValuesAreAbsent, CanonicalEscapes, BadNameComesFirst, EmptyValueRepeats, NoValueNoLabels};
@@ -7,6 +7,11 @@ ghost use Rattle.ing_labels.specs.Worked.{EmptyValuesAreAbsent, CanonicalEscapes
 /// Two label maps, of label names, have equal canonical names exactly where they are equal.
 pub fn canonical_names_are_exact()
     ensures { CanonicalNamesAreExact }
+{}
+
+/// The canonical name of labels that keep the limits has no more bytes than these allow.
+pub fn canonical_names_are_short()
+    ensures { CanonicalNamesAreShort }
 {}
 
 /// A text is tested for being a canonical name: the test says so of exactly the canonical names of labels.

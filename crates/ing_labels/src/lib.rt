@@ -18,8 +18,8 @@ mod text_fault;
 pub use fault::{LabelFault, LabelLimits};
 pub use label_set::Labels;
 pub use laws::{
-    canonical_names_are_decided, canonical_names_are_exact, selector_texts_are_exact,
-    worked_canonical_names, worked_refusals,
+    canonical_names_are_decided, canonical_names_are_exact, canonical_names_are_short,
+    selector_texts_are_exact, worked_canonical_names, worked_refusals,
 };
 pub use matcher::{MatchOp, Matcher};
 pub use pairs::Pairs;
