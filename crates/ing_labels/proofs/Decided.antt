@@ -1,9 +1,9 @@
 -- The test for canonical names says what it is to say.
-use Rattle.std.proofs.Common.{◌≡◌, Bool, true, false, ℕ, List, Option, Some, None, refl, ap}
-use Rattle.std.specs.FinMap.{entries, from_sorted}
+use Rattle.std.proofs.Common.{◌≡◌, true, ℕ, List, Option, Some, None, refl, ap}
+use Rattle.std.specs.FinMap.{from_sorted}
 use Rattle.ing_labels.specs.Labels.{LabelMap, IsLabelSet, name_order}
 use Rattle.ing_labels.specs.Canonical.{canonical_of}
-use Rattle.ing_labels.specs.CanonicalReading.{Reading, Start, Next, InName, Compared, InValue, Escaped, Matched, Comma, Closed, run_from, closed_of}
+use Rattle.ing_labels.specs.CanonicalReading.{Reading, Start, Next, InName, Compared, InValue, Escaped, Matched, Comma, Closed, run_from}
 use Rattle.ing_labels.specs.CanonicalTests.{is_canonical, is_read_whole}
 use Rattle.ing_labels.proofs.CanonicalWhole.{runs_whole, labels_of_text}
 
