@@ -61,11 +61,14 @@ impl<'a, R: Wait> MemoryEnd<'a, R> {
 }
 
 impl<'a, R: Wait> StoreEnd for MemoryEnd<'a, R> {
-    ghost use Rattle.std.specs.Prelude.{⊤};
+    ghost use Rattle.std.specs.Prelude.{◌≡◌, ⊤};
+    ghost use Rattle.ing_store.specs.declared.fuse.Fuse.{Fuse};
 
     type Receipt = MemoryReceipt<'a>;
 
     ghost failure_count = { λ e. e.failures };
+
+    ghost never_fails = { λ e. e.fuse ≡ Fuse.None };
 
     ghost is_honest = { ⊤ };
 
@@ -84,6 +87,8 @@ impl<'a, R: Wait> StoreEnd for MemoryEnd<'a, R> {
         ensures name { IfOk result (λ r. r.object.now.name ≡ name.now) }
         ensures bytes { IfOk result (λ r. r.object.now.bytes ≡ bytes.now) }
         ensures count { IsCounted self.old.failures self.new.failures result }
+        ensures sure { self.old.fuse ≡ Fuse.None → (self.new.fuse ≡ Fuse.None)
+            × (self.new.failures ≡ self.old.failures) }
         // Exactly the calls of the fuse fail, and each call counts.
         ensures fails { (is_failing self.old ≡ true) ↔ (result ≡ Err StoreFault.Failed) }
         ensures undamaged { result ≢ Err StoreFault.Damaged }
@@ -103,6 +108,8 @@ impl<'a, R: Wait> StoreEnd for MemoryEnd<'a, R> {
     fn get(&mut self, alloc: Global, receipt: &MemoryReceipt<'a>) -> Result<Vec<u8>, StoreFault>
         ensures bytes { IfOk result (λ v. v.items ≡ receipt.now.object.now.bytes) }
         ensures count { IsCounted self.old.failures self.new.failures result }
+        ensures sure { self.old.fuse ≡ Fuse.None → (self.new.fuse ≡ Fuse.None)
+            × (self.new.failures ≡ self.old.failures) }
         ensures fails { (is_failing self.old ≡ true) ↔ (result ≡ Err StoreFault.Failed) }
         ensures undamaged { result ≢ Err StoreFault.Damaged }
         ensures called { self.new ≡ called self.old }
@@ -118,6 +125,8 @@ impl<'a, R: Wait> StoreEnd for MemoryEnd<'a, R> {
     fn find(&mut self, alloc: Global, name: &str) -> Result<Option<MemoryReceipt<'a>>, StoreFault>
         ensures name { IfOk result (λ found. IfSome found (λ r. r.object.now.name ≡ name.now)) }
         ensures count { IsCounted self.old.failures self.new.failures result }
+        ensures sure { self.old.fuse ≡ Fuse.None → (self.new.fuse ≡ Fuse.None)
+            × (self.new.failures ≡ self.old.failures) }
         ensures fails { (is_failing self.old ≡ true) ↔ IsErr result }
         ensures fault { IfErr result (λ fault. fault ≡ StoreFault.Failed) }
         ensures called { self.new ≡ called self.old }

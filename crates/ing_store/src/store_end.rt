@@ -25,6 +25,9 @@ pub trait StoreEnd {
     /// How often it has failed.
     ghost failure_count: { Self → ℕ };
 
+    /// It never fails: no call raises its count of failures, and it stays such an end.
+    ghost never_fails: { Self → Type 0 };
+
     /// An end is honest where `get` gives the bytes that its receipts mean.
     ghost is_honest: { Type 0 };
 
@@ -38,15 +41,22 @@ pub trait StoreEnd {
         ensures name { IfOk result (λ r. Self.Receipt.name r ≡ name.now) }
         ensures bytes { IfOk result (λ r. Self.Receipt.bytes r ≡ bytes.now) }
         // A fault has a cause.
-        ensures count { IsCounted (failure_count self.old) (failure_count self.new) result };
+        ensures count { IsCounted (failure_count self.old) (failure_count self.new) result }
+        // One that never fails stays such an end.
+        ensures sure { never_fails self.old → (never_fails self.new)
+            × (failure_count self.new ≡ failure_count self.old) };
 
     /// The bytes of an object.
     fn get(&mut self, alloc: Global, receipt: &Self::Receipt) -> Result<Vec<u8>, StoreFault>
         ensures bytes { is_honest → IfOk result (λ v. v.items ≡ Self.Receipt.bytes receipt.now) }
-        ensures count { IsCounted (failure_count self.old) (failure_count self.new) result };
+        ensures count { IsCounted (failure_count self.old) (failure_count self.new) result }
+        ensures sure { never_fails self.old → (never_fails self.new)
+            × (failure_count self.new ≡ failure_count self.old) };
 
     /// A receipt of an object of this name. `None` claims nothing.
     fn find(&mut self, alloc: Global, name: &str) -> Result<Option<Self::Receipt>, StoreFault>
         ensures name { IfOk result (λ found. IfSome found (λ r. Self.Receipt.name r ≡ name.now)) }
-        ensures count { IsCounted (failure_count self.old) (failure_count self.new) result };
+        ensures count { IsCounted (failure_count self.old) (failure_count self.new) result }
+        ensures sure { never_fails self.old → (never_fails self.new)
+            × (failure_count self.new ≡ failure_count self.old) };
 }
