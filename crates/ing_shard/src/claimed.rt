@@ -144,6 +144,8 @@ impl Ticket {
         ensures uploaded { IfOk result (λ done. IsUploaded self.now.claimed done.listing
             (S.Receipt.bytes done.row) (S.Receipt.name done.row)) }
         ensures count { IsCounted (S.failure_count end.old) (S.failure_count end.new) result }
+        ensures sure { S.never_fails end.old → (S.never_fails end.new)
+            × (S.failure_count end.new ≡ S.failure_count end.old) }
     {
         let claimed = &self.claimed;
         upload(alloc, end, &claimed.tenant, &claimed.labels, &claimed.chunk)

@@ -37,6 +37,9 @@ pub fn put_chunk<S: StoreEnd>(
     ensures object { IfOk result (λ _. IsObject chunk.now) }
     // A fault has a cause.
     ensures count { IsCounted (S.failure_count end.old) (S.failure_count end.new) result }
+    // An end that never fails stays such an end.
+    ensures sure { S.never_fails end.old → (S.never_fails end.new)
+        × (S.failure_count end.new ≡ S.failure_count end.old) }
 {
     let bytes = encode_chunk(alloc, chunk)?;
     let key = chunk_key(&bytes);
@@ -58,6 +61,9 @@ pub fn put_row<S: StoreEnd>(
         S.Receipt.name r ≡ names.row_name row.now.tenant row.now.name row.now.key) }
     // A fault has a cause.
     ensures count { IsCounted (S.failure_count end.old) (S.failure_count end.new) result }
+    // An end that never fails stays such an end.
+    ensures sure { S.never_fails end.old → (S.never_fails end.new)
+        × (S.failure_count end.new ≡ S.failure_count end.old) }
 {
     let bytes = encode_row(alloc, row)?;
     let name = row_name(alloc, row.tenant(), row.labels().name(), &row.key())?;
