@@ -2,6 +2,7 @@
 use anyhow::Result;
 use ing_session::{conclude, start_on};
 use std::rt::Files;
+use std::sync::Wait;
 use std::{fs, io};
 
 /// What goes in, and what has to come out.
@@ -26,10 +27,10 @@ impl Case {
     }
 
     /// What differs from what has to come out, if anything does.
-    pub fn difference<F: AllocGlobal>(&self, rt: &F) -> Result<Option<&'static str>> {
+    pub fn difference<F: AllocGlobal + Wait>(&self, rt: &F) -> Result<Option<&'static str>> {
         let mut reader = self.input.as_slice();
         let mut output = Vec::new(rt.alloc());
-        let ended = start_on(rt.alloc(), &self.settings, &mut reader, &mut output);
+        let ended = start_on(rt, &self.settings, &mut reader, &mut output);
         let mut errors = Vec::new(rt.alloc());
         let status = conclude(ended, &mut errors);
         let mut ending = format!(in rt.alloc(); "{status}\n")?.into_bytes();

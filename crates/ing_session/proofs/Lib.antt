@@ -3,6 +3,9 @@ pub mod ShapeLaws
 pub mod CommandLaws
 pub mod StartingLaws
 mod WritingLaws
+pub mod FlushingLaws
+mod NameLaws
 pub mod RunsLaws
+mod ObeyLaws
 mod StreamsLaws
 mod EndingsLaws

@@ -1,20 +1,25 @@
 -- One more line of the input is answered, or the run ends.
-use Rattle.std.proofs.Common.{◌≡◌, ℕ, ◌<◌, Bool, true, false, List, [], ◌∷◌, ◌++◌, length, refl, sym, ap, subst, ◌∙◌, arith, append_assoc, append-nil, None, Some}
-use Rattle.std.specs.Prelude.{Option}
+use Rattle.std.proofs.Common.{◌≡◌, ℕ, ◌+◌, ◌<◌, ◌≤◌, Bool, true, false, List, [], ◌∷◌, ◌++◌, length, refl, sym, ap, subst, ◌∙◌, arith, append_assoc, append-nil, None, Some, inl, inr}
+use Rattle.std.specs.Prelude.{Option, ◌⊎◌, IfSome}
 use Rattle.std.specs.List.{AllByRecursion, flat_map}
-use Rattle.std.specs.Io.KnownBytes.{Appends, Keeps, Consumes, IsAtEnd}
+use Rattle.std.specs.Io.KnownBytes.{Appends, Keeps, Consumes, IsAtEnd, prepend_known}
+use Rattle.std.proofs.lemmas.List.{map-append}
 use Rattle.std.proofs.lemmas.List.Concat.{flat_map-cons}
-use Rattle.std.proofs.lemmas.Bool.Decides.{nat_tests}
+use Rattle.std.proofs.lemmas.List.Sums.{sum_by_push}
+use Rattle.std.proofs.lemmas.Bool.Decides.{eqb_tells, nat_tests}
 use Rattle.ing_limits.specs.Settings.{StoreSettings}
+use Rattle.ing_store.specs.StoreFaults.{HasFailed}
 use Rattle.ing_session.specs.declared.command.fault.LineFault.TheVariants.{BadCommand}
 use Rattle.ing_session.specs.declared.lines.NextLine.TheVariants.{Line, TooLong, End}
+use Rattle.ing_store.specs.declared.store_end.Receipt.{Ghosts}
 use Rattle.ing_session.specs.declared.session.Session.{Session}
+use Rattle.ing_session.specs.Flushing.{HaveCause, failed_among}
 use Rattle.ing_session.specs.Held.{Held, nothing_held, IsHeld}
 use Rattle.ing_session.specs.Lines.{lines_of, with_feed, EndsLine, TakesLine}
 use Rattle.ing_session.specs.Parts.{HasNoFeed, max_line}
 use Rattle.ing_session.specs.Replies.{line_text}
-use Rattle.ing_session.specs.Session.{is_long, line_fault, answer_to, after_line, report_of, answers_from, answers_of, held_after, output_of}
-use Rattle.ing_session.specs.Runs.{AnswersWhatWasRead, AnswersFirstLines, Serves, ServesKnown, with_replies}
+use Rattle.ing_session.specs.Session.{Turn, turn, MayBe, MayBeFrom, is_long, line_fault, answer_to, after_line, report_of, answers_from, answers_of, failed_in, held_after, lines_in}
+use Rattle.ing_session.specs.Runs.{AnswersAll, AnswersWhatWasRead, AnswersFirstLines, Answers, Serves, ServesKnown, with_replies}
 use Rattle.ing_session.proofs.LinesLaws.{lines_of-ended, lines_of-open_last, lines_of-rest}
 
 -- ---- what is written and held back
@@ -54,18 +59,54 @@ pub keeps_same : (a : Option (List ℕ)) → Keeps a a
 keeps_same None = tt
 keeps_same (Some x) = refl
 
+-- ---- failures and their causes
+
+pub no_failure : (n : ℕ) → HaveCause n n 0
+no_failure n = (omega arith, inl refl)
+
+fails_on : (a b c : ℕ) → HasFailed a b → b ≤ c → HasFailed a c
+fails_on a b c (inl lt) le = inl (omega (arith, lt, le))
+fails_on a b c (inr last) le = inr last
+
+pub causes_on : (a b c n : ℕ) → HaveCause a b n → b ≤ c → HaveCause a c n
+causes_on a b c n (risen, inl none) le = (omega (arith, risen, le), inl none)
+causes_on a b c n (risen, inr failed) le = (omega (arith, risen, le), inr (fails_on a b c failed le))
+
+eq_or_less : (a b : ℕ) → a ≤ b → (a ≡ b) ⊎ (a < b)
+eq_or_less a b le = elim (eqb_tells a b) [ inl same ↦ inl same.1 | inr other ↦ inr (omega (arith, le, other.1)) ]
+
+-- the first of the two readings may be an earlier one
+fails_from : (a b c : ℕ) → a ≤ b → b ≤ c → HasFailed b c → HasFailed a c
+fails_from a b c le more (inl lt) = inl (omega (arith, lt, le))
+fails_from a b c le more (inr last) = elim (eq_or_less a b le) [ inl same ↦ inr (rw same last) | inr less ↦ inl (omega (arith, less, more)) ]
+
+pub causes_more : (a b c n m : ℕ) → HaveCause a b n → HaveCause b c m → HaveCause a c (n + m)
+causes_more a b c n m (risen, inl none) (more, inl neither) = (omega (arith, risen, more), inl (rw (none, neither) refl))
+causes_more a b c n m (risen, inl none) (more, inr failed) = (omega (arith, risen, more), inr (fails_from a b c risen more failed))
+causes_more a b c n m (risen, inr failed) (more, cause) = (omega (arith, risen, more), inr (fails_on a b c failed more))
+
 -- ---- one line more
 
 module _ (settings : StoreSettings) where
-  held_more : (lines : List (List ℕ)) (line : List ℕ) (held : Held) → held_after settings held (lines ++ line ∷ []) ≡ after_line settings line (held_after settings held lines)
-  held_more [] line held = refl
-  held_more (l ∷ ls) line held = held_more ls line (after_line settings l held)
+  held_more : (turns : List Turn) (t : Turn) (held : Held) → held_after settings held (turns ++ t ∷ []) ≡ after_line settings t (held_after settings held turns)
+  held_more [] t held = refl
+  held_more (u ∷ us) t held = held_more us t (after_line settings u held)
 
-  answers_more : (lines : List (List ℕ)) (line : List ℕ) (held : Held) → answers_from settings held (lines ++ line ∷ []) ≡ answers_from settings held lines ++ answer_to settings line (held_after settings held lines)
-  answers_more [] line held = append-nil (answer_to settings line held)
-  answers_more (l ∷ ls) line held =
-      ap (λ (t : List ℕ). answer_to settings l held ++ t) (answers_more ls line (after_line settings l held))
-      ∙ sym (append_assoc (answer_to settings l held) (answers_from settings (after_line settings l held) ls) (answer_to settings line (held_after settings (after_line settings l held) ls)))
+  answers_more : (turns : List Turn) (t : Turn) (held : Held) → answers_from settings held (turns ++ t ∷ []) ≡ answers_from settings held turns ++ answer_to settings t (held_after settings held turns)
+  answers_more [] t held = append-nil (answer_to settings t held)
+  answers_more (u ∷ us) t held =
+      ap (λ (text : List ℕ). answer_to settings u held ++ text) (answers_more us t (after_line settings u held))
+      ∙ sym (append_assoc (answer_to settings u held) (answers_from settings (after_line settings u held) us) (answer_to settings t (held_after settings (after_line settings u held) us)))
+
+  may_be_more : (turns : List Turn) (t : Turn) (held : Held) → MayBeFrom settings held turns → MayBe settings t (held_after settings held turns) → MayBeFrom settings held (turns ++ t ∷ [])
+  may_be_more [] t held before this = (this, tt)
+  may_be_more (u ∷ us) t held before this = (before.0, may_be_more us t (after_line settings u held) before.1 this)
+
+failed_more : (turns : List Turn) (t : Turn) → failed_in (turns ++ t ∷ []) ≡ failed_in turns + failed_among t.outcomes
+failed_more turns t = sum_by_push (λ (u : Turn). failed_among u.outcomes) turns t
+
+lines_more : (turns : List Turn) (t : Turn) → lines_in (turns ++ t ∷ []) ≡ lines_in turns ++ t.line ∷ []
+lines_more turns t = map-append (λ u. u.line) turns (t ∷ [])
 
 all_more : (lines : List (List ℕ)) (line : List ℕ) → AllByRecursion HasNoFeed lines → HasNoFeed line → AllByRecursion HasNoFeed (lines ++ line ∷ [])
 all_more [] line h k = (k, tt)
@@ -87,117 +128,161 @@ none_left old new [] false empty ends = absurd cc
 none_left old new (x ∷ xs) false empty ends = absurd cc
 none_left old new line true empty ends = let nothing : line ≡ [] = sym ends.0 ∙ empty in absurd (omega (arith, ends.1, ap length nothing))
 
-module _ (settings : StoreSettings) (session after : Session) (input : List ℕ) (first c k : Option (List ℕ)) (r q s line : List ℕ) where
+module _ {R : Type 0} {g : Ghosts R} (settings : StoreSettings) (session after : Session R g) (input : List ℕ) (before b1 b2 : ℕ) (first c k : Option (List ℕ)) (r q s line : List ℕ) where
   -- a line is taken and answered
-  one_line : (was now : Bool) (left rest : List ℕ) → (serves : Serves settings session input first (with_replies c r) was left) → HasNoFeed line → EndsLine left rest now line
-      → Keeps (with_replies c r) (with_replies k q) → s ≡ q ++ answer_to settings line (held_after settings nothing_held serves.lines)
-      → after.shard.settings ≡ settings → IsHeld after (after_line settings line (held_after settings nothing_held serves.lines))
-      → Serves settings after input first (with_replies k s) now rest
-  one_line true now left rest serves clean ends keeps text same holds = absurd (none_left left rest line now (serves.read refl).1 ends)
-  one_line false now left rest serves clean ends keeps text same holds =
+  one_line : (was now : Bool) (left rest : List ℕ) → (serves : Serves settings session input before b1 first (with_replies c r) was left) → HasNoFeed line → EndsLine left rest now line
+      → Keeps (with_replies c r) (with_replies k q) → after.shard.settings ≡ settings
+      → Answers settings line (held_after settings nothing_held serves.turns) after b1 b2 q s
+      → Serves settings after input before b2 first (with_replies k s) now rest
+  one_line true now left rest serves clean ends keeps same answers = absurd (none_left left rest line now (serves.read refl).1 ends)
+  one_line false now left rest serves clean ends keeps same answers =
+      let t = turn line answers.outcomes answers.left in
+      let held = held_after settings nothing_held serves.turns in
       record {
-        lines = serves.lines ++ line ∷ [];
-        no_feeds = all_more serves.lines line serves.no_feeds clean;
-        taken = front now ends;
-        read = end now ends;
+        turns = serves.turns ++ t ∷ [];
+        no_feeds = subst (AllByRecursion HasNoFeed) (sym lines) (all_more (lines_in serves.turns) line serves.no_feeds clean);
+        taken = λ going. subst (λ ls. input ≡ flat_map with_feed ls ++ rest) (sym lines) (front now ends going);
+        read = λ ended. subst (λ ls. (lines_of input ≡ ls) × (rest ≡ [])) (sym lines) (end now ends ended);
         settings_are = same;
-        holds = rw (held_more settings serves.lines line nothing_held) holds;
-        answered = rw (answers_more settings serves.lines line nothing_held) (adds first c k r q s (answers_of settings serves.lines) (answer_to settings line (held_after settings nothing_held serves.lines)) serves.answered keeps text);
+        holds = rw (held_more settings serves.turns t nothing_held) answers.holds;
+        may_be = record {
+          flushes = may_be_more settings serves.turns t nothing_held serves.may_be.flushes answers.may_be;
+          causes = rw (failed_more serves.turns t) (causes_more before b1 b2 (failed_in serves.turns) (failed_among answers.outcomes) serves.may_be.causes answers.causes);
+        };
+        answered = rw (answers_more settings serves.turns t nothing_held) (adds first c k r q s (answers_of settings serves.turns) (answer_to settings t held) serves.answered keeps answers.told);
       } where
-        before : input ≡ flat_map with_feed serves.lines ++ left
-        before = serves.taken refl
+        lines : lines_in (serves.turns ++ turn line answers.outcomes answers.left ∷ []) ≡ lines_in serves.turns ++ line ∷ []
+        lines = lines_more serves.turns (turn line answers.outcomes answers.left)
 
-        front : (b : Bool) → EndsLine left rest b line → b ≡ false → input ≡ flat_map with_feed (serves.lines ++ line ∷ []) ++ rest
-        front false is going = before ∙ ap (λ (l : List ℕ). flat_map with_feed serves.lines ++ l) is ∙ feeds_more serves.lines line rest
+        so_far : input ≡ flat_map with_feed (lines_in serves.turns) ++ left
+        so_far = serves.taken refl
+
+        front : (b : Bool) → EndsLine left rest b line → b ≡ false → input ≡ flat_map with_feed (lines_in serves.turns ++ line ∷ []) ++ rest
+        front false is going = so_far ∙ ap (λ (l : List ℕ). flat_map with_feed (lines_in serves.turns) ++ l) is ∙ feeds_more (lines_in serves.turns) line rest
         front true is going = absurd cc
 
-        end : (b : Bool) → EndsLine left rest b line → b ≡ true → (lines_of input ≡ serves.lines ++ line ∷ []) × (rest ≡ [])
+        end : (b : Bool) → EndsLine left rest b line → b ≡ true → (lines_of input ≡ lines_in serves.turns ++ line ∷ []) × (rest ≡ [])
         end false is going = absurd cc
         end true is going =
-            (ap lines_of (before ∙ ap (λ (l : List ℕ). flat_map with_feed serves.lines ++ l) is.0) ∙ lines_of-open_last serves.lines line serves.no_feeds clean is.1, is.2)
+            (ap lines_of (so_far ∙ ap (λ (l : List ℕ). flat_map with_feed (lines_in serves.turns) ++ l) is.0) ∙ lines_of-open_last (lines_in serves.turns) line serves.no_feeds clean is.1, is.2)
 
-long_answer : (settings : StoreSettings) (line : List ℕ) (held : Held) → max_line < length line → answer_to settings line held ≡ line_text (line_fault BadCommand)
-long_answer settings line held long = let is : is_long line ≡ true = grind (arith, nat_tests) in rw is refl
+-- a line that is too long is refused, and changes nothing
+long_answers : {R : Type 0} {g : Ghosts R} (settings : StoreSettings) (line : List ℕ) (held : Held) (session : Session R g) (n : ℕ) (q s : List ℕ) → max_line < length line
+    → s ≡ q ++ line_text (line_fault BadCommand) → IsHeld session held → Answers settings line held session n n q s
+long_answers settings line held session n q s long refused holds =
+    let is : is_long line ≡ true = grind (arith, nat_tests) in
+    record {
+      outcomes = [];
+      left = held.state;
+      may_be = rw is tt;
+      told = rw is refused;
+      causes = no_failure n;
+      holds = rw is holds;
+    }
 
-long_held : (settings : StoreSettings) (line : List ℕ) (held : Held) → max_line < length line → after_line settings line held ≡ held
-long_held settings line held long = let is : is_long line ≡ true = grind (arith, nat_tests) in rw is refl
+-- before the first line
+module _ {R : Type 0} {g : Ghosts R} (settings : StoreSettings) (session : Session R g) (n : ℕ) (contents : Option (List ℕ)) (replies ahead : List ℕ) (ended : Bool)
+    (none : replies ≡ []) (going : ended ≡ false) (unread : ahead ≡ []) (same : session.shard.settings ≡ settings) (empty : IsHeld session nothing_held) where
+  nothing_added : (known : Option (List ℕ)) → Appends known (with_replies known replies) []
+  nothing_added None = tt
+  nothing_added (Some x) = ap (λ (l : List ℕ). x ++ l) none
+
+  pub begins : (known : Option (List ℕ)) → IfSome known (λ input. ServesKnown settings session input n n contents (with_replies contents replies) ended (prepend_known ahead known))
+  begins None = tt
+  begins (Some input) =
+      record {
+        turns = [];
+        no_feeds = tt;
+        taken = λ is. ap (λ (l : List ℕ). l ++ input) (sym unread);
+        read = λ is. (let both : false ≡ true = sym going ∙ is in absurd cc);
+        settings_are = same;
+        holds = empty;
+        may_be = record { flushes = tt; causes = no_failure n };
+        answered = nothing_added contents;
+      }
 
 -- ---- what a turn of the run makes of it
 
-module _ (settings : StoreSettings) (session after : Session) (input : List ℕ) (first c k : Option (List ℕ)) (r q s line : List ℕ) (was now : Bool) where
-  pub serves_line : (left rest : Option (List ℕ)) → ServesKnown settings session input first (with_replies c r) was left → ((was ≡ true → IsAtEnd left) → TakesLine left rest now Line line)
+module _ {R : Type 0} {g : Ghosts R} (settings : StoreSettings) (session after : Session R g) (input : List ℕ) (before b1 b2 : ℕ) (first c k : Option (List ℕ)) (r q s line : List ℕ) (was now : Bool) where
+  pub serves_line : (left rest : Option (List ℕ)) → ServesKnown settings session input before b1 first (with_replies c r) was left → ((was ≡ true → IsAtEnd left) → TakesLine left rest now Line line)
       → Keeps (with_replies c r) (with_replies k q)
-      → ((held : Held) → IsHeld session held → s ≡ q ++ answer_to session.shard.settings line held)
-      → ((held : Held) → IsHeld session held → IsHeld after (after_line session.shard.settings line held))
+      → ((held : Held) → IsHeld session held → Answers session.shard.settings line held after b1 b2 q s)
       → after.shard.settings ≡ session.shard.settings
-      → ServesKnown settings after input first (with_replies k s) now rest
-  serves_line None rest serves takes keeps answered holds same = absurd serves
-  serves_line (Some left) None serves takes keeps answered holds same = absurd (takes (λ e. (serves.read e).1))
-  serves_line (Some left) (Some rest) serves takes keeps answered holds same =
+      → ServesKnown settings after input before b2 first (with_replies k s) now rest
+  serves_line None rest serves takes keeps answers same = absurd serves
+  serves_line (Some left) None serves takes keeps answers same = absurd (takes (λ e. (serves.read e).1))
+  serves_line (Some left) (Some rest) serves takes keeps answers same =
       let taken = takes (λ e. (serves.read e).1) in
-      let held = held_after settings nothing_held serves.lines in
-      one_line settings session after input first c k r q s line was now left rest serves taken.0 taken.1 keeps
-      (subst (λ t. s ≡ q ++ answer_to t line held) serves.settings_are (answered held serves.holds))
+      let held = held_after settings nothing_held serves.turns in
+      one_line settings session after input before b1 b2 first c k r q s line was now left rest serves taken.0 taken.1 keeps
       (same ∙ serves.settings_are)
-      (subst (λ t. IsHeld after (after_line t line held)) serves.settings_are (holds held serves.holds))
+      (subst (λ t. Answers t line held after b1 b2 q s) serves.settings_are (answers held serves.holds))
 
-  pub serves_long : (left rest : Option (List ℕ)) → ServesKnown settings session input first (with_replies c r) was left → ((was ≡ true → IsAtEnd left) → TakesLine left rest now TooLong line)
+  pub serves_long : (left rest : Option (List ℕ)) → ServesKnown settings session input before b1 first (with_replies c r) was left → ((was ≡ true → IsAtEnd left) → TakesLine left rest now TooLong line)
       → Keeps (with_replies c r) (with_replies k q) → s ≡ q ++ line_text (line_fault BadCommand)
-      → ServesKnown settings session input first (with_replies k s) now rest
+      → ServesKnown settings session input before b1 first (with_replies k s) now rest
   serves_long None rest serves takes keeps refused = absurd serves
   serves_long (Some left) None serves takes keeps refused = absurd (takes (λ e. (serves.read e).1))
   serves_long (Some left) (Some rest) serves takes keeps refused =
       let taken = takes (λ e. (serves.read e).1) in
-      let long = taken.0 in
-      let held = held_after settings nothing_held serves.lines in
-      one_line settings session session input first c k r q s long was now left rest serves taken.1 taken.2 keeps
-      (refused ∙ ap (λ (t : List ℕ). q ++ t) (sym (long_answer settings long held taken.3)))
+      let held = held_after settings nothing_held serves.turns in
+      one_line settings session session input before b1 b1 first c k r q s taken.0 was now left rest serves taken.1 taken.2 keeps
       serves.settings_are
-      (rw (long_held settings long held taken.3) serves.holds)
+      (long_answers settings taken.0 held session b1 q s taken.3 refused serves.holds)
 
-  all_lines : (left : List ℕ) (serves : Serves settings session input first (with_replies c r) was left) → left ≡ [] → (b : Bool) → was ≡ b → lines_of input ≡ serves.lines
+  all_lines : (left : List ℕ) (serves : Serves settings session input before b1 first (with_replies c r) was left) → left ≡ [] → (b : Bool) → was ≡ b → lines_of input ≡ lines_in serves.turns
   all_lines left serves empty true is = (serves.read is).0
   all_lines left serves empty false is =
-      ap lines_of (serves.taken is ∙ ap (λ (l : List ℕ). flat_map with_feed serves.lines ++ l) empty ∙ append-nil (flat_map with_feed serves.lines)) ∙ lines_of-ended serves.lines serves.no_feeds
+      let lines = lines_in serves.turns in
+      ap lines_of (serves.taken is ∙ ap (λ (l : List ℕ). flat_map with_feed lines ++ l) empty ∙ append-nil (flat_map with_feed lines)) ∙ lines_of-ended lines serves.no_feeds
 
-  pub serves_end : (left rest : Option (List ℕ)) → ServesKnown settings session input first (with_replies c r) was left → ((was ≡ true → IsAtEnd left) → TakesLine left rest now End line)
+  pub serves_end : (left rest : Option (List ℕ)) → ServesKnown settings session input before b1 first (with_replies c r) was left → ((was ≡ true → IsAtEnd left) → TakesLine left rest now End line)
       → Keeps (with_replies c r) (with_replies k q) → ((held : Held) → IsHeld session held → s ≡ q ++ line_text (report_of held.state))
-      → Appends first (with_replies k s) (output_of settings input)
+      → AnswersAll settings input before b1 first (with_replies k s)
   serves_end None rest serves takes keeps reported = absurd serves
   serves_end (Some left) None serves takes keeps reported = absurd (takes (λ e. (serves.read e).1))
   serves_end (Some left) (Some rest) serves takes keeps reported =
       let taken = takes (λ e. (serves.read e).1) in
-      rw (all_lines left serves taken.0 was refl)
-      (adds first c k r q s (answers_of settings serves.lines) (line_text (report_of (held_after settings nothing_held serves.lines).state)) serves.answered keeps (reported _ serves.holds))
+      record {
+        turns = serves.turns;
+        all = all_lines left serves taken.0 was refl;
+        may_be = serves.may_be;
+        answered = adds first c k r q s (answers_of settings serves.turns) (line_text (report_of (held_after settings nothing_held serves.turns).state)) serves.answered keeps (reported _ serves.holds);
+      }
 
 -- ---- what has been written when it ends early
 
-module _ (settings : StoreSettings) (session : Session) (input : List ℕ) (first now : Option (List ℕ)) (was : Bool) where
+module _ {R : Type 0} {g : Ghosts R} (settings : StoreSettings) (session : Session R g) (input : List ℕ) (before b1 b2 : ℕ) (first now : Option (List ℕ)) (was : Bool) where
   -- memory ran out
-  pub stops : (left h : Option (List ℕ)) → ServesKnown settings session input first now was left → Keeps now h → AnswersFirstLines settings input first h
-  stops None h serves keeps = absurd serves
-  stops (Some left) h serves keeps =
+  pub stops : (left h : Option (List ℕ)) → ServesKnown settings session input before b1 first now was left → Keeps now h → b1 ≤ b2 → AnswersFirstLines settings input before b2 first h
+  stops None h serves keeps risen = absurd serves
+  stops (Some left) h serves keeps risen =
       record {
-        lines = serves.lines;
+        turns = serves.turns;
         others = lines_of left;
         first = by_end was refl;
-        answered = kept first now h (answers_of settings serves.lines) serves.answered keeps;
+        may_be = record {
+          flushes = serves.may_be.flushes;
+          causes = causes_on before b1 b2 (failed_in serves.turns) serves.may_be.causes risen;
+        };
+        answered = kept first now h (answers_of settings serves.turns) serves.answered keeps;
       } where
-        by_end : (b : Bool) → was ≡ b → lines_of input ≡ serves.lines ++ lines_of left
-        by_end true is = (serves.read is).0 ∙ sym (append-nil serves.lines) ∙ ap (λ l. serves.lines ++ lines_of l) (sym (serves.read is).1)
-        by_end false is = ap lines_of (serves.taken is) ∙ lines_of-rest serves.lines left serves.no_feeds
+        by_end : (b : Bool) → was ≡ b → lines_of input ≡ lines_in serves.turns ++ lines_of left
+        by_end true is = (serves.read is).0 ∙ sym (append-nil (lines_in serves.turns)) ∙ ap (λ l. lines_in serves.turns ++ lines_of l) (sym (serves.read is).1)
+        by_end false is = ap lines_of (serves.taken is) ∙ lines_of-rest (lines_in serves.turns) left serves.no_feeds
 
   -- a read failed
-  pub fails : (left rest h : Option (List ℕ)) (bytes : List ℕ) → ServesKnown settings session input first now was left → was ≡ false → HasNoFeed bytes → Consumes left rest bytes → Keeps now h
-      → AnswersWhatWasRead settings input rest first h
+  pub fails : (left rest h : Option (List ℕ)) (bytes : List ℕ) → ServesKnown settings session input before b1 first now was left → was ≡ false → HasNoFeed bytes → Consumes left rest bytes → Keeps now h
+      → AnswersWhatWasRead settings input rest before b1 first h
   fails None rest h bytes serves going clean consumed keeps = absurd serves
   fails (Some left) None h bytes serves going clean consumed keeps = absurd consumed
   fails (Some left) (Some rest) h bytes serves going clean consumed keeps =
       record {
-        lines = serves.lines;
+        turns = serves.turns;
         last = bytes;
         no_feeds = serves.no_feeds;
         no_feed = clean;
-        read = serves.taken going ∙ ap (λ (l : List ℕ). flat_map with_feed serves.lines ++ l) consumed ∙ sym (append_assoc (flat_map with_feed serves.lines) bytes rest);
-        answered = kept first now h (answers_of settings serves.lines) serves.answered keeps;
+        read = serves.taken going ∙ ap (λ (l : List ℕ). flat_map with_feed (lines_in serves.turns) ++ l) consumed ∙ sym (append_assoc (flat_map with_feed (lines_in serves.turns)) bytes rest);
+        may_be = serves.may_be;
+        answered = kept first now h (answers_of settings serves.turns) serves.answered keeps;
       }

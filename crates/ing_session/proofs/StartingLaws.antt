@@ -51,3 +51,6 @@ refused_text file fault (Err e) text refused passed =
 pub if_some_then : {A : Type 0} (P Q : A → Type 0) (o : Option A) → ((x : A) → P x → Q x) → IfSome o P → IfSome o Q
 if_some_then P Q None f p = tt
 if_some_then P Q (Some x) f p = f x p
+
+pub at_zero : (P : ℕ → ℕ → Type 0) (a b : ℕ) → a ≡ 0 → b ≡ 0 → P a b → P 0 0
+at_zero P a b first last p = subst (λ x. P x 0) first (subst (λ x. P a x) last p)

@@ -7,6 +7,7 @@ use Rattle.serde_json.specs.Read as json
 use Rattle.ing_refusals.specs.Results.{◌>>=◌}
 use Rattle.ing_session.specs.declared.command.fault.LineFault.{LineFault}
 use Rattle.ing_session.specs.declared.command.fault.LineFault.TheVariants.{BadCommand}
+use Rattle.ing_session.specs.FlushCommands.{FlushCommand, flush_of}
 use Rattle.ing_session.specs.PushCommands.{PushCommand, push_of}
 use Rattle.ing_session.specs.Shapes.{text_at}
 use Rattle.ing_session.specs.SweepCommands.{SweepCommand, sweep_of}
@@ -14,12 +15,16 @@ use Rattle.ing_session.specs.SweepCommands.{SweepCommand, sweep_of}
 pub data Command : Type 0 where
   Push : PushCommand → Command
   Sweep : SweepCommand → Command
+  Flush : FlushCommand → Command
 
 abbrev pub pushed : PushCommand → Result Command LineFault
 pushed push = Ok (Push push)
 
 abbrev pub swept : SweepCommand → Result Command LineFault
 swept sweep = Ok (Sweep sweep)
+
+abbrev pub flushed : FlushCommand → Result Command LineFault
+flushed flush = Ok (Flush flush)
 
 -- the JSON value of a line, which is UTF-8
 abbrev pub data_of : List ℕ → Result Data LineFault
@@ -30,6 +35,7 @@ abbrev pub said_as : List ℕ → Data → Result Command LineFault
 said_as cmd d =
     if bytes_eq cmd (codes "push") then push_of d >>= pushed
     else if bytes_eq cmd (codes "sweep") then sweep_of d >>= swept
+    else if bytes_eq cmd (codes "flush") then flush_of d >>= flushed
     else Err BadCommand
 
 -- what a value commands, by its member `cmd`

@@ -3,6 +3,7 @@ use Rattle.std.specs.Prelude.{◌≡◌, ℕ, List, []}
 use Rattle.ing_rows.specs.Rows.{StreamKey, State, empty_state}
 use Rattle.ing_shard.specs.declared.due.Op.{Op}
 use Rattle.ing_shard.specs.Contents.{Stands}
+use Rattle.ing_store.specs.declared.store_end.Receipt.{Ghosts}
 use Rattle.ing_session.specs.declared.session.Session.{Session}
 
 -- the streams of the shard in the order of their numbers, its rows and marks, and the operations that its sweeps have
@@ -21,7 +22,7 @@ abbrev pub shard_number : ℕ
 shard_number = 0
 
 -- the session holds this, its rows and marks in whatever order
-pub record IsHeld (session : Session) (held : Held) : Type 0 where
+pub record IsHeld {R : Type 0} {g : Ghosts R} (session : Session R g) (held : Held) : Type 0 where
   pub number : session.shard.number ≡ shard_number
   pub listed : session.shard.listed ≡ held.listed
   pub state : Stands session.shard held.state

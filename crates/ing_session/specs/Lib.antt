@@ -1,6 +1,8 @@
 pub mod Commands
 pub mod Endings
 pub mod Faults
+pub mod FlushCommands
+pub mod Flushing
 pub mod Held
 pub mod Lines
 pub mod Parts

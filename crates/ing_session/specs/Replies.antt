@@ -50,6 +50,14 @@ sweep_data queued sealed =
     member (codes "queued") (count queued) (
     member (codes "sealed") (count sealed) no_members))) no_members)
 
+-- of a flush: uploads that failed, chunks that were sealed for it, and chunks that were stored
+abbrev pub flush_data : ℕ → ℕ → ℕ → Data
+flush_data failed sealed stored =
+    object (member (codes "flush") (object (
+    member (codes "failed") (count failed) (
+    member (codes "sealed") (count sealed) (
+    member (codes "stored") (count stored) no_members)))) no_members)
+
 -- of a shard: entries accepted in this run, kept in memory, recovered from an earlier run, and stored
 abbrev pub shard_data : ShardReport → Data
 shard_data shard =

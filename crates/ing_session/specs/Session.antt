@@ -1,5 +1,5 @@
 -- What is written for an input: by the model alone, from the bytes read to the bytes written.
-use Rattle.std.specs.Prelude.{ℕ, ◌-◌, List, [], ◌∷◌, ◌++◌, length, Bool, false, ◌||◌, ◌==◌, nat_lt, if◌then◌else◌, None, Result, Ok, Err}
+use Rattle.std.specs.Prelude.{ℕ, ◌-◌, List, [], ◌∷◌, ◌++◌, length, map, sum_by, Bool, false, ◌||◌, ◌==◌, nat_lt, if◌then◌else◌, None, Result, Ok, Err, ⊤, MatchBool}
 use Rattle.std.specs.List.{list_all}
 use Rattle.serde_json.specs.Data.{Data}
 use Rattle.ing_labels.specs.declared.fault.LabelLimits.{LabelLimits}
@@ -11,7 +11,7 @@ use Rattle.ing_rows.specs.declared.entry.Entry.{Entry}
 use Rattle.ing_rows.specs.declared.rules.Rules.{Rules}
 use Rattle.ing_rows.specs.Rows.{StreamKey, State}
 use Rattle.ing_rows.specs.Events.{is_full, sealed_count}
-use Rattle.ing_rows.specs.Steps.{verdicts_of, after_push, due_by, swept}
+use Rattle.ing_rows.specs.Steps.{verdicts_of, after_push, due_by, forced, sealed_by, swept}
 use Rattle.ing_rows.specs.Turns.{accepted_among}
 use Rattle.ing_limits.specs.Settings.{StoreSettings}
 use Rattle.ing_limits.specs.Ranges.{rules_for}
@@ -23,12 +23,12 @@ use Rattle.ing_session.specs.declared.command.fault.LineFault.{LineFault}
 use Rattle.ing_session.specs.declared.command.fault.LineFault.TheVariants.{BadCommand}
 use Rattle.ing_session.specs.Faults.{refusal_of}
 use Rattle.ing_refusals.specs.declared.refusal.Refusal.TheVariants.{TooManyEntries, CounterFull}
-use Rattle.ing_session.specs.Commands.{Command, Push, Sweep, command_of}
+use Rattle.ing_session.specs.Commands.{Command, Push, Sweep, Flush, command_of}
+use Rattle.ing_session.specs.Flushing.{Outcome, EndSo, failed_among, stored_among}
 use Rattle.ing_session.specs.Held.{Held, nothing_held, shard_number}
 use Rattle.ing_session.specs.PushCommands.{StreamEntries}
-use Rattle.ing_session.specs.Lines.{lines_of}
 use Rattle.ing_session.specs.Parts.{max_line}
-use Rattle.ing_session.specs.Replies.{fault_data, judged_data, push_data, sweep_data, report_data, line_text}
+use Rattle.ing_session.specs.Replies.{fault_data, judged_data, push_data, sweep_data, flush_data, report_data, line_text}
 
 abbrev pub limits_of : Rules → LabelLimits
 limits_of rules = record { names = rules.max_label_names; name_bytes = rules.max_label_name_length; value_bytes = rules.max_label_value_length }
@@ -101,23 +101,63 @@ abbrev pub after_sweep : StoreSettings → ℕ → Held → Held
 after_sweep settings now held =
     record held { state = swept (rules_for settings) now held.state; ops = held.ops ++ ops_at settings now held }
 
+-- ---- a flush
+
+-- how many chunks are growing
+abbrev pub growing_in : Held → ℕ
+growing_in held = sealed_count forced held.state.marks
+
+-- with each of them sealed, and an operation for each sealed chunk that waits
+abbrev pub with_sealed : Held → Held
+with_sealed held =
+    record held {
+      state = sealed_by forced held.state;
+      ops = held.ops ++ ops_from shard_number 0 held.listed (sealed_by forced held.state);
+    }
+
+-- what is held when its operations begin
+abbrev pub to_flush : Bool → Held → Held
+to_flush is_forced held = if is_forced then with_sealed held else held
+
+abbrev pub flush_reply : Bool → List Outcome → Held → Data
+flush_reply is_forced outcomes held =
+    flush_data (failed_among outcomes) (if is_forced then growing_in held else 0) (stored_among outcomes)
+
+-- the operations may end so, and leave these rows and marks
+abbrev pub FlushMayBe : StoreSettings → List Outcome → State → Held → Type 0
+FlushMayBe settings outcomes left held = EndSo (rules_for settings) held.listed held.ops outcomes held.state left
+
+-- no operation is left; the rows and marks are these
+abbrev pub after_flush : State → Held → Held
+after_flush left held = record held { state = left; ops = [] }
+
 -- ---- one line, by the rules of the tenant that it names
 
 abbrev pub line_fault : LineFault → Data
 line_fault fault = fault_data (refusal_of fault) None
 
-abbrev pub command_reply : StoreSettings → Result Command LineFault → Held → Data
-command_reply settings (Err fault) held = line_fault fault
-command_reply settings (Ok (Push push)) held =
+-- the reply to a command; of a flush, where its operations ended so
+abbrev pub command_reply : StoreSettings → Result Command LineFault → List Outcome → Held → Data
+command_reply settings (Err fault) outcomes held = line_fault fault
+command_reply settings (Ok (Push push)) outcomes held =
     push_data (stream_replies (rules_for settings push.tenant) push.tenant push.now push.streams held)
-command_reply settings (Ok (Sweep sweep)) held = sweep_reply settings sweep.now held
+command_reply settings (Ok (Sweep sweep)) outcomes held = sweep_reply settings sweep.now held
+command_reply settings (Ok (Flush flush)) outcomes held = flush_reply flush.forced outcomes held
 
--- a refused line changes nothing
-abbrev pub after_command : StoreSettings → Result Command LineFault → Held → Held
-after_command settings (Err fault) held = held
-after_command settings (Ok (Push push)) held =
+-- a refused line changes nothing; a flush leaves these rows and marks
+abbrev pub after_command : StoreSettings → Result Command LineFault → State → Held → Held
+after_command settings (Err fault) left held = held
+after_command settings (Ok (Push push)) left held =
     after_streams (rules_for settings push.tenant) push.tenant push.now push.streams held
-after_command settings (Ok (Sweep sweep)) held = after_sweep settings sweep.now held
+after_command settings (Ok (Sweep sweep)) left held = after_sweep settings sweep.now held
+after_command settings (Ok (Flush flush)) left held = after_flush left held
+
+-- the operations of a flush may end so, and leave these rows and marks
+abbrev pub CommandMayBe : StoreSettings → Result Command LineFault → List Outcome → State → Held → Type 0
+CommandMayBe settings (Err fault) outcomes left held = ⊤
+CommandMayBe settings (Ok (Push push)) outcomes left held = ⊤
+CommandMayBe settings (Ok (Sweep sweep)) outcomes left held = ⊤
+CommandMayBe settings (Ok (Flush flush)) outcomes left held = FlushMayBe settings outcomes left (to_flush flush.forced held)
 
 -- spaces, tabs and carriage returns alone
 abbrev pub is_blank : List ℕ → Bool
@@ -126,16 +166,34 @@ is_blank line = list_all (λ byte. byte == 32 || byte == 9 || byte == 13) line
 abbrev pub is_long : List ℕ → Bool
 is_long line = nat_lt max_line (length line)
 
--- a line that is too long is refused unread, a blank one is skipped, and each other is answered
-abbrev pub answer_to : StoreSettings → List ℕ → Held → List ℕ
-answer_to settings line held =
-    if is_long line then line_text (line_fault BadCommand)
-    else if is_blank line then []
-    else line_text (command_reply settings (command_of line) held)
+-- A line of the input. Where it is a flush, its operations ended so, and these rows and marks were left; of another line these
+-- two say nothing.
+pub record Turn : Type 0 where
+  pub line : List ℕ
+  pub outcomes : List Outcome
+  pub left : State
 
-abbrev pub after_line : StoreSettings → List ℕ → Held → Held
-after_line settings line held =
-    if is_long line then held else if is_blank line then held else after_command settings (command_of line) held
+abbrev pub turn : List ℕ → List Outcome → State → Turn
+turn line outcomes left = record { line = line; outcomes = outcomes; left = left }
+
+-- a line that is too long is refused unread, a blank one is skipped, and each other is answered
+abbrev pub answer_to : StoreSettings → Turn → Held → List ℕ
+answer_to settings t held =
+    if is_long t.line then line_text (line_fault BadCommand)
+    else if is_blank t.line then []
+    else line_text (command_reply settings (command_of t.line) t.outcomes held)
+
+abbrev pub after_line : StoreSettings → Turn → Held → Held
+after_line settings t held =
+    if is_long t.line then held
+    else if is_blank t.line then held
+    else after_command settings (command_of t.line) t.left held
+
+abbrev pub MayBe : StoreSettings → Turn → Held → Type 0
+MayBe settings t held =
+    MatchBool (is_long t.line) ⊤ (
+    MatchBool (is_blank t.line) ⊤ (
+    CommandMayBe settings (command_of t.line) t.outcomes t.left held))
 
 -- ---- the whole input
 
@@ -153,22 +211,33 @@ abbrev pub report_of : State → Data
 report_of st = report_data (shard_report st ∷ [])
 
 -- the answers to lines, one after another, from what is held on
-abbrev pub answers_from : StoreSettings → Held → List (List ℕ) → List ℕ
+abbrev pub answers_from : StoreSettings → Held → List Turn → List ℕ
 answers_from settings held [] = []
-answers_from settings held (line ∷ lines) =
-    answer_to settings line held ++ answers_from settings (after_line settings line held) lines
+answers_from settings held (t ∷ turns) =
+    answer_to settings t held ++ answers_from settings (after_line settings t held) turns
 
--- what is held after the lines
-abbrev pub held_after : StoreSettings → Held → List (List ℕ) → Held
+-- what is held after them
+abbrev pub held_after : StoreSettings → Held → List Turn → Held
 held_after settings held [] = held
-held_after settings held (line ∷ lines) = held_after settings (after_line settings line held) lines
+held_after settings held (t ∷ turns) = held_after settings (after_line settings t held) turns
+
+-- their flushes may end so
+abbrev pub MayBeFrom : StoreSettings → Held → List Turn → Type 0
+MayBeFrom settings held [] = ⊤
+MayBeFrom settings held (t ∷ turns) = MayBe settings t held × MayBeFrom settings (after_line settings t held) turns
+
+abbrev pub lines_in : List Turn → List (List ℕ)
+lines_in = map (λ t. t.line)
+
+-- how many uploads failed
+abbrev pub failed_in : List Turn → ℕ
+failed_in = sum_by (λ t. failed_among t.outcomes)
 
 -- the answers to the lines of a run
-abbrev pub answers_of : StoreSettings → List (List ℕ) → List ℕ
-answers_of settings lines = answers_from settings nothing_held lines
+abbrev pub answers_of : StoreSettings → List Turn → List ℕ
+answers_of settings turns = answers_from settings nothing_held turns
 
 -- an answer for each line, and the report
-abbrev pub output_of : StoreSettings → List ℕ → List ℕ
-output_of settings input =
-    let lines = lines_of input in
-    answers_of settings lines ++ line_text (report_of (held_after settings nothing_held lines).state)
+abbrev pub output_of : StoreSettings → List Turn → List ℕ
+output_of settings turns =
+    answers_of settings turns ++ line_text (report_of (held_after settings nothing_held turns).state)

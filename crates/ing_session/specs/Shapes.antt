@@ -1,8 +1,8 @@
 -- Which texts, arrays and objects stand where in a JSON value. Another shape is a bad command.
-use Rattle.std.specs.Prelude.{ℕ, List, [], ◌∷◌, option_and_then, Result, Ok}
+use Rattle.std.specs.Prelude.{ℕ, List, [], ◌∷◌, Bool, Option, None, Some, option_and_then, Result, Ok}
 use Rattle.std.specs.Option.{ok_or}
 use Rattle.serde_json.specs.Data.{Data, Items, no_items, item, Members}
-use Rattle.serde_json.specs.Find.{get, as_str, as_array, as_object}
+use Rattle.serde_json.specs.Find.{get, as_bool, as_str, as_array, as_object}
 use Rattle.ing_refusals.specs.Results.{◌>>=◌}
 use Rattle.ing_session.specs.declared.command.fault.LineFault.{LineFault}
 use Rattle.ing_session.specs.declared.command.fault.LineFault.TheVariants.{BadCommand}
@@ -22,6 +22,15 @@ array_at name d = ok_or (option_and_then as_array (get name d)) BadCommand
 -- the same, an object
 abbrev pub object_at : List ℕ → Data → Result Members LineFault
 object_at name d = ok_or (option_and_then as_object (get name d)) BadCommand
+
+-- the flag that a value is; where there is none, this
+abbrev pub flag_of : Bool → Option Data → Result Bool LineFault
+flag_of absent None = Ok absent
+flag_of absent (Some d) = ok_or (as_bool d) BadCommand
+
+-- the member of this name, true or false, which may be absent
+abbrev pub flag_at : List ℕ → Bool → Data → Result Bool LineFault
+flag_at name absent d = flag_of absent (get name d)
 
 -- what the elements are, if each has this shape
 abbrev pub each : {A : Type 0} → (Data → Result A LineFault) → Items → Result (List A) LineFault

@@ -6,6 +6,7 @@ use Rattle.ing_session.specs.declared.command.push.StreamPush.{StreamPush}
 use Rattle.ing_session.specs.declared.command.push.texts.PushTexts.{PushTexts}
 use Rattle.ing_session.specs.declared.command.push.texts.StreamTexts.{StreamTexts}
 use Rattle.ing_session.specs.declared.command.push.texts.ValueTexts.{ValueTexts}
+use Rattle.ing_session.specs.declared.command.flush.Flush as flush
 use Rattle.ing_session.specs.declared.command.sweep.Sweep as sweep
 use Rattle.ing_session.specs.declared.command.Command as code
 use Rattle.ing_session.specs.declared.command.Command.TheVariants as variants
@@ -15,10 +16,11 @@ use Rattle.ing_session.specs.declared.reply.StreamReply.{StreamReply}
 use Rattle.ing_session.specs.declared.reply.StreamReply.TheVariants as replies_of_streams
 use Rattle.ing_labels.specs.Canonical.{canonical_of}
 use Rattle.serde_json.specs.Data.{Data}
-use Rattle.ing_session.specs.Replies.{fault_data, judged_data, push_data, sweep_data, report_data}
+use Rattle.ing_session.specs.Replies.{fault_data, judged_data, push_data, sweep_data, flush_data, report_data}
 use Rattle.ing_session.specs.PushCommands.{RawValue, RawStream, RawPush, PushCommand, StreamEntries}
 use Rattle.ing_session.specs.SweepCommands.{SweepCommand}
-use Rattle.ing_session.specs.Commands.{Command, Push, Sweep}
+use Rattle.ing_session.specs.FlushCommands.{FlushCommand}
+use Rattle.ing_session.specs.Commands.{Command, Push, Sweep, Flush}
 
 -- the bytes of a label and its value
 abbrev pub label_view : Bor (List ℕ) × Bor (List ℕ) → List ℕ × List ℕ
@@ -48,10 +50,15 @@ push_view p = record { tenant = p.tenant; now = p.now; streams = map stream_view
 abbrev pub sweep_view : sweep.Sweep → SweepCommand
 sweep_view s = record { now = s.now }
 
+-- a flush
+abbrev pub flush_view : flush.Flush → FlushCommand
+flush_view f = record { forced = f.forced }
+
 -- a command
 abbrev pub command_view : code.Command → Command
 command_view (variants.Push p) = Push (push_view p)
 command_view (variants.Sweep s) = Sweep (sweep_view s)
+command_view (variants.Flush f) = Flush (flush_view f)
 
 -- the reply to a stream
 abbrev pub stream_data : StreamReply → Data
@@ -63,4 +70,5 @@ abbrev pub reply_data : Reply → Data
 reply_data (replies.Fault refusal) = fault_data refusal None
 reply_data (replies.Push streams) = push_data (map stream_data streams.items)
 reply_data (replies.Sweep queued sealed) = sweep_data queued sealed
+reply_data (replies.Flush failed sealed stored) = flush_data failed sealed stored
 reply_data (replies.Report shard) = report_data (shard ∷ [])

@@ -4,16 +4,17 @@ ghost use Rattle.std.specs.Io.KnownBytes.{Appends};
 ghost use Rattle.std.specs.String.{string_bytes};
 ghost use Rattle.ing_limits.specs.Settings.{StoreSettings};
 ghost use Rattle.ing_session.specs.Endings.{ending_status, ending_text, refusal_of, status_of};
-ghost use Rattle.ing_session.specs.Runs.{AnswersWhatWasRead, AnswersFirstLines};
-ghost use Rattle.ing_session.specs.Session.{output_of};
+ghost use Rattle.ing_session.specs.Runs.{AnswersAll, AnswersWhatWasRead, AnswersFirstLines};
 ghost use Rattle.ing_session.specs.Starting.{NamesFile, started_by};
 
 use crate::ending::Ending;
 use crate::transport::run;
 use ing_limits::Settings;
+use ing_store::{Fuse, MemoryStore};
 use std::alloc::Global;
 use std::io::{ErrorKind, Read, Write};
 use std::rt::Files;
+use std::sync::Wait;
 use std::{fs, io};
 
 /// How many shards the program has; settings with another number are refused.
@@ -24,7 +25,7 @@ const SHARDS: u32 = 1;
 ///
 /// `BadArguments` where there are more words, then `NoSettings` where the file cannot be read; the others as `start_on`
 /// says. `NoMemory` may stand in place of any. (Own.)
-pub fn start<F: Files + AllocGlobal, R: Read, W: Write>(
+pub fn start<F: Files + AllocGlobal + Wait, R: Read, W: Write>(
     rt: &F,
     words: &[String],
     reader: &mut R,
@@ -33,7 +34,7 @@ pub fn start<F: Files + AllocGlobal, R: Read, W: Write>(
     ensures output { OnOk result (IfSome (R.remaining reader.old) (λ input.
         (file : List ℕ) × NamesFile (map string_bytes words.now) file
         × (settings : StoreSettings) × (started_by file ≡ Ok settings)
-        × Appends (W.contents writer.old) (W.contents writer.new) (output_of settings input))) }
+        × AnswersAll settings input 0 0 (W.contents writer.old) (W.contents writer.new))) }
     ensures refused { IfErr result (λ e. IfSome (refusal_of e) (λ refusal.
         (file : List ℕ) × NamesFile (map string_bytes words.now) file × (started_by file ≡ Err refusal))) }
     ensures words { IsErrOf result Ending.BadArguments ↔ (1 < length words.now) }
@@ -41,7 +42,7 @@ pub fn start<F: Files + AllocGlobal, R: Read, W: Write>(
     ensures silent { IfErr result (λ e. ending_status e ≡ 1 → writer.new ≡ writer.old) }
 {
     let file = settings_file(rt, words)?;
-    start_on(rt.alloc(), &file, reader, writer)
+    start_on(rt, &file, reader, writer)
 }
 
 /// The bytes of the settings file that the argument words name; none without a word.
@@ -74,32 +75,34 @@ fn read_file<F: Files + AllocGlobal>(rt: &F, path: &str) -> Result<Vec<u8>, Endi
 /// `NotToml` where they are not UTF-8 or no TOML, `UnknownSetting` and `BadSetting` as `Settings::from_toml` says, and
 /// `BadSetting` also where `shards` is not 1, since the program has one shard yet; these in this order, and nothing is
 /// written. The others as `run` says. `NoMemory` may stand in place of any. (Own.)
-pub fn start_on<R: Read, W: Write>(
-    alloc: Global,
+pub fn start_on<T: AllocGlobal + Wait, R: Read, W: Write>(
+    rt: &T,
     file: &[u8],
     reader: &mut R,
     writer: &mut W,
 ) -> Result<(), Ending>
     ensures output { OnOk result (IfSome (R.remaining reader.old) (λ input.
         (settings : StoreSettings) × (started_by file.now ≡ Ok settings)
-        × Appends (W.contents writer.old) (W.contents writer.new) (output_of settings input))) }
+        × AnswersAll settings input 0 0 (W.contents writer.old) (W.contents writer.new))) }
     ensures refused { IfErr result (λ e. IfSome (refusal_of e) (λ refusal.
         started_by file.now ≡ Err refusal)) }
     ensures input_fault { IsErrOf result Ending.InputFault → IfSome (R.remaining reader.old) (λ input.
         (settings : StoreSettings) × (started_by file.now ≡ Ok settings)
-        × AnswersWhatWasRead settings input (R.remaining reader.new)
+        × AnswersWhatWasRead settings input (R.remaining reader.new) 0 0
         (W.contents writer.old) (W.contents writer.new)) }
     ensures no_memory { IsErrOf result Ending.NoMemory → (writer.new ≡ writer.old)
         ⊎ IfSome (R.remaining reader.old) (λ input.
         (settings : StoreSettings) × (started_by file.now ≡ Ok settings)
-        × AnswersFirstLines settings input (W.contents writer.old) (W.contents writer.new)) }
+        × AnswersFirstLines settings input 0 0 (W.contents writer.old) (W.contents writer.new)) }
     ensures begun { IsErrOf result Ending.OutputFault →
         (settings : StoreSettings) × (started_by file.now ≡ Ok settings) }
     ensures file_read { IfErr result (λ e. (e ≢ Ending.BadArguments) × (e ≢ Ending.NoSettings)) }
     ensures silent { IfErr result (λ e. ending_status e ≡ 1 → writer.new ≡ writer.old) }
 {
-    let settings = settings_of_file(alloc, file)?;
-    run(alloc, reader, writer, settings)
+    let settings = settings_of_file(rt.alloc(), file)?;
+    let store = MemoryStore::new(rt.alloc())?;
+    let mut end = store.end(rt, Fuse::None);
+    run(rt.alloc(), reader, writer, &mut end, settings)
 }
 
 /// The settings that the bytes of a file give, with one shard.

@@ -1,6 +1,6 @@
 //! The replies, and the lines that they are written as.
 ghost use Rattle.std.specs.Prelude.{◌≡◌, ◌++◌, ◌∷◌, [], OnOk, OnErr, decimal, map};
-ghost use Rattle.ing_session.specs.Replies.{verdict_data, verdicts_data, fault_data, judged_data, push_data, sweep_data, shard_data, report_data, line_text, count};
+ghost use Rattle.ing_session.specs.Replies.{verdict_data, verdicts_data, fault_data, judged_data, push_data, sweep_data, flush_data, shard_data, report_data, line_text, count};
 ghost use Rattle.ing_session.specs.Views.{stream_data, reply_data};
 ghost use Rattle.ing_session.specs.Written.{Adds, member_tokens, data_tokens, tokens_of_each};
 ghost use Rattle.serde_json.specs.Data.{string, object, no_members, member};
@@ -20,7 +20,16 @@ pub enum Reply {
     /// One reply for each stream of a push.
     Push(Vec<StreamReply>),
     /// How many operations a sweep queued, and how many chunks it sealed.
-    Sweep { queued: u64, sealed: u64 },
+    Sweep {
+        queued: u64,
+        sealed: u64,
+    },
+    /// How many uploads of a flush failed, how many chunks were sealed for it, and how many were stored.
+    Flush {
+        failed: u64,
+        sealed: u64,
+        stored: u64,
+    },
     /// What is reported of the one shard.
     Report(ShardReport),
 }
@@ -80,6 +89,11 @@ fn write_reply(out: &mut Writer, reply: &Reply) -> Result<(), AllocError>
         Reply::Fault(refusal) => write_fault(out, *refusal, None),
         Reply::Push(streams) => write_push(out, streams),
         Reply::Sweep { queued, sealed } => write_sweep(out, *queued, *sealed),
+        Reply::Flush {
+            failed,
+            sealed,
+            stored,
+        } => write_flush(out, *failed, *sealed, *stored),
         Reply::Report(shard) => write_report(out, shard),
     }
 }
@@ -247,6 +261,23 @@ fn write_sweep(out: &mut Writer, queued: u64, sealed: u64) -> Result<(), AllocEr
     out.begin_object()?;
     write_count(out, "queued", queued)?;
     write_count(out, "sealed", sealed)?;
+    out.end_object()?;
+    out.end_object()?;
+    Ok(())
+}
+
+/// Writes the reply to a flush.
+fn write_flush(out: &mut Writer, failed: u64, sealed: u64, stored: u64) -> Result<(), AllocError>
+    ensures tokens { OnOk result
+        (Adds out.old out.new (data_tokens (flush_data failed sealed stored))) }
+    ensures before { out.new.before ≡ out.old.before }
+{
+    out.begin_object()?;
+    out.key("flush")?;
+    out.begin_object()?;
+    write_count(out, "failed", failed)?;
+    write_count(out, "sealed", sealed)?;
+    write_count(out, "stored", stored)?;
     out.end_object()?;
     out.end_object()?;
     Ok(())

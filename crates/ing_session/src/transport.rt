@@ -3,16 +3,17 @@ ghost use Rattle.std.specs.Prelude.{◌≡◌, ◌≢◌, ◌<◌, ◌≤◌, []
 ghost use Rattle.std.specs.Io.KnownBytes.{Appends, Consumes, Keeps, IsAtEnd};
 ghost use Rattle.ing_limits.specs.Settings.{StoreSettings};
 ghost use Rattle.ing_session.specs.Endings.{is_of_run};
+ghost use Rattle.ing_session.specs.Flushing.{GoesOn};
 ghost use Rattle.ing_session.specs.Lines.{TakesLine};
 ghost use Rattle.ing_session.specs.Parts.{HasNoFeed};
-ghost use Rattle.ing_session.specs.Runs.{AnswersWhatWasRead, AnswersFirstLines, with_replies, ServesKnown};
-ghost use Rattle.ing_session.specs.Session.{output_of};
+ghost use Rattle.ing_session.specs.Runs.{AnswersAll, AnswersWhatWasRead, AnswersFirstLines, with_replies, ServesKnown};
 ghost use Rattle.ing_session.specs.Unread.{left, is_ended, progress};
 
 use crate::ending::Ending;
 use crate::lines::{Lines, MAX_LINE, NextLine, Part, found};
 use crate::session::Session;
 use ing_limits::Settings;
+use ing_store::StoreEnd;
 use std::alloc::Global;
 use std::io::{Read, Write};
 
@@ -21,24 +22,30 @@ use std::io::{Read, Write};
 ///
 /// `InputFault` where a read failed or the input took more than 2^40 reads, `NoMemory` where memory ran out: then what was
 /// answered before is written, and no report. `OutputFault` where a write failed. (Own.)
-pub fn run<R: Read, W: Write>(
+pub fn run<R: Read, W: Write, S: StoreEnd>(
     alloc: Global,
     reader: &mut R,
     writer: &mut W,
+    end: &mut S,
     settings: Settings,
 ) -> Result<(), Ending>
-    // What is written is, line for line, what the model answers to the lines read.
+    // What is written is, line for line, what the model answers to the lines read, where the uploads ended in some way; and
+    // no upload failed without a cause.
     ensures output { OnOk result (IfSome (R.remaining reader.old) (λ input.
-        Appends (W.contents writer.old) (W.contents writer.new) (output_of settings input))) }
+        AnswersAll settings input (S.failure_count end.old) (S.failure_count end.new)
+        (W.contents writer.old) (W.contents writer.new))) }
     ensures input_fault { IsErrOf result Ending.InputFault → IfSome (R.remaining reader.old) (λ input.
         AnswersWhatWasRead settings input (R.remaining reader.new)
+        (S.failure_count end.old) (S.failure_count end.new)
         (W.contents writer.old) (W.contents writer.new)) }
     ensures no_memory { IsErrOf result Ending.NoMemory → IfSome (R.remaining reader.old) (λ input.
-        AnswersFirstLines settings input (W.contents writer.old) (W.contents writer.new)) }
+        AnswersFirstLines settings input (S.failure_count end.old) (S.failure_count end.new)
+        (W.contents writer.old) (W.contents writer.new)) }
+    ensures end { GoesOn S.never_fails S.failure_count end.old end.new }
     ensures ending { IfErr result (λ e. IsTrue (is_of_run e)) }
 {
     let mut replies = Vec::new(alloc);
-    let ended = answer_all(alloc, reader, writer, settings, &mut replies);
+    let ended = answer_all(alloc, reader, writer, end, settings, &mut replies);
     if let Err(Ending::OutputFault) = ended {
         return ended;
     }
@@ -47,73 +54,88 @@ pub fn run<R: Read, W: Write>(
 }
 
 /// Answers all lines of the input, and makes the report. What it leaves in `replies` is still to be written.
-fn answer_all<R: Read, W: Write>(
+fn answer_all<R: Read, W: Write, S: StoreEnd>(
     alloc: Global,
     reader: &mut R,
     writer: &mut W,
+    end: &mut S,
     settings: Settings,
     replies: &mut Vec<u8>,
 ) -> Result<(), Ending>
     requires { replies.old.items ≡ [] }
-    ensures output { OnOk result (IfSome (R.remaining reader.old) (λ input. Appends (W.contents writer.old)
-        (with_replies (W.contents writer.new) replies.new.items) (output_of settings input))) }
+    ensures output { OnOk result (IfSome (R.remaining reader.old) (λ input.
+        AnswersAll settings input (S.failure_count end.old) (S.failure_count end.new)
+        (W.contents writer.old) (with_replies (W.contents writer.new) replies.new.items))) }
     ensures input_fault { IsErrOf result Ending.InputFault → IfSome (R.remaining reader.old) (λ input.
-        AnswersWhatWasRead settings input (R.remaining reader.new) (W.contents writer.old)
-        (with_replies (W.contents writer.new) replies.new.items)) }
+        AnswersWhatWasRead settings input (R.remaining reader.new)
+        (S.failure_count end.old) (S.failure_count end.new)
+        (W.contents writer.old) (with_replies (W.contents writer.new) replies.new.items)) }
     ensures no_memory { IsErrOf result Ending.NoMemory → IfSome (R.remaining reader.old) (λ input.
-        AnswersFirstLines settings input (W.contents writer.old)
-        (with_replies (W.contents writer.new) replies.new.items)) }
+        AnswersFirstLines settings input (S.failure_count end.old) (S.failure_count end.new)
+        (W.contents writer.old) (with_replies (W.contents writer.new) replies.new.items)) }
+    ensures end { GoesOn S.never_fails S.failure_count end.old end.new }
     ensures ending { IfErr result (λ e. IsTrue (is_of_run e)) }
 {
     let mut session = Session::new(alloc, settings);
     let mut lines = Lines::new(alloc)?;
     let mut line = Vec::new(alloc);
     loop {
-        if !serve(reader, writer, &mut lines, &mut line, &mut session, replies)? {
+        if !serve(
+            reader,
+            writer,
+            end,
+            &mut lines,
+            &mut line,
+            &mut session,
+            replies,
+        )? {
             return Ok(());
         }
     }
 }
 
 /// Answers the next line, or makes the report where there is none. Gives whether there was one.
-fn serve<R: Read, W: Write>(
+fn serve<R: Read, W: Write, S: StoreEnd>(
     reader: &mut R,
     writer: &mut W,
+    end: &mut S,
     lines: &mut Lines,
     line: &mut Vec<u8>,
-    session: &mut Session<'_>,
+    session: &mut Session<S::Receipt>,
     replies: &mut Vec<u8>,
 ) -> Result<bool, Ending>
     ensures served { IfOk result (λ more.
-        (first : Option (List ℕ)) (settings : StoreSettings) (input : List ℕ) →
-        ServesKnown settings session.old input first
+        (first : Option (List ℕ)) (before : ℕ) (settings : StoreSettings) (input : List ℕ) →
+        ServesKnown settings session.old input before (S.failure_count end.old) first
         (with_replies (W.contents writer.old) replies.old.items) (is_ended lines.old)
         (left lines.old (R.remaining reader.old)) →
         MatchBool more
-        (ServesKnown settings session.new input first
+        (ServesKnown settings session.new input before (S.failure_count end.new) first
         (with_replies (W.contents writer.new) replies.new.items) (is_ended lines.new)
         (left lines.new (R.remaining reader.new)))
-        (Appends first (with_replies (W.contents writer.new) replies.new.items) (output_of settings input))) }
+        (AnswersAll settings input before (S.failure_count end.new) first
+        (with_replies (W.contents writer.new) replies.new.items))) }
     ensures input_fault { IsErrOf result Ending.InputFault →
-        (first : Option (List ℕ)) (settings : StoreSettings) (input : List ℕ) →
-        ServesKnown settings session.old input first
+        (first : Option (List ℕ)) (before : ℕ) (settings : StoreSettings) (input : List ℕ) →
+        ServesKnown settings session.old input before (S.failure_count end.old) first
         (with_replies (W.contents writer.old) replies.old.items) (is_ended lines.old)
         (left lines.old (R.remaining reader.old)) →
-        AnswersWhatWasRead settings input (R.remaining reader.new) first
-        (with_replies (W.contents writer.new) replies.new.items) }
+        AnswersWhatWasRead settings input (R.remaining reader.new) before (S.failure_count end.new)
+        first (with_replies (W.contents writer.new) replies.new.items) }
     ensures no_memory { IsErrOf result Ending.NoMemory →
-        (first : Option (List ℕ)) (settings : StoreSettings) (input : List ℕ) →
-        ServesKnown settings session.old input first
+        (first : Option (List ℕ)) (before : ℕ) (settings : StoreSettings) (input : List ℕ) →
+        ServesKnown settings session.old input before (S.failure_count end.old) first
         (with_replies (W.contents writer.old) replies.old.items) (is_ended lines.old)
         (left lines.old (R.remaining reader.old)) →
-        AnswersFirstLines settings input first
+        AnswersFirstLines settings input before (S.failure_count end.new) first
         (with_replies (W.contents writer.new) replies.new.items) }
     ensures progress { IfOk result (λ more. more ≡ true → progress lines.old < progress lines.new) }
+    ensures end { GoesOn S.never_fails S.failure_count end.old end.new }
     ensures ending { IfErr result (λ e. IsTrue (is_of_run e)) }
 {
     match next_line(reader, writer, lines, line, replies)? {
         NextLine::Line => {
-            session.answer(line, replies)?;
+            session.answer(end, line, replies)?;
             Ok(true)
         }
         NextLine::TooLong => {

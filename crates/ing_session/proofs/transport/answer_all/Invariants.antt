@@ -1,5 +1,6 @@
 use Rattle.std.proofs.Common.{◌-◌, ◌^◌}
 use Rattle.std.specs.Prelude.{IfSome}
+use Rattle.ing_session.specs.Flushing.{GoesOn}
 use Rattle.ing_session.specs.Runs.{with_replies, ServesKnown}
 use Rattle.ing_session.specs.Unread.{left, is_ended, progress}
 use Rattle.ing_session.proofs.transport.answer_all.Given as goal
@@ -7,8 +8,13 @@ use Rattle.ing_session.proofs.transport.answer_all.Given as goal
 -- where the input is known, the lines that were taken of it are answered
 abbrev pub invariant-loop-line : goal.invariant-loop-line
 invariant-loop-line g l =
-    IfSome (g.R.Read.remaining l.fn.reader) (λ input.
-    ServesKnown l.fn.settings l.session input (g.W.Write.contents l.fn.writer) (with_replies (g.W.Write.contents l.writer) l.replies.items) (is_ended l.lines) (left l.lines (g.R.Read.remaining l.reader)))
+    let failures = g.S.StoreEnd.failure_count in
+    record {
+      served : IfSome (g.R.Read.remaining l.fn.reader) (λ input.
+          ServesKnown l.fn.settings l.session input (failures l.fn.end) (failures l.end) (g.W.Write.contents l.fn.writer) (with_replies (g.W.Write.contents l.writer) l.replies.items)
+          (is_ended l.lines) (left l.lines (g.R.Read.remaining l.reader)));
+      end : GoesOn g.S.StoreEnd.never_fails failures l.fn.end l.end;
+    }
 
 -- each turn takes a byte or makes a read, and reads are bounded
 abbrev pub decreases-loop-line : goal.decreases-loop-line

@@ -1,14 +1,23 @@
-use Rattle.std.proofs.Common.{◌≡◌, ◌++◌, ◌∙◌, false, sym, subst}
+use Rattle.std.proofs.Common.{◌≡◌, ◌∙◌, false, refl, sym}
 use Rattle.std.proofs.lemmas.Result.{on_ok_weaker}
-use Rattle.ing_session.specs.Replies.{line_text}
 use Rattle.ing_session.specs.Session as session
+use Rattle.ing_session.specs.Views.{reply_data}
+use Rattle.ing_session.proofs.ObeyLaws.{answers, answers_blank}
 use Rattle.ing_session.proofs.session.Session.answer.Goals as goal
 
-pub returns-clause-text : goal.returns-clause-text
-returns-clause-text c =
+pub returns-then-is_blank-clause-answered : goal.returns-then-is_blank-clause-answered
+returns-then-is_blank-clause-answered g c = λ old is_held.
+    let replies = c.args.replies.now.items in
+    answers_blank c.args.self.now.shard.settings c.args.line.now old c.args.self.now replies replies c.requires (g.S.StoreEnd.failure_count c.args.end.now)
+    (sym c.is_blank.ensures ∙ c.if-is_blank.true) refl is_held
+
+pub returns-clause-answered : goal.returns-clause-answered
+returns-clause-answered g c =
+    let line = c.args.line.now in
+    let failures = g.S.StoreEnd.failure_count in
+    let blank : session.is_blank line ≡ false = sym c.is_blank.ensures ∙ c.if-is_blank.false in
     on_ok_weaker c.add_line.result
     (λ written old is_held.
-    let reply = c.in_ok-reply.ensures.reply old is_held in
-    let blank : session.is_blank c.args.line.now ≡ false = sym c.is_blank.ensures ∙ c.if-is_blank.false in
-    rw (c.requires, blank) (subst (λ d. c.add_line.new.replies.items ≡ c.args.replies.now.items ++ line_text d) reply written))
+    answers c.args.self.now.shard.settings line old c.reply_to.new.self c.args.replies.now.items c.add_line.new.replies.items c.requires
+    (failures c.args.end.now) (failures c.reply_to.new.end) (reply_data c.in_ok-reply.reply) blank written (c.in_ok-reply.ensures.obeyed old is_held))
     c.add_line.ensures.text

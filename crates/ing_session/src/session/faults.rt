@@ -1,0 +1,71 @@
+//! Which lines are blank, and the replies to what is refused.
+ghost use Rattle.std.specs.Prelude.{◌≡◌, IfOk, IsErr, None};
+ghost use Rattle.ing_shard.specs.Faults.{refusal_of as push_refusal};
+ghost use Rattle.ing_session.specs.Replies.{fault_data};
+ghost use Rattle.ing_session.specs.Session.{is_blank, label_fault, limits_of, line_fault};
+ghost use Rattle.ing_session.specs.Views.{reply_data, stream_data};
+
+use crate::command::LineFault;
+use crate::reply::{Reply, StreamReply};
+use ing_labels::{LabelFault, LabelLimits};
+use ing_rows::Rules;
+use ing_shard::PushFault;
+use std::alloc::AllocError;
+
+/// Whether a line has nothing but spaces, tabs and carriage returns.
+pub(super) fn is_blank(line: &[u8]) -> bool
+    ensures { result ≡ is_blank line.now }
+{
+    line.iter()
+        .all(|byte| matches!(*byte, b' ' | b'\t' | b'\r'))
+}
+
+/// The reply to a line that is refused.
+pub(super) fn line_fault(fault: LineFault) -> Result<Reply, AllocError>
+    ensures reply { IfOk result (λ reply. reply_data reply ≡ line_fault fault) }
+    ensures memory { fault ≡ LineFault.NoMemory → IsErr result }
+{
+    if fault == LineFault::NoMemory {
+        return Err(AllocError);
+    }
+    Ok(Reply::Fault(fault.refusal()))
+}
+
+/// The limits on labels among a tenant's rules.
+pub(super) fn label_limits(rules: &Rules) -> LabelLimits
+    ensures { result ≡ limits_of rules.now }
+{
+    LabelLimits {
+        names: rules.max_label_names as usize,
+        name_bytes: rules.max_label_name_length as usize,
+        value_bytes: rules.max_label_value_length as usize,
+    }
+}
+
+/// The reply to a stream whose labels are refused.
+pub(super) fn label_fault(fault: LabelFault) -> Result<StreamReply, AllocError>
+    ensures reply { IfOk result (λ reply. stream_data reply ≡ label_fault fault) }
+    ensures memory { fault ≡ LabelFault.NoMemory → IsErr result }
+{
+    if fault == LabelFault::NoMemory {
+        return Err(AllocError);
+    }
+    Ok(StreamReply::Fault {
+        refusal: fault.refusal(),
+        at: fault.at(),
+    })
+}
+
+/// The reply to a stream that is refused as a whole.
+pub(super) fn push_fault(fault: PushFault) -> Result<StreamReply, AllocError>
+    ensures reply { IfOk result (λ reply. stream_data reply ≡ fault_data (push_refusal fault) None) }
+    ensures memory { fault ≡ PushFault.NoMemory → IsErr result }
+{
+    if fault == PushFault::NoMemory {
+        return Err(AllocError);
+    }
+    Ok(StreamReply::Fault {
+        refusal: fault.refusal(),
+        at: None,
+    })
+}
