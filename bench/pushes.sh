@@ -1,8 +1,8 @@
 #!/bin/sh
 # bench/pushes.sh PROGRAM
 #
-# What pushes cost: feeds PROGRAM (ingestd) inputs that it makes in a folder of its own, and prints a table. Every entry must
-# be accepted, or it stops. Processor time is user and system together, by /usr/bin/time where it is there and else by the
+# What pushes and flushes cost: feeds PROGRAM (ingestd) inputs that it makes in a folder of its own, and prints two tables.
+# Every entry must be accepted, and stored where it is flushed, or it stops. Processor time is user and system together, by /usr/bin/time where it is there and else by the
 # shell. Both count in hundredths of a second, so inputs below a million entries are run five times together, and the figure
 # is a fifth of the time; it is the least of three such. Peak memory is known by /usr/bin/time alone.
 set -eu
@@ -105,6 +105,29 @@ row() {
     }'
 }
 
+# flush_row ENTRIES STREAMS BYTES_A_LINE: the pushes of row, 100 entries each and in order, and then a flush of all. What the
+# pushes take alone is taken off.
+flush_row() {
+  make_input "$1" "$2" 100 "$3" in >"$folder/input"
+  least "$folder/input" 1
+  push_seconds=$least_seconds
+  echo '{"cmd":"flush"}' >>"$folder/input"
+  least "$folder/input" 1
+  rm "$folder/input"
+  stored=$(sed -n '$s/.*"stored":\([0-9]*\).*/\1/p' "$folder/out")
+  if [ "$stored" != "$1" ]; then
+    echo "of $1 entries ${stored:-none} stored: $*" >&2
+    exit 1
+  fi
+  awk -v entries="$1" -v streams="$2" -v bytes="$3" -v seconds="$least_seconds" -v pushes="$push_seconds" \
+    -v kibibytes="$least_kibibytes" 'BEGIN {
+      flush = seconds - pushes
+      a_second = flush > 0 ? sprintf("%.0f", entries / flush) : "-"
+      memory = kibibytes == "-" ? "-" : sprintf("%.2f", kibibytes * 1024 / (entries * (16 + bytes)))
+      printf "| %d | %d | %d | %s | %.2f | %s |\n", entries, streams, bytes, a_second, flush * 1000000 / entries, memory
+    }'
+}
+
 echo '| Entries | streams | entries a push | bytes a line | stamps in or out of order | entries a second | microseconds an entry | of these read and refused | peak memory by held bytes |'
 echo '|---|---|---|---|---|---|---|---|---|'
 for order in in out; do
@@ -122,3 +145,12 @@ for order in in out; do
   done
 done
 row 1000000 1000 1 120 in
+
+echo
+echo '| Entries flushed | streams | bytes a line | entries a second | microseconds an entry | peak memory by held bytes |'
+echo '|---|---|---|---|---|---|'
+for streams in 1 1000 100000; do
+  flush_row 500000 "$streams" 120
+done
+flush_row 50000 1000 4096
+flush_row 2000000 1000 120
