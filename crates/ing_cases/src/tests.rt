@@ -1,9 +1,14 @@
-//! What no file can say: readers and writers that fail or watch one another, settings files, lines of 16 MiB, and a
-//! refused allocation.
+//! What no file can say: readers, writers and ends that fail, readers and writers that watch one another, settings files,
+//! lines of 16 MiB, and a refused allocation.
+mod flushes;
+
 use ing_limits::Settings;
 use ing_session::{Ending, conclude, run, start};
+use ing_store::{Fuse, MemoryStore};
 use std::cell::Cell;
 use std::io::{Error, ErrorKind, Read, Write};
+use std::rt::Files;
+use std::sync::Wait;
 use std::test::Fail;
 use std::{env, fs, io, process};
 
@@ -21,14 +26,38 @@ const SWEEP: &str = "{\"cmd\":\"sweep\",\"now\":\"9000000000000000000\"}\n";
 
 const SWEPT: &str = "{\"sweep\":{\"queued\":2,\"sealed\":2}}\n";
 
+/// A flush before which each growing chunk is sealed.
+const FLUSH: &str = "{\"cmd\":\"flush\"}\n";
+
+/// What is answered to `PUSHES`, `SWEEP` and `FLUSH`, and the report.
+const ANSWERS: [&str; 5] = [
+    REPLY,
+    REPLY,
+    SWEPT,
+    "{\"flush\":{\"failed\":0,\"sealed\":0,\"stored\":2}}\n",
+    "{\"report\":[{\"accepted\":2,\"kept\":0,\"recovered\":0,\"stored\":2}]}\n",
+];
+
 const BAD_COMMAND: &str = "{\"error\":\"BadCommand\",\"number\":33}\n";
 
-fn defaults(rt: &HostRuntime) -> Result<Settings, Fail> {
-    Ok(Settings::from_toml(rt.alloc(), "")?)
+/// How a run with all defaults ends, over an end of which these calls fail.
+fn run_over<H: AllocGlobal + Wait, R: Read, W: Write>(
+    rt: &H,
+    fuse: Fuse,
+    reader: &mut R,
+    writer: &mut W,
+) -> Result<Result<(), Ending>, Fail> {
+    let settings = Settings::from_toml(rt.alloc(), "")?;
+    let store = MemoryStore::new(rt.alloc())?;
+    let mut end = store.end(rt, fuse);
+    Ok(run(rt.alloc(), reader, writer, &mut end, settings))
 }
 
 /// How the program ends with these words on `PUSHES`, and what it has written by then.
-fn started(rt: &HostRuntime, words: &[&str]) -> Result<(Result<(), Ending>, String), Fail> {
+fn started<F: Files + AllocGlobal + Wait>(
+    rt: &F,
+    words: &[&str],
+) -> Result<(Result<(), Ending>, String), Fail> {
     let mut owned = Vec::new(rt.alloc());
     for word in words {
         owned.push(String::from_str(rt.alloc(), word)?)?;
@@ -46,22 +75,16 @@ fn temporary(rt: &HostRuntime, name: &str) -> Result<String, Fail> {
     Ok(format!(in rt.alloc(); "{}/sarymbeu-{name}", folder.as_str())?)
 }
 
-/// How the program ends on `PUSHES` by a file of these settings, and what it has written by then.
-fn started_by(rt: &HostRuntime, settings: &str) -> Result<(Result<(), Ending>, String), Fail> {
-    let name = format!(in rt.alloc(); "{}.toml", process::id(rt.process()))?;
-    let path = temporary(rt, name.as_str())?;
-    fs::write(rt, path.as_str(), settings.as_bytes())?;
-    let ended = started(rt, &[path.as_str()])?;
-    fs::remove_file(rt, path.as_str())?;
-    Ok(ended)
-}
-
 #[test]
 fn settings_from_a_file(rt: HostRuntime) -> Result<(), Fail> {
     // What counts stands behind the first 64 KiB of the file.
     let mut file = "#\n".repeat(rt.alloc(), 40_000)?;
     file.push_str("[tenants.acme]\nmax_line_size = 4\n")?;
-    let (ended, written) = started_by(&rt, file.as_str())?;
+    let name = format!(in rt.alloc(); "{}.toml", process::id(rt.process()))?;
+    let path = temporary(&rt, name.as_str())?;
+    fs::write(&rt, path.as_str(), file.as_bytes())?;
+    let (ended, written) = started(&rt, &[path.as_str()])?;
+    fs::remove_file(&rt, path.as_str())?;
     assert_eq!(rt; ended, Ok(()));
     assert!(rt; written.as_str().contains("\"line_too_long\""));
     Ok(())
@@ -130,8 +153,8 @@ impl Read for Pieces<'_> {
 }
 
 /// How a run on `PUSHES` in pieces of so many bytes ends, and what it has written by then.
-fn run_in_pieces(
-    rt: &HostRuntime,
+fn run_in_pieces<H: AllocGlobal + Wait>(
+    rt: &H,
     piece: usize,
     fails: bool,
 ) -> Result<(Result<(), Ending>, Vec<u8>), Fail> {
@@ -142,7 +165,7 @@ fn run_in_pieces(
         fails,
     };
     let mut writer = Vec::new(rt.alloc());
-    let ended = run(rt.alloc(), &mut reader, &mut writer, defaults(rt)?);
+    let ended = run_over(rt, Fuse::None, &mut reader, &mut writer)?;
     Ok((ended, writer))
 }
 
@@ -235,7 +258,7 @@ fn replies_are_flushed_before_the_next_read(rt: HostRuntime) -> Result<(), Fail>
         held: 0,
         flushed: &flushed,
     };
-    let ended = run(rt.alloc(), &mut reader, &mut writer, defaults(&rt)?);
+    let ended = run_over(&rt, Fuse::None, &mut reader, &mut writer)?;
     assert_eq!(rt; ended, Ok(()));
     // Before the last read, which finds the end, all three replies were flushed.
     assert_eq!(rt; seen.get(), BAD_COMMAND.len().saturating_mul(3));
@@ -271,7 +294,7 @@ fn a_failed_write_ends_the_run(rt: HostRuntime) -> Result<(), Fail> {
     ] {
         let mut reader = PUSHES.as_bytes();
         let mut writer = FailingWriter { writes };
-        let got = run(rt.alloc(), &mut reader, &mut writer, defaults(&rt)?);
+        let got = run_over(&rt, Fuse::None, &mut reader, &mut writer)?;
         assert_eq!(rt; got, ended, "after {writes} writes");
     }
     Ok(())
@@ -283,7 +306,7 @@ fn longest_line_and_one_byte_more(rt: HostRuntime) -> Result<(), Fail> {
     for (length, replies) in [(16_777_216, 1), (16_777_217, 2)] {
         let mut reader = io::repeat(b' ').take(length).chain(b"\nx\n".as_slice());
         let mut writer = Vec::new(rt.alloc());
-        let ended = run(rt.alloc(), &mut reader, &mut writer, defaults(&rt)?);
+        let ended = run_over(&rt, Fuse::None, &mut reader, &mut writer)?;
         assert_eq!(rt; ended, Ok(()));
         let refused = BAD_COMMAND.repeat(rt.alloc(), replies)?;
         assert!(rt; writer.as_slice().starts_with(refused.as_bytes()));
@@ -292,29 +315,46 @@ fn longest_line_and_one_byte_more(rt: HostRuntime) -> Result<(), Fail> {
     Ok(())
 }
 
+/// How many of the answers stand in this room, whole; none where anything else is written there.
+fn answers_in(room: &[u8]) -> Option<usize> {
+    let mut rest = room;
+    let mut whole = 0usize;
+    for answer in ANSWERS {
+        let Some(others) = rest.strip_prefix(answer.as_bytes()) else {
+            break;
+        };
+        rest = others;
+        whole = whole.saturating_add(1);
+    }
+    rest.iter().all(|byte| *byte == 0).then_some(whole)
+}
+
 /// One allocation at most is refused in a run of this test, and none of them is the test's own: the run ends on
 /// `NoMemory` with whole replies, and the same run then gives the whole output.
 #[test]
 fn a_refused_allocation_ends_the_run_and_the_next_is_whole(rt: HostRuntime) -> Result<(), Fail> {
     let mut room = [0u8; 512];
+    let store = match MemoryStore::new(rt.alloc()) {
+        Ok(store) => store,
+        Err(_) => MemoryStore::new(rt.alloc())?,
+    };
     for _ in 0..2 {
         let settings = match Settings::from_toml(rt.alloc(), "") {
             Ok(settings) => settings,
-            Err(_) => defaults(&rt)?,
+            Err(_) => Settings::from_toml(rt.alloc(), "")?,
         };
-        let mut reader = PUSHES.as_bytes().chain(SWEEP.as_bytes());
+        let mut reader = PUSHES
+            .as_bytes()
+            .chain(SWEEP.as_bytes())
+            .chain(FLUSH.as_bytes());
         let mut writer = room.as_mut_slice();
-        match run(rt.alloc(), &mut reader, &mut writer, settings) {
+        let mut end = store.end(&rt, Fuse::None);
+        match run(rt.alloc(), &mut reader, &mut writer, &mut end, settings) {
             Ok(()) => break,
             Err(ending) => assert_eq!(rt; ending, Ending::NoMemory),
         }
+        assert!(rt; answers_in(&room).is_some_and(|whole| whole < ANSWERS.len()));
     }
-    let (first, others) = room.split_at(REPLY.len());
-    assert_eq!(rt; first, REPLY.as_bytes());
-    let (second, others) = others.split_at(REPLY.len());
-    assert_eq!(rt; second, REPLY.as_bytes());
-    let (third, others) = others.split_at(SWEPT.len());
-    assert_eq!(rt; third, SWEPT.as_bytes());
-    assert!(rt; others.starts_with(REPORT.as_bytes()));
+    assert_eq!(rt; answers_in(&room), Some(ANSWERS.len()));
     Ok(())
 }
