@@ -8,6 +8,7 @@ use Rattle.ing_refusals.specs.Results.{◌>>=◌}
 use Rattle.ing_session.specs.declared.command.fault.LineFault.{LineFault}
 use Rattle.ing_session.specs.declared.command.fault.LineFault.TheVariants.{BadCommand}
 use Rattle.ing_session.specs.FlushCommands.{FlushCommand, flush_of}
+use Rattle.ing_session.specs.GaugesCommands.{GaugesCommand, gauges_of}
 use Rattle.ing_session.specs.PushCommands.{PushCommand, push_of}
 use Rattle.ing_session.specs.Shapes.{text_at}
 use Rattle.ing_session.specs.SweepCommands.{SweepCommand, sweep_of}
@@ -16,6 +17,7 @@ pub data Command : Type 0 where
   Push : PushCommand → Command
   Sweep : SweepCommand → Command
   Flush : FlushCommand → Command
+  Gauges : GaugesCommand → Command
 
 abbrev pub pushed : PushCommand → Result Command LineFault
 pushed push = Ok (Push push)
@@ -25,6 +27,9 @@ swept sweep = Ok (Sweep sweep)
 
 abbrev pub flushed : FlushCommand → Result Command LineFault
 flushed flush = Ok (Flush flush)
+
+abbrev pub asked : GaugesCommand → Result Command LineFault
+asked gauges = Ok (Gauges gauges)
 
 -- the JSON value of a line, which is UTF-8
 abbrev pub data_of : List ℕ → Result Data LineFault
@@ -36,6 +41,7 @@ said_as cmd d =
     if bytes_eq cmd (codes "push") then push_of d >>= pushed
     else if bytes_eq cmd (codes "sweep") then sweep_of d >>= swept
     else if bytes_eq cmd (codes "flush") then flush_of d >>= flushed
+    else if bytes_eq cmd (codes "gauges") then gauges_of d >>= asked
     else Err BadCommand
 
 -- what a value commands, by its member `cmd`

@@ -6,6 +6,8 @@ use Rattle.serde_json.specs.Written.{compact_text}
 use Rattle.ing_session.specs.declared.reply.ShardReport.{ShardReport}
 use Rattle.ing_refusals.specs.declared.refusal.Refusal.{Refusal}
 use Rattle.ing_refusals.specs.Refusals.{refusal_number, refusal_name}
+use Rattle.ing_rows.specs.declared.gauges.Gauge.{Gauge}
+use Rattle.ing_rows.specs.declared.gauges.Gauges.{Gauges}
 use Rattle.ing_rows.specs.declared.verdict.Verdict.{Verdict}
 use Rattle.ing_rows.specs.declared.verdict.Verdict.TheVariants.{Accepted, Duplicate, LineTooLong, TooFarBehind, TooManyStreams}
 
@@ -57,6 +59,23 @@ flush_data failed sealed stored =
     member (codes "failed") (count failed) (
     member (codes "sealed") (count sealed) (
     member (codes "stored") (count stored) no_members)))) no_members)
+
+-- entries and their bytes, which pass what a double holds
+abbrev pub gauge_data : Gauge → Data
+gauge_data gauge = object (member (codes "bytes") (string (decimal gauge.bytes)) (member (codes "entries") (count gauge.entries) no_members))
+
+-- of a tenant in a shard: its entries by the kind of their place, and its live streams
+abbrev pub tenant_data : Gauges → Data
+tenant_data gauges =
+    object (member (codes "block") (gauge_data gauges.block) (
+    member (codes "flight") (gauge_data gauges.flight) (
+    member (codes "head") (gauge_data gauges.head) (
+    member (codes "stored") (gauge_data gauges.stored) (
+    member (codes "streams") (count gauges.streams) no_members)))))
+
+-- one for each shard
+abbrev pub gauges_data : List Gauges → Data
+gauges_data shards = object (member (codes "gauges") (array (items_of (map tenant_data shards))) no_members)
 
 -- of a shard: entries accepted in this run, kept in memory, recovered from an earlier run, and stored
 abbrev pub shard_data : ShardReport → Data

@@ -12,6 +12,7 @@ use Rattle.ing_rows.specs.declared.rules.Rules.{Rules}
 use Rattle.ing_rows.specs.Rows.{StreamKey, State}
 use Rattle.ing_rows.specs.Events.{is_full, sealed_count}
 use Rattle.ing_rows.specs.Steps.{verdicts_of, after_push, due_by, forced, sealed_by, swept}
+use Rattle.ing_rows.specs.Gauges.{gauges_of}
 use Rattle.ing_rows.specs.Turns.{accepted_among}
 use Rattle.ing_limits.specs.Settings.{StoreSettings}
 use Rattle.ing_limits.specs.Ranges.{rules_for}
@@ -23,12 +24,12 @@ use Rattle.ing_session.specs.declared.command.fault.LineFault.{LineFault}
 use Rattle.ing_session.specs.declared.command.fault.LineFault.TheVariants.{BadCommand}
 use Rattle.ing_session.specs.Faults.{refusal_of}
 use Rattle.ing_refusals.specs.declared.refusal.Refusal.TheVariants.{TooManyEntries, CounterFull}
-use Rattle.ing_session.specs.Commands.{Command, Push, Sweep, Flush, command_of}
+use Rattle.ing_session.specs.Commands.{Command, Push, Sweep, Flush, Gauges, command_of}
 use Rattle.ing_session.specs.Flushing.{Outcome, EndSo, failed_among, stored_among}
 use Rattle.ing_session.specs.Held.{Held, nothing_held, shard_number}
 use Rattle.ing_session.specs.PushCommands.{StreamEntries}
 use Rattle.ing_session.specs.Parts.{max_line}
-use Rattle.ing_session.specs.Replies.{fault_data, judged_data, push_data, sweep_data, flush_data, report_data, line_text}
+use Rattle.ing_session.specs.Replies.{fault_data, judged_data, push_data, sweep_data, flush_data, gauges_data, report_data, line_text}
 
 abbrev pub limits_of : Rules → LabelLimits
 limits_of rules = record { names = rules.max_label_names; name_bytes = rules.max_label_name_length; value_bytes = rules.max_label_value_length }
@@ -143,14 +144,16 @@ command_reply settings (Ok (Push push)) outcomes held =
     push_data (stream_replies (rules_for settings push.tenant) push.tenant push.now push.streams held)
 command_reply settings (Ok (Sweep sweep)) outcomes held = sweep_reply settings sweep.now held
 command_reply settings (Ok (Flush flush)) outcomes held = flush_reply flush.forced outcomes held
+command_reply settings (Ok (Gauges gauges)) outcomes held = gauges_data (gauges_of held.state.rows gauges.tenant ∷ [])
 
--- a refused line changes nothing; a flush leaves these rows and marks
+-- a refused line changes nothing, nor does a question; a flush leaves these rows and marks
 abbrev pub after_command : StoreSettings → Result Command LineFault → State → Held → Held
 after_command settings (Err fault) left held = held
 after_command settings (Ok (Push push)) left held =
     after_streams (rules_for settings push.tenant) push.tenant push.now push.streams held
 after_command settings (Ok (Sweep sweep)) left held = after_sweep settings sweep.now held
 after_command settings (Ok (Flush flush)) left held = after_flush left held
+after_command settings (Ok (Gauges gauges)) left held = held
 
 -- the operations of a flush may end so, and leave these rows and marks
 abbrev pub CommandMayBe : StoreSettings → Result Command LineFault → List Outcome → State → Held → Type 0
@@ -158,6 +161,7 @@ CommandMayBe settings (Err fault) outcomes left held = ⊤
 CommandMayBe settings (Ok (Push push)) outcomes left held = ⊤
 CommandMayBe settings (Ok (Sweep sweep)) outcomes left held = ⊤
 CommandMayBe settings (Ok (Flush flush)) outcomes left held = FlushMayBe settings outcomes left (to_flush flush.forced held)
+CommandMayBe settings (Ok (Gauges gauges)) outcomes left held = ⊤
 
 -- spaces, tabs and carriage returns alone
 abbrev pub is_blank : List ℕ → Bool

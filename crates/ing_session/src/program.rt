@@ -70,7 +70,7 @@ fn read_file<F: Files + AllocGlobal>(rt: &F, path: &str) -> Result<Vec<u8>, Endi
     }
 }
 
-/// Runs by the settings that the bytes of a settings file give.
+/// Runs by the settings that the bytes of a settings file give, over a store in memory, which ends with the run.
 ///
 /// `NotToml` where they are not UTF-8 or no TOML, `UnknownSetting` and `BadSetting` as `Settings::from_toml` says, and
 /// `BadSetting` also where `shards` is not 1, since the program has one shard yet; these in this order, and nothing is

@@ -1,6 +1,6 @@
 //! The replies, and the lines that they are written as.
 ghost use Rattle.std.specs.Prelude.{◌≡◌, ◌++◌, ◌∷◌, [], OnOk, OnErr, decimal, map};
-ghost use Rattle.ing_session.specs.Replies.{verdict_data, verdicts_data, fault_data, judged_data, push_data, sweep_data, flush_data, shard_data, report_data, line_text, count};
+ghost use Rattle.ing_session.specs.Replies.{verdict_data, verdicts_data, fault_data, judged_data, push_data, sweep_data, flush_data, gauge_data, gauges_data, tenant_data, shard_data, report_data, line_text, count};
 ghost use Rattle.ing_session.specs.Views.{stream_data, reply_data};
 ghost use Rattle.ing_session.specs.Written.{Adds, member_tokens, data_tokens, tokens_of_each};
 ghost use Rattle.serde_json.specs.Data.{string, object, no_members, member};
@@ -8,7 +8,7 @@ ghost use Rattle.ing_labels.specs.Canonical.{canonical_of};
 
 use ing_labels::Labels;
 use ing_refusals::Refusal;
-use ing_rows::Verdict;
+use ing_rows::{Gauge, Gauges, Verdict};
 use json::Writer;
 use std::alloc::{AllocError, Global};
 
@@ -30,6 +30,8 @@ pub enum Reply {
         sealed: u64,
         stored: u64,
     },
+    /// What the one shard counts of a tenant.
+    Gauges(Gauges),
     /// What is reported of the one shard.
     Report(ShardReport),
 }
@@ -74,14 +76,14 @@ pub fn add_line(alloc: Global, replies: &mut Vec<u8>, reply: &Reply) -> Result<(
     ensures err { OnErr result (replies.new.items ≡ replies.old.items) }
 {
     let mut out = Writer::new(Vec::with_capacity(alloc, REPLY_ROOM)?);
-    write_reply(&mut out, reply)?;
+    write_reply(alloc, &mut out, reply)?;
     let mut line = out.into_inner();
     line.push(b'\n')?;
     replies.extend_from_slice(&line)?;
     Ok(())
 }
 
-fn write_reply(out: &mut Writer, reply: &Reply) -> Result<(), AllocError>
+fn write_reply(alloc: Global, out: &mut Writer, reply: &Reply) -> Result<(), AllocError>
     ensures tokens { OnOk result (Adds out.old out.new (data_tokens (reply_data reply.now))) }
     ensures before { out.new.before ≡ out.old.before }
 {
@@ -94,6 +96,7 @@ fn write_reply(out: &mut Writer, reply: &Reply) -> Result<(), AllocError>
             sealed,
             stored,
         } => write_flush(out, *failed, *sealed, *stored),
+        Reply::Gauges(gauges) => write_gauges(alloc, out, gauges),
         Reply::Report(shard) => write_report(out, shard),
     }
 }
@@ -279,6 +282,51 @@ fn write_flush(out: &mut Writer, failed: u64, sealed: u64, stored: u64) -> Resul
     write_count(out, "sealed", sealed)?;
     write_count(out, "stored", stored)?;
     out.end_object()?;
+    out.end_object()?;
+    Ok(())
+}
+
+/// Writes the gauges of a tenant in the one shard.
+fn write_gauges(alloc: Global, out: &mut Writer, gauges: &Gauges) -> Result<(), AllocError>
+    ensures tokens { OnOk result
+        (Adds out.old out.new (data_tokens (gauges_data (gauges.now ∷ [])))) }
+    ensures before { out.new.before ≡ out.old.before }
+{
+    out.begin_object()?;
+    out.key("gauges")?;
+    out.begin_array()?;
+    write_tenant(alloc, out, gauges)?;
+    out.end_array()?;
+    out.end_object()?;
+    Ok(())
+}
+
+/// Writes what a shard counts of a tenant.
+fn write_tenant(alloc: Global, out: &mut Writer, gauges: &Gauges) -> Result<(), AllocError>
+    ensures tokens { OnOk result (Adds out.old out.new (data_tokens (tenant_data gauges.now))) }
+    ensures before { out.new.before ≡ out.old.before }
+{
+    out.begin_object()?;
+    write_gauge(alloc, out, "block", &gauges.block)?;
+    write_gauge(alloc, out, "flight", &gauges.flight)?;
+    write_gauge(alloc, out, "head", &gauges.head)?;
+    write_gauge(alloc, out, "stored", &gauges.stored)?;
+    write_count(out, "streams", gauges.streams)?;
+    out.end_object()?;
+    Ok(())
+}
+
+/// Writes a member that is a gauge.
+fn write_gauge(alloc: Global, out: &mut Writer, name: &str, gauge: &Gauge) -> Result<(), AllocError>
+    ensures tokens { OnOk result
+        (Adds out.old out.new (member_tokens name.now (gauge_data gauge.now))) }
+    ensures before { out.new.before ≡ out.old.before }
+{
+    let bytes = format!(in alloc; "{}", gauge.bytes)?;
+    out.key(name)?;
+    out.begin_object()?;
+    write_text(out, "bytes", bytes.as_str())?;
+    write_count(out, "entries", gauge.entries)?;
     out.end_object()?;
     Ok(())
 }

@@ -17,8 +17,9 @@ use ing_store::StoreEnd;
 use std::alloc::Global;
 use std::io::{Read, Write};
 
-/// Reads commands line by line, answers each in a line, and writes a report at the end of input. Replies may be held back
-/// while a whole further line is at hand; they are written out before anything is read, and before the run ends.
+/// Reads commands line by line, answers each in a line, and writes a report at the end of input; flushes put into the store
+/// by `end`. Replies may be held back while a whole further line is at hand; they are written out before anything is read,
+/// and before the run ends.
 ///
 /// `InputFault` where a read failed or the input took more than 2^40 reads, `NoMemory` where memory ran out: then what was
 /// answered before is written, and no report. `OutputFault` where a write failed. (Own.)
@@ -29,8 +30,8 @@ pub fn run<R: Read, W: Write, S: StoreEnd>(
     end: &mut S,
     settings: Settings,
 ) -> Result<(), Ending>
-    // What is written is, line for line, what the model answers to the lines read, where the uploads ended in some way; and
-    // no upload failed without a cause.
+    // What is written is, line for line, what the model answers to the lines read, by how the uploads ended; and none failed
+    // without a cause.
     ensures output { OnOk result (IfSome (R.remaining reader.old) (λ input.
         AnswersAll settings input (S.failure_count end.old) (S.failure_count end.new)
         (W.contents writer.old) (W.contents writer.new))) }
