@@ -64,6 +64,19 @@ impl Talk {
         Ok(())
     }
 
+    /// So many streams have their entry in a block, and so many in the store.
+    fn gauges(&mut self, alloc: Global, entries: Entries) -> Result<(), AllocError> {
+        let (kept, stored) = entries;
+        let kept_bytes = kept.saturating_mul(21);
+        let stored_bytes = stored.saturating_mul(21);
+        let reply = format!(in alloc;
+            "{{\"gauges\":[{{\"block\":{{\"bytes\":\"{kept_bytes}\",\"entries\":{kept}}},\"flight\":{{\"bytes\":\"0\",\"entries\":0}},\"head\":{{\"bytes\":\"0\",\"entries\":0}},\"stored\":{{\"bytes\":\"{stored_bytes}\",\"entries\":{stored}}},\"streams\":{kept}}}]}}\n"
+        )?;
+        self.input.push_str("{\"cmd\":\"gauges\",\"tenant\":\"acme\"}\n")?;
+        self.output.push_str(reply.as_str())?;
+        Ok(())
+    }
+
     /// It goes so over an end of which these calls fail, and such entries are reported.
     fn holds_over<R: AllocGlobal + Wait + Abort>(
         &mut self,
@@ -87,7 +100,7 @@ impl Talk {
     }
 }
 
-/// Each of these streams gets an entry, and two flushes then count so.
+/// Each of these streams gets an entry, and two flushes then count so; the gauges follow each.
 fn flushes_twice<R: AllocGlobal + Wait + Abort>(
     rt: &R,
     fuse: Fuse,
@@ -99,8 +112,12 @@ fn flushes_twice<R: AllocGlobal + Wait + Abort>(
     for app in apps {
         talk.push(rt.alloc(), app)?;
     }
+    let mut stored = 0u64;
     for counts in flushes {
         talk.flush(rt.alloc(), FLUSH, counts)?;
+        stored = stored.saturating_add(counts.2);
+        let kept = talk.accepted.saturating_sub(stored);
+        talk.gauges(rt.alloc(), (kept, stored))?;
     }
     talk.holds_over(rt, fuse, entries)
 }
