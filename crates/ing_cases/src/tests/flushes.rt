@@ -72,7 +72,8 @@ impl Talk {
         let reply = format!(in alloc;
             "{{\"gauges\":[{{\"block\":{{\"bytes\":\"{kept_bytes}\",\"entries\":{kept}}},\"flight\":{{\"bytes\":\"0\",\"entries\":0}},\"head\":{{\"bytes\":\"0\",\"entries\":0}},\"stored\":{{\"bytes\":\"{stored_bytes}\",\"entries\":{stored}}},\"streams\":{kept}}}]}}\n"
         )?;
-        self.input.push_str("{\"cmd\":\"gauges\",\"tenant\":\"acme\"}\n")?;
+        self.input
+            .push_str("{\"cmd\":\"gauges\",\"tenant\":\"acme\"}\n")?;
         self.output.push_str(reply.as_str())?;
         Ok(())
     }
