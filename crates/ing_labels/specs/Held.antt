@@ -12,9 +12,9 @@ pieces_of m = canonical_of m ∷ named_texts (entries m)
 
 -- the map that the texts after the first spell
 abbrev pub held_map : Inside → LabelMap
-held_map a = from_sorted (pairs_of (drop 1 a.pieces))
+held_map a = from_sorted (pairs_of (drop 1 a.pieces.value))
 
 -- these are the texts of a map, which is the labels of a stream
 pub record IsHeld (a : Inside) : Type 0 where
-  pub pieces : a.pieces ≡ pieces_of (held_map a)
+  pub pieces : a.pieces.value ≡ pieces_of (held_map a)
   pub labels : IsLabelSet (held_map a)

@@ -16,13 +16,14 @@ use crate::pieces::Pieces;
 use crate::text_fault::TextFault;
 use std::alloc::{AllocError, Global};
 use std::marker::Model;
+use std::sync::Arc;
 
 /// The labels of one stream, seen as the map from the bytes of a name to the bytes of its value:
 /// one label or more, each with a label name and a value that is not empty (Loki documentation:
 /// labels).
 #[derive(Debug, Drop)]
 pub struct Labels {
-    pieces: Pieces,
+    pieces: Arc<Pieces>,
 }
 
 impl Model for Labels {
@@ -126,7 +127,8 @@ impl Labels {
         ensures { IfOk result (λ l. l ≡ from_sorted (with_values (texts pairs.now))) }
     {
         let name = canonical_text(alloc, pairs)?;
-        let pieces = packed(alloc, name, pairs)?;
+        let packed = packed(alloc, name, pairs)?;
+        let pieces = Arc::new(alloc, packed)?;
         Ok(Labels { pieces })
     }
 
@@ -188,12 +190,13 @@ impl Labels {
     }
 }
 
-/// A copy has the same labels. The time and the memory are in proportion to their texts.
+/// A copy has the same labels, and shares their texts: it takes constant time.
 impl Clone for Labels {
     ghost is_clone = { λ labels copy. copy ≡ labels };
 
     fn clone(&self) -> Result<Labels, AllocError> {
-        let pieces = self.pieces.clone()?;
-        Ok(Labels { pieces })
+        Ok(Labels {
+            pieces: Arc::try_clone(&self.pieces)?,
+        })
     }
 }

@@ -7,7 +7,7 @@ use std::alloc::{AllocError, Global};
 use std::marker::Model;
 
 /// Texts, held in one `String` with the place where each ends. Contracts see the list of their bytes.
-#[derive(Clone, Debug, Drop)]
+#[derive(Debug, Drop)]
 pub(crate) struct Pieces {
     text: String,
     ends: Vec<usize>,

@@ -7,9 +7,9 @@ use Rattle.ing_labels.proofs.label_set.Labels.in_order.Goals as goal
 pub invariant_of-result : goal.invariant_of-result
 invariant_of-result c =
     let ps = with_values (texts c.args.pairs.now) in
-    (held_labels _ ps c.requires (c.in_ok-pieces.ensures ∙ ap (λ s. s ∷ named_texts ps) c.in_ok-name.ensures)).0
+    (held_labels (record { pieces = c.in_ok-pieces.pieces }) ps c.requires (c.in_ok-pieces.ensures.ok ∙ c.in_ok-packed.ensures ∙ ap (λ s. s ∷ named_texts ps) c.in_ok-name.ensures)).0
 
 pub returns : goal.returns
 returns c =
     let ps = with_values (texts c.args.pairs.now) in
-    (held_labels _ ps c.requires (c.in_ok-pieces.ensures ∙ ap (λ s. s ∷ named_texts ps) c.in_ok-name.ensures)).1
+    (held_labels (record { pieces = c.in_ok-pieces.pieces }) ps c.requires (c.in_ok-pieces.ensures.ok ∙ c.in_ok-packed.ensures ∙ ap (λ s. s ∷ named_texts ps) c.in_ok-name.ensures)).1
