@@ -1,6 +1,6 @@
 -- What contracts see of a chunk: numbered entries with block boundaries, the last update and the reason, and nothing else.
 -- What names no section of the Loki documentation is own.
-use Rattle.std.specs.Prelude.{◌≡◌, ◌≢◌, ℕ, ◌+◌, ◌-◌, ◌<◌, ◌≤◌, ◌^◌, max, min, Bool, true, false, ◌&&◌, ◌==◌, nat_le, nat_lt, if◌then◌else◌, List, [], ◌∷◌, ◌++◌, All, map, length, sum_by, is_some, is_none, IsPermutation, Option, Some, None}
+use Rattle.std.specs.Prelude.{◌≡◌, ◌≢◌, ◌⊎◌, ℕ, ◌+◌, ◌-◌, ◌<◌, ◌≤◌, ◌^◌, max, min, Bool, true, false, ◌&&◌, ◌==◌, nat_le, nat_lt, if◌then◌else◌, List, [], ◌∷◌, ◌++◌, All, filter, map, length, sum_by, is_some, is_none, IsPermutation, Option, Some, None}
 use Rattle.std.specs.List.Sorted.{IsSortedBy}
 use Rattle.std.specs.Ordering.{is_lt, nat_cmp, ordering_then}
 use Rattle.std.specs.Option.{unwrap_or}
@@ -327,3 +327,23 @@ HasAll c = sum_by count_in c.waiting ≡ (chunk_to_grow c).first
 -- the entry's stamp is at least the start and below the end
 abbrev pub is_between : ℕ → ℕ → Numbered → Bool
 is_between start end e = nat_le start e.entry.stamp && nat_lt e.entry.stamp end
+
+-- the entries of chunks, one chunk after another
+abbrev pub entries_of_all : List ChunkContents → List Numbered
+entries_of_all [] = []
+entries_of_all (c ∷ cs) = entries_of c ++ entries_of_all cs
+
+-- and of the growing one, where there is one
+abbrev pub entries_growing : Option ChunkContents → List Numbered
+entries_growing None = []
+entries_growing (Some c) = entries_of c
+
+-- the entries of the chunks of a stream in memory: of those that wait, then of the growing one
+abbrev pub entries_in_memory : ChunksContents → List Numbered
+entries_in_memory c = entries_of_all c.waiting ++ entries_growing c.growing
+
+-- entries whose span lies outside a range of stamps have none in it
+abbrev pub SpansBoundStamps : Type 0
+SpansBoundStamps =
+    (start end : ℕ) (es : List Numbered) → (greatest_of es < start) ⊎ (end ≤ least_of es)
+    → filter (is_between start end) es ≡ []

@@ -4,12 +4,14 @@
 mod block;
 mod chunk;
 mod chunks;
+mod laws;
 mod numbered;
 mod run;
 
 pub use block::Block;
 pub use chunk::Chunk;
 pub use chunks::Chunks;
+pub use laws::spans_bound_stamps;
 pub use numbered::Numbered;
 
 #[cfg(test)]
