@@ -5,7 +5,7 @@ use Rattle.ing_chunk.specs.declared.numbered.Numbered.{Numbered}
 use Rattle.ing_chunk.specs.Chunks.{ChunkContents, IsWhole, count_in, in_blocks, least_of, greatest_of, size_of_entries, size_of_chunk}
 use Rattle.ing_codec.specs.declared.extent.Extent.{Extent}
 use Rattle.ing_codec.specs.RowObjects.{IsExtentOf}
-use Rattle.ing_sealed.specs.Listings.{extent_of}
+use Rattle.ing_parts.specs.Listings.{extent_of}
 use Rattle.ing_sealed.proofs.JoinLaws.{some_block}
 
 least_small : (es : List Numbered) → least_of es ≤ 2 ^ 63 - 1

@@ -1,7 +1,7 @@
 mod ExtentLaws
+mod FoundLaws
 mod FlightLaws
 mod JoinLaws
 mod KeptLaws
-mod ListingLaws
 pub mod PutLaws
 mod SlotLaws

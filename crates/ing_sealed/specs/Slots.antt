@@ -8,6 +8,8 @@ use Rattle.ing_rows.specs.Rows.{StreamKey, Row, Mark, State, empty_state, is_hea
 use Rattle.ing_rows.specs.Turns.{beside}
 use Rattle.ing_chunk.specs.declared.numbered.Numbered.{Numbered}
 use Rattle.ing_chunk.specs.Chunks.{ChunkContents, block_rows, in_blocks}
+use Rattle.ing_parts.specs.declared.found.Found.{Found}
+use Rattle.ing_parts.specs.Parts.{found_of}
 
 -- A sealed chunk and where it stands: the number of its first entry, the entries of its blocks, its last update and why it
 -- was sealed. Of a stored chunk the last two are not kept.
@@ -101,3 +103,14 @@ pub record Changes (f : Slot → Slot) (index : ℕ) (x : Slot) (old new : List 
 pub record Claimed (f index : ℕ) (chunk : ChunkContents) (old new : List Slot) : Type 0 where
   pub changes : Changes (put_at (Flight f)) index (slot_at Block chunk) old new
   pub oldest : All (λ y. is_block y.place ≡ false) changes.front
+
+-- ---- what a query finds of them
+
+-- the entries of a sealed chunk of the stream of this name
+abbrev pub found_at_slot : List ℕ → Slot → List Found
+found_at_slot name x = map (found_of name) (in_blocks x.blocks)
+
+-- and of several
+abbrev pub found_at_slots : List ℕ → List Slot → List Found
+found_at_slots name [] = []
+found_at_slots name (x ∷ xs) = found_at_slot name x ++ found_at_slots name xs

@@ -1,5 +1,7 @@
 //! One sealed chunk, where it stands.
-ghost use Rattle.std.specs.Prelude.{◌≡◌, ℕ, true, false, IfOk, IfErr};
+ghost use Rattle.std.specs.Prelude.{◌≡◌, ℕ, true, false, IfOk, IfErr, OnOk};
+ghost use Rattle.ing_parts.specs.Parts.{Adds};
+ghost use Rattle.ing_sealed.specs.Slots.{found_at_slot};
 ghost use Rattle.ing_rows.specs.declared.place.Place.TheVariants.{Block, Flight};
 ghost use Rattle.ing_rows.specs.Rows.{is_block, is_stored};
 ghost use Rattle.ing_sealed.specs.Slots.{slot_at, put_at};
@@ -7,9 +9,9 @@ ghost use Rattle.ing_chunk.specs.Chunks.{IsWhole};
 ghost use Rattle.ing_chunk.specs.Chunks.{ChunkContents};
 ghost use Rattle.ing_sealed.specs.KeptSlots.{slot_of, waits, HoldsWhole};
 
-use crate::listing::Listing;
 use crate::same::is_same;
 use ing_chunk::Chunk;
+use ing_parts::{Listing, Snapshot, StreamName};
 use ing_store::Receipt;
 use std::alloc::{AllocError, Global};
 use std::sync::Arc;
@@ -49,6 +51,24 @@ impl<R: Receipt> Held<R> {
             Held::Flying(number, held) => *number == flight && is_same(held, chunk),
             _ => false,
         }
+    }
+}
+
+/// Adds what is wanted of one to a snapshot: a copy of its entries where it cannot be shared.
+pub(crate) fn add_held<R: Receipt>(
+    alloc: Global,
+    snapshot: &mut Snapshot<R>,
+    name: &StreamName,
+    held: &Held<R>,
+) -> Result<(), AllocError>
+    requires { HoldsWhole held.now }
+    ensures { OnOk result (Adds (found_at_slot name.now (slot_of held.now))
+        snapshot.old snapshot.new) }
+{
+    match held {
+        Held::Waiting(chunk) => snapshot.add_chunk(alloc, name, chunk),
+        Held::Shared(chunk) | Held::Flying(_, chunk) => snapshot.add_shared(name, chunk),
+        Held::Stored(listing) => snapshot.add_stored(name, listing),
     }
 }
 

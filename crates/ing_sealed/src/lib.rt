@@ -2,12 +2,10 @@
 #![tactic(auto)]
 
 mod held;
-mod listing;
 mod same;
 mod sealed_chunks;
 mod uploads;
 
-pub use listing::Listing;
 pub use sealed_chunks::{Claim, SealedChunks};
 pub use uploads::{Flushed, upload};
 

@@ -11,7 +11,7 @@ use Rattle.ing_shard.specs.OneStream.{Stream}
 use Rattle.ing_shard.specs.Flights.{AreApart}
 use Rattle.ing_shard.specs.declared.streams.Streams.{Streams}
 use Rattle.ing_shard.specs.Streams.{key_of, part_of, position_of, AreDistinct, IsKept, AreHeld, Stays, measure_of, measures_of}
-use Rattle.ing_shard.specs.Tenants.{Fits, IsWithin, changed, find_of, is_known, kept_of}
+use Rattle.ing_shard.specs.Tenants.{Fits, IsWithin, changed, find_of, is_known, kept_of, posted_of}
 use Rattle.ing_shard.proofs.HeldLaws.{apart_kept, held_changed, measures_more, measures_nothing, middle, replaced}
 use Rattle.ing_shard.proofs.PositionLaws.{position_splits, splits_read}
 use Rattle.ing_shard.proofs.SumLaws.{sum_split, within}
@@ -84,14 +84,15 @@ module _ {R : Type 0} (old : Streams R) (front : List Stream) (st : Stream) (bac
   -- it has changed, but for its name and how many entries it has, and its tenant's sums are changed
   pub stays_here : (new : Streams R) (now : Stream) → new.list.items ≡ front ++ now ∷ back → Stays st now
       → ((t n : List ℕ) → find_of new.tenants t n ≡ find_of old.tenants t n)
+      → ((t : List ℕ) → posted_of new.tenants t ≡ posted_of old.tenants t)
       → ((t : List ℕ) → is_known new.tenants t ≡ is_known old.tenants t)
       → ((t : List ℕ) → kept_of new.tenants t ≡ cond (bytes_eq st.tenant t) (changed (kept_of old.tenants st.tenant) (measure_of st) (measure_of now)) (kept_of old.tenants t))
       → new.entries ≡ old.entries → new.stored + (measure_of st).stored_entries ≡ old.stored + (measure_of now).stored_entries → new.active ≡ old.active
       → AreApart new.flights (front ++ now ∷ back) → AreHeld new
-  stays_here new now is stays find known sums entries stored active apart =
+  stays_here new now is stays find posted known sums entries stored active apart =
       let next = stays.next in
       let few = held.few in
-      held_changed old new front st now back held was is stays.kept stays.tenant stays.labels find known sums
+      held_changed old new front st now back held was is stays.kept stays.tenant stays.labels find posted known sums
       (omega (arith, entries, next))
       stored
       (λ i. active i + cond (nat_lt 0 (sym next i)) 1 0)

@@ -13,7 +13,7 @@ use Rattle.ing_shard.specs.Flights.{AreApart, Flown, IsAt, IsIn, flights_among, 
 use Rattle.ing_shard.specs.declared.streams.Streams.{Streams}
 use Rattle.ing_shard.specs.declared.tenants.TenantKept.{TenantKept}
 use Rattle.ing_shard.specs.Streams.{key_of, slots_of, whole, AreHeld, CanSettle, FliesAt, Stays, measure_of}
-use Rattle.ing_shard.specs.Tenants.{Fits, IsWithin, changed, find_of, is_known, kept_of}
+use Rattle.ing_shard.specs.Tenants.{Fits, IsWithin, changed, find_of, is_known, kept_of, posted_of}
 use Rattle.ing_labels.specs.Canonical.{canonical_of}
 use Rattle.ing_shard.proofs.ChangeLaws.{Around, around, known_here, stays_fits, stays_here, within_here, written_there}
 use Rattle.ing_shard.proofs.CountLaws.{filter_short, rows_total, stored_total}
@@ -60,12 +60,13 @@ module _ {R : Type 0} (old : Streams R) (i : ℕ) (st now : Stream) (m : TenantK
 
   pub settled : (new : Streams R) → new.list.items ≡ set old.list.items i now
       → ((t n : List ℕ) → find_of new.tenants t n ≡ find_of old.tenants t n)
+      → ((t : List ℕ) → posted_of new.tenants t ≡ posted_of old.tenants t)
       → ((t : List ℕ) → is_known new.tenants t ≡ is_known old.tenants t)
       → ((t : List ℕ) → kept_of new.tenants t ≡ cond (bytes_eq now.tenant t) (changed (kept_of old.tenants now.tenant) m (measure_of now)) (kept_of old.tenants t))
       → new.entries ≡ old.entries → new.stored + m.stored_entries ≡ old.stored + (measure_of now).stored_entries → new.active ≡ old.active
       → AreApart new.flights (split.front ++ now ∷ split.back) → AreHeld new
-  settled new items find known sums entries stored active apart =
-      stays_here old split.front st split.back held split.is new now (items ∙ written) stays find known
+  settled new items find posted known sums entries stored active apart =
+      stays_here old split.front st split.back held split.is new now (items ∙ written) stays find posted known
       (λ t. sums t ∙ (λ j. cond (bytes_eq (stays.tenant j) t) (changed (kept_of old.tenants (stays.tenant j)) (is j) (measure_of now)) (kept_of old.tenants t)))
       entries (ap (λ k. new.stored + k.stored_entries) (sym is) ∙ stored) active apart
 

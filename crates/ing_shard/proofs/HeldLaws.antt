@@ -5,6 +5,7 @@ use Rattle.slab.specs.Slab.{Slab, get}
 use Rattle.std.specs.List.{list_any}
 use Rattle.std.proofs.lemmas.List.Elements.{All-append, All-cons, All-head, All-nil, All-tail, All-weaker}
 use Rattle.ing_labels.specs.Canonical.{canonical_of}
+use Rattle.ing_labels.specs.Labels.{IsLabelSet}
 use Rattle.ing_rows.specs.Rows.{Row, empty_state, is_head, is_block, is_in_flight, is_stored, same_stream}
 use Rattle.ing_rows.specs.Gauges.{gauge_of}
 use Rattle.ing_rows.specs.Turns.{beside}
@@ -13,8 +14,9 @@ use Rattle.ing_shard.specs.OneStream.{Stream}
 use Rattle.ing_shard.specs.Flights.{AreApart, flights_among, flights_in}
 use Rattle.ing_shard.specs.declared.streams.Streams.{Streams}
 use Rattle.ing_shard.specs.declared.tenants.TenantKept.{TenantKept}
-use Rattle.ing_shard.specs.Tenants.{find_of, is_known, kept_of, changed, nothing_kept}
-use Rattle.ing_shard.specs.Streams.{key_of, part_of, whole, IsKept, AreDistinct, AreHeld, position_of, measure_of, measures_of, sum_of}
+use Rattle.ing_shard.specs.Tenants.{find_of, is_known, kept_of, changed, listed_as, nothing_kept, posted_of}
+use Rattle.ing_shard.specs.Streams.{key_of, part_of, whole, IsKept, AreDistinct, AreHeld, listed_of, position_of, measure_of, measures_of, sum_of}
+use Rattle.ing_shard.proofs.ListedLaws.{listed_more, listed_same}
 use Rattle.ing_shard.proofs.PositionLaws.{none_others, position_more, distinct_more, position_same, distinct_same}
 use Rattle.ing_shard.proofs.SumLaws.{sum_split, chosen_split, count_split, measures_changed}
 
@@ -70,15 +72,18 @@ flights_more f sts st unclaimed =
 pub held_more : {R : Type 0} (old new : Streams R) (st : Stream) → AreHeld old → new.list.items ≡ old.list.items ++ st ∷ [] → IsKept st → st.chunks.memory.next ≡ 0 → part_of st ≡ empty_state
     → position_of (key_of st) old.list.items ≡ None
     → ((t n : List ℕ) → find_of new.tenants t n ≡ cond (bytes_eq st.tenant t && bytes_eq (canonical_of st.labels) n) (Some (length old.list.items)) (find_of old.tenants t n))
+    → ((t : List ℕ) → posted_of new.tenants t ≡ cond (bytes_eq st.tenant t) (posted_of old.tenants t ++ listed_as (length old.list.items) st.labels ∷ []) (posted_of old.tenants t))
+    → IsLabelSet st.labels
     → is_known new.tenants st.tenant ≡ true
     → ((t : List ℕ) → is_known old.tenants t ≡ true → is_known new.tenants t ≡ true)
     → ((t : List ℕ) → kept_of new.tenants t ≡ kept_of old.tenants t)
     → new.entries ≡ old.entries → new.stored ≡ old.stored → new.active ≡ old.active → new.flights ≡ old.flights → st.chunks.sealed ≡ [] → AreHeld new
-held_more old new st held is kept next none absent find known stay same entries stored active taken unclaimed =
+held_more old new st held is kept next none absent find posted label_set known stay same entries stored active taken unclaimed =
     let sts = old.list.items in
     let s = key_of st in
     let others = none_others s sts absent in
     let Known : Stream → Type 0 = λ o. is_known new.tenants o.tenant ≡ true in
+    let Labelled : Stream → Type 0 = λ o. IsLabelSet o.labels in
     let nothing = measures_nothing st none in
     let next_sum : ◌≡◌ {A = ℕ} old.entries (sum_by (λ o. o.chunks.memory.next) (sts ++ st ∷ [])) =
     held.entries ∙ none_more true st.chunks.memory.next (sum_by (λ o. o.chunks.memory.next) sts) next
@@ -96,6 +101,8 @@ held_more old new st held is kept next none absent find known stay same entries 
       distinct = subst AreDistinct (sym is) (distinct_more sts st held.distinct others);
       found = λ k. find k.tenant k.name ∙ ap (cond (same_stream s k) (Some (length sts))) (held.found k) ∙ sym (position_more sts st others k) ∙ ap (position_of k) (sym is);
       known = subst (All Known) (sym is) (All-append Known sts (st ∷ []) (All-weaker (λ (o : Stream). is_known old.tenants o.tenant ≡ true) Known (λ o. stay o.tenant) sts held.known) (All-cons Known st [] known (All-nil Known)));
+      labelled = subst (All Labelled) (sym is) (All-append Labelled sts (st ∷ []) held.labelled (All-cons Labelled st [] label_set (All-nil Labelled)));
+      posted = λ t. posted t ∙ ap (λ l. cond (bytes_eq st.tenant t) (l ++ listed_as (length sts) st.labels ∷ []) l) (held.posted t) ∙ sym (listed_more t sts st) ∙ ap (listed_of t) (sym is);
       sums = λ t. same t ∙ held.sums t ∙ measures_more t sts st nothing ∙ ap (measures_of t) (sym is);
       entries = entries ∙ next_sum ∙ ap (sum_by (λ o. o.chunks.memory.next)) (sym is);
       stored = stored ∙ stored_sum ∙ ap (sum_by (λ o. (measure_of o).stored_entries)) (sym is);
@@ -126,16 +133,19 @@ apart_kept taken front st now back apart same f =
 pub held_changed : {R : Type 0} (old new : Streams R) (front : List Stream) (st now : Stream) (back : List Stream) → AreHeld old
     → old.list.items ≡ front ++ st ∷ back → new.list.items ≡ front ++ now ∷ back → IsKept now → now.tenant ≡ st.tenant → now.labels ≡ st.labels
     → ((t n : List ℕ) → find_of new.tenants t n ≡ find_of old.tenants t n)
+    → ((t : List ℕ) → posted_of new.tenants t ≡ posted_of old.tenants t)
     → ((t : List ℕ) → is_known new.tenants t ≡ is_known old.tenants t)
     → ((t : List ℕ) → kept_of new.tenants t ≡ cond (bytes_eq st.tenant t) (changed (kept_of old.tenants st.tenant) (measure_of st) (measure_of now)) (kept_of old.tenants t))
     → new.entries + st.chunks.memory.next ≡ old.entries + now.chunks.memory.next
     → new.stored + (measure_of st).stored_entries ≡ old.stored + (measure_of now).stored_entries
     → new.active + cond (nat_lt 0 st.chunks.memory.next) 1 0 ≡ old.active + cond (nat_lt 0 now.chunks.memory.next) 1 0
     → new.entries ≤ 2 ^ 62 → AreApart new.flights (front ++ now ∷ back) → AreHeld new
-held_changed old new front st now back held was is kept tenant labels find known sums entries stored active few apart =
+held_changed old new front st now back held was is kept tenant labels find posted known sums entries stored active few apart =
     let key : key_of now ≡ key_of st = λ i. record { tenant = tenant i; name = canonical_of (labels i) } in
     let all = subst (All IsKept) was held.kept in
     let Known : Stream → Type 0 = λ o. is_known new.tenants o.tenant ≡ true in
+    let Labelled : Stream → Type 0 = λ o. IsLabelSet o.labels in
+    let labelled_before : All Labelled (front ++ st ∷ back) = subst (All Labelled) was held.labelled in
     let known_before : All Known (front ++ st ∷ back) = subst (All Known) was (All-weaker (λ (o : Stream). is_known old.tenants o.tenant ≡ true) Known (λ o h. known o.tenant ∙ h) old.list.items held.known) in
     let next_sum : ◌≡◌ {A = ℕ} new.entries (sum_by (λ o. o.chunks.memory.next) (front ++ now ∷ back)) =
     let before = held.entries ∙ ap (sum_by (λ o. o.chunks.memory.next)) was ∙ sum_split (λ o. o.chunks.memory.next) front st back in
@@ -154,6 +164,8 @@ held_changed old new front st now back held was is kept tenant labels find known
       distinct = subst AreDistinct (sym is) (distinct_same front st now back key (subst AreDistinct was held.distinct));
       found = λ k. find k.tenant k.name ∙ held.found k ∙ ap (position_of k) was ∙ sym (position_same front st now back key k) ∙ ap (position_of k) (sym is);
       known = subst (All Known) (sym is) (replaced Known front st now back known_before (ap (is_known new.tenants) tenant ∙ middle Known front st back known_before));
+      labelled = subst (All Labelled) (sym is) (replaced Labelled front st now back labelled_before (subst IsLabelSet (sym labels) (middle Labelled front st back labelled_before)));
+      posted = λ t. posted t ∙ held.posted t ∙ ap (listed_of t) was ∙ sym (listed_same t front st now back tenant labels) ∙ ap (listed_of t) (sym is);
       sums = λ t. sums t
           ∙ (λ i. cond (bytes_eq st.tenant t) (changed ((held.sums st.tenant ∙ ap (measures_of st.tenant) was) i) (measure_of st) (measure_of now)) ((held.sums t ∙ ap (measures_of t) was) i))
           ∙ sym (measures_changed front st now back tenant t) ∙ ap (measures_of t) (sym is);

@@ -5,6 +5,7 @@ mod FlightLaws
 mod FlushLaws
 mod HeldLaws
 mod JudgeLaws
+mod ListedLaws
 mod LiveLaws
 mod Parts
 mod PositionLaws
@@ -12,6 +13,7 @@ mod PushLaws
 mod ReadLaws
 mod SealLaws
 mod ShardLaws
+mod SnapshotLaws
 mod StreamLaws
 mod SumLaws
 mod TakeLaws

@@ -6,6 +6,7 @@ use Rattle.std.proofs.lemmas.Bool.{eqb-true, ltb-false}
 use Rattle.std.proofs.lemmas.List.Elements.{All-weaker}
 use Rattle.std.proofs.lemmas.Slice.Eq.{bytes_eq-Decides}
 use Rattle.std.specs.Prelude.{◌||◌, is_some, nat_le}
+use Rattle.ing_labels.specs.Labels.{IsLabelSet}
 use Rattle.ing_rows.specs.declared.entry.Entry.{Entry}
 use Rattle.ing_rows.specs.declared.verdict.Verdict.{Verdict}
 use Rattle.ing_rows.specs.Events.{is_full}
@@ -16,8 +17,8 @@ use Rattle.slab.specs.Slab.{get}
 use Rattle.ing_shard.specs.OneStream.{Stream}
 use Rattle.ing_shard.specs.Flights.{AreApart, flights_among}
 use Rattle.ing_shard.specs.declared.streams.Streams.{Streams}
-use Rattle.ing_shard.specs.Tenants.{Fits, changed, find_of, is_known, kept_of}
-use Rattle.ing_shard.specs.Streams.{part_of, IsKept, AreDistinct, AreHeld, measure_of, measures_of, position_of}
+use Rattle.ing_shard.specs.Tenants.{Fits, changed, find_of, is_known, kept_of, posted_of}
+use Rattle.ing_shard.specs.Streams.{part_of, IsKept, AreDistinct, AreHeld, listed_of, measure_of, measures_of, position_of}
 use Rattle.ing_shard.proofs.CountLaws.{filter_short, part_count}
 use Rattle.ing_shard.proofs.SumLaws.{measures_changed, sum_bound, sum_split}
 
@@ -89,6 +90,8 @@ held_same old new held is tenants entries stored active taken =
       distinct = subst AreDistinct (sym is) held.distinct;
       found = λ s. ap (λ t. find_of t s.tenant s.name) tenants ∙ held.found s ∙ ap (position_of s) (sym is);
       known = subst (λ l. All (λ st. is_known new.tenants st.tenant ≡ true) l) (sym is) (subst (λ t. All (λ st. is_known t st.tenant ≡ true) old.list.items) (sym tenants) held.known);
+      labelled = subst (All (λ st. IsLabelSet st.labels)) (sym is) held.labelled;
+      posted = λ t. ap (λ ts. posted_of ts t) tenants ∙ held.posted t ∙ ap (listed_of t) (sym is);
       sums = λ t. ap (λ ts. kept_of ts t) tenants ∙ held.sums t ∙ ap (measures_of t) (sym is);
       entries = entries ∙ held.entries ∙ ap (sum_by (λ st. st.chunks.memory.next)) (sym is);
       stored = stored ∙ held.stored ∙ ap (sum_by (λ st. (measure_of st).stored_entries)) (sym is);
@@ -99,15 +102,18 @@ held_same old new held is tenants entries stored active taken =
 
 -- and where the tenants' streams are found alike
 pub held_found : {R : Type 0} (old new : Streams R) → AreHeld old → new.list.items ≡ old.list.items → ((t n : List ℕ) → find_of new.tenants t n ≡ find_of old.tenants t n)
+    → ((t : List ℕ) → posted_of new.tenants t ≡ posted_of old.tenants t)
     → ((t : List ℕ) → is_known old.tenants t ≡ true → is_known new.tenants t ≡ true) → ((t : List ℕ) → kept_of new.tenants t ≡ kept_of old.tenants t)
     → new.entries ≡ old.entries → new.stored ≡ old.stored → new.active ≡ old.active → new.flights ≡ old.flights → AreHeld new
-held_found old new held is find stay kept entries stored active taken =
+held_found old new held is find posted stay kept entries stored active taken =
     let few = held.few in
     record {
       kept = subst (All IsKept) (sym is) held.kept;
       distinct = subst AreDistinct (sym is) held.distinct;
       found = λ s. find s.tenant s.name ∙ held.found s ∙ ap (position_of s) (sym is);
       known = subst (λ l. All (λ st. is_known new.tenants st.tenant ≡ true) l) (sym is) (All-weaker (λ (st : Stream). is_known old.tenants st.tenant ≡ true) (λ st. is_known new.tenants st.tenant ≡ true) (λ st. stay st.tenant) old.list.items held.known);
+      labelled = subst (All (λ st. IsLabelSet st.labels)) (sym is) held.labelled;
+      posted = λ t. posted t ∙ held.posted t ∙ ap (listed_of t) (sym is);
       sums = λ t. kept t ∙ held.sums t ∙ ap (measures_of t) (sym is);
       entries = entries ∙ held.entries ∙ ap (sum_by (λ st. st.chunks.memory.next)) (sym is);
       stored = stored ∙ held.stored ∙ ap (sum_by (λ st. (measure_of st).stored_entries)) (sym is);

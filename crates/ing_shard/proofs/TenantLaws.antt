@@ -1,5 +1,5 @@
 -- What is found of each tenant after one tenant's streams are written over.
-use Rattle.std.proofs.Common.{◌≡◌, ℕ, Bool, List, cond, true, false, ◌&&◌, Option, Some, None, refl, ap, sym, ◌∙◌}
+use Rattle.std.proofs.Common.{◌≡◌, ℕ, Bool, List, cond, true, false, [], ◌∷◌, ◌++◌, ◌&&◌, Option, Some, None, refl, ap, sym, ◌∙◌}
 use Rattle.std.specs.Map.{update}
 use Rattle.std.specs.Option.{option_map_or}
 use Rattle.std.specs.BTreeMap.{get_by_text}
@@ -7,7 +7,8 @@ use Rattle.std.specs.Prelude.{bytes_eq, is_some, OnErr, OnOk, Result, Ok, Err}
 use Rattle.std.proofs.lemmas.Slice.Eq.{bytes_eq-Decides}
 use Rattle.ing_shard.specs.declared.tenants.TenantStreams.{TenantStreams}
 use Rattle.ing_shard.specs.declared.tenants.Tenants.{Tenants}
-use Rattle.ing_shard.specs.Tenants.{find_of, is_known, kept_of, nothing_kept}
+use Rattle.ing_postings.specs.declared.listed.Listed.{Listed}
+use Rattle.ing_shard.specs.Tenants.{find_of, is_known, kept_of, nothing_kept, posted_of}
 
 -- what holds holds after an error
 pub always_on_err : {T E P : Type 0} (r : Result T E) → P → OnErr r P
@@ -17,6 +18,15 @@ always_on_err (Err e) p = p
 pub always_on_ok : {T E P : Type 0} (r : Result T E) → P → OnOk r P
 always_on_ok (Ok x) p = p
 always_on_ok (Err e) p = tt
+
+-- what follows after an error, and after none
+pub on_err_then : {T E P Q : Type 0} (r : Result T E) → (P → Q) → OnErr r P → OnErr r Q
+on_err_then (Ok x) f p = tt
+on_err_then (Err e) f p = f p
+
+pub on_ok_then : {T E P Q : Type 0} (r : Result T E) → (P → Q) → OnOk r P → OnOk r Q
+on_ok_then (Ok x) f p = f p
+on_ok_then (Err e) f p = tt
 
 -- what is the same at equal bytes
 at_case : {X : Type 0} (f : List ℕ → X) (t u : List ℕ) (b : Bool) → (b ≡ true → t ≡ u) → cond b (f t) (f u) ≡ f u
@@ -69,6 +79,20 @@ module _ (id : List ℕ) (w : TenantStreams) (old new : Tenants) (writes : Write
 
   pub known_same : is_known old id ≡ true → (t : List ℕ) → is_known new t ≡ is_known old t
   known_same known t = known_written t ∙ ap (λ k. cond (bytes_eq id t) k (is_known old t)) (sym known) ∙ same_at (is_known old) id t
+
+  posted_written : (t : List ℕ) → posted_of new t ≡ cond (bytes_eq id t) w.postings (posted_of old t)
+  posted_written t = ap (λ o. option_map_or (λ s. s.postings) o []) (writes t) ∙ mapped_cond (λ (s : TenantStreams). s.postings) [] (bytes_eq id t) w (get_by_text old.by_id t)
+
+  -- the same streams by their labels
+  pub posted_stays : w.postings ≡ posted_of old id → (t : List ℕ) → posted_of new t ≡ posted_of old t
+  posted_stays same t = posted_written t ∙ ap (λ k. cond (bytes_eq id t) k (posted_of old t)) same ∙ same_at (posted_of old) id t
+
+  -- and one more
+  pub posted_more : (s : Listed) → w.postings ≡ posted_of old id ++ s ∷ [] → (t : List ℕ) → posted_of new t ≡ cond (bytes_eq id t) (posted_of old t ++ s ∷ []) (posted_of old t)
+  posted_more s more t =
+      posted_written t
+      ∙ ap (λ k. cond (bytes_eq id t) k (posted_of old t)) more
+      ∙ same_under (bytes_eq id t) (λ l. l ++ s ∷ []) (posted_of old id) (posted_of old t) (posted_of old t) (same_at (posted_of old) id t)
 
   -- the same sums
   pub kept_stays : w.kept ≡ kept_of old id → (t : List ℕ) → kept_of new t ≡ kept_of old t

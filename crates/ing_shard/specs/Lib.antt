@@ -6,6 +6,8 @@ pub mod OneStream
 pub mod Flights
 pub mod Tenants
 pub mod Streams
+pub mod Picked
+pub mod Snapshots
 pub mod Sealing
 pub use Rattle.ing_rows.specs.Rows
 pub use Rattle.ing_rows.specs.Verdicts
@@ -15,5 +17,6 @@ pub use Rattle.ing_rows.specs.Gauges
 pub use Rattle.ing_rows.specs.Events
 pub use Rattle.ing_labels.specs.Canonical
 pub use Rattle.ing_labels.specs.Labels
+pub use Rattle.ing_labels.specs.Selectors
 pub use Rattle.ing_limits.specs.Settings
 pub use Rattle.ing_limits.specs.Ranges

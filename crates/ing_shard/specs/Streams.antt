@@ -1,8 +1,10 @@
 -- What the streams of a shard stand for, and what is kept of each.
-use Rattle.std.specs.Prelude.{◌≡◌, ℕ, ◌+◌, ◌*◌, ◌≤◌, ◌<◌, ◌^◌, max, Bool, true, false, not, List, [], ◌∷◌, All, bytes_eq, filter, length, sum_by, nat_lt, slice_get, if◌then◌else◌, Option, Some, None}
-use Rattle.std.specs.List.{list_any}
+use Rattle.std.specs.Prelude.{◌≡◌, ℕ, ◌+◌, ◌*◌, ◌≤◌, ◌<◌, ◌^◌, max, Bool, true, false, not, List, [], ◌∷◌, All, bytes_eq, filter, length, sum_by, nat_lt, slice_get, if◌then◌else◌, map, Option, Some, None}
+use Rattle.std.specs.List.{enumerate_from, list_any}
 use Rattle.std.specs.Option.{option_map}
 use Rattle.ing_labels.specs.Canonical.{canonical_of}
+use Rattle.ing_labels.specs.Labels.{IsLabelSet}
+use Rattle.ing_postings.specs.declared.listed.Listed.{Listed}
 use Rattle.ing_rows.specs.declared.entry.Entry.{Entry}
 use Rattle.ing_rows.specs.Rows.{StreamKey, State, empty_state, is_head, is_block, is_in_flight, is_stored, same_stream}
 use Rattle.ing_rows.specs.Facts.{Facts, facts_of}
@@ -19,7 +21,7 @@ use Rattle.ing_shard.specs.Flights.{AreApart}
 use Rattle.ing_shard.specs.declared.tenants.TenantKept.{TenantKept}
 use Rattle.ing_shard.specs.declared.streams.Streams.{Streams}
 use Rattle.ing_shard.specs.declared.tenants.Tenants.{Tenants}
-use Rattle.ing_shard.specs.Tenants.{Fits, IsWithin, changed, find_of, is_known, kept_of}
+use Rattle.ing_shard.specs.Tenants.{Fits, IsWithin, changed, find_of, is_known, kept_of, listed_as, posted_of}
 
 abbrev pub key_of : Stream → StreamKey
 key_of st = record { tenant = st.tenant; name = canonical_of st.labels }
@@ -130,6 +132,11 @@ abbrev pub position_of : StreamKey → List Stream → Option ℕ
 position_of s [] = None
 position_of s (st ∷ sts) = if same_stream (key_of st) s then Some 0 else option_map (λ i. i + 1) (position_of s sts)
 
+-- a tenant's streams, with their numbers and labels
+abbrev pub listed_of : List ℕ → List Stream → List Listed
+listed_of tenant streams =
+    map (λ e. listed_as e.0 e.1.labels) (filter (λ e. bytes_eq e.1.tenant tenant) (enumerate_from 0 streams))
+
 -- no two have the same key
 abbrev pub AreDistinct : List Stream → Type 0
 AreDistinct [] = Unit {0}
@@ -137,13 +144,16 @@ AreDistinct (st ∷ sts) = All (λ other. same_stream (key_of other) (key_of st)
 
 -- ---- all streams of a shard
 
--- What is kept beside the streams is what they give: no two have the same name, each is found by it, and the sums of each
--- tenant are those of its streams; no two chunks are in the same flight.
+-- What is kept beside the streams is what they give: no two have the same name, each is found by it, the sums
+-- of each tenant are those of its streams, and its label index lists its streams; no two chunks are in the same
+-- flight.
 pub record AreHeld {R : Type 0} (streams : Streams R) : Type 0 where
   pub kept : All IsKept streams.list.items
   pub distinct : AreDistinct streams.list.items
   pub found : (s : StreamKey) → find_of streams.tenants s.tenant s.name ≡ position_of s streams.list.items
   pub known : All (λ st. is_known streams.tenants st.tenant ≡ true) streams.list.items
+  pub labelled : All (λ st. IsLabelSet st.labels) streams.list.items
+  pub posted : (tenant : List ℕ) → posted_of streams.tenants tenant ≡ listed_of tenant streams.list.items
   pub sums : (tenant : List ℕ) → kept_of streams.tenants tenant ≡ measures_of tenant streams.list.items
   pub entries : streams.entries ≡ sum_by (λ st. st.chunks.memory.next) streams.list.items
   pub stored : streams.stored ≡ sum_by (λ st. (measure_of st).stored_entries) streams.list.items

@@ -1,7 +1,9 @@
 -- What a shard keeps tenant by tenant, as contracts see it.
-use Rattle.std.specs.Prelude.{ℕ, ◌+◌, ◌-◌, ◌≤◌, ◌<◌, ◌^◌, Bool, List, is_some, Option, None}
+use Rattle.std.specs.Prelude.{ℕ, ◌+◌, ◌-◌, ◌≤◌, ◌<◌, ◌^◌, Bool, List, [], is_some, Option, None}
 use Rattle.std.specs.Option.{option_map_or}
 use Rattle.std.specs.BTreeMap.{get_by_text}
+use Rattle.ing_labels.specs.Labels.{LabelMap}
+use Rattle.ing_postings.specs.declared.listed.Listed.{Listed}
 use Rattle.ing_shard.specs.declared.tenants.TenantKept.{TenantKept}
 use Rattle.ing_shard.specs.declared.tenants.Tenants.{Tenants}
 
@@ -30,6 +32,14 @@ is_known tenants t = is_some (get_by_text tenants.by_id t)
 -- the sums over the tenant's streams
 abbrev pub kept_of : Tenants → List ℕ → TenantKept
 kept_of tenants t = option_map_or (λ streams. streams.kept) (get_by_text tenants.by_id t) nothing_kept
+
+-- the tenant's streams, in the order of their numbers
+abbrev pub posted_of : Tenants → List ℕ → List Listed
+posted_of tenants t = option_map_or (λ streams. streams.postings) (get_by_text tenants.by_id t) []
+
+-- a stream of these labels, listed under this number
+abbrev pub listed_as : ℕ → LabelMap → Listed
+listed_as number labels = record { number = number; labels = labels }
 
 -- what one stream adds is within the sums
 pub record IsWithin (part sums : TenantKept) : Type 0 where

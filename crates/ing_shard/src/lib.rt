@@ -8,6 +8,7 @@ mod flushes;
 mod judge;
 mod sealing;
 mod shard;
+mod snapshots;
 mod stream;
 mod streams;
 mod tenants;

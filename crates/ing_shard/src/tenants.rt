@@ -1,7 +1,14 @@
 //! What a shard keeps tenant by tenant: the numbers of the tenant's streams, and sums over them.
-ghost use Rattle.std.specs.Prelude.{◌≡◌, ◌&&◌, Bool, List, ℕ, IfOk, OnOk, OnErr, None, Some, bytes_eq, if◌then◌else◌, is_some, true};
-ghost use Rattle.ing_shard.specs.Tenants.{find_of, kept_of, is_known, nothing_kept, IsWithin, Fits, changed};
+ghost use Rattle.std.specs.Prelude.{◌≡◌, ◌&&◌, ◌<◌, ◌++◌, [], ◌∷◌, All, Bool, List, ℕ, IfOk, OnOk, OnErr, None, Some, bytes_eq, if◌then◌else◌, is_some, true};
+ghost use Rattle.std.specs.BTreeMap.{get_by_text};
+ghost use Rattle.std.specs.List.Sorted.{IsStrictlyIncreasing};
+ghost use Rattle.ing_labels.specs.Canonical.{canonical_of};
+ghost use Rattle.ing_labels.specs.Labels.{IsLabelSet};
+ghost use Rattle.ing_postings.specs.Streams.{numbers_of, selected};
+ghost use Rattle.ing_shard.specs.Tenants.{find_of, kept_of, posted_of, is_known, listed_as, nothing_kept, IsWithin, Fits, changed};
 
+use ing_labels::{Labels, Selector};
+use ing_postings::{Postings, StreamNo};
 use std::alloc::{AllocError, Global};
 use std::collections::BTreeMap;
 
@@ -28,10 +35,12 @@ pub struct TenantKept {
     pub stored_bytes: u128,
 }
 
-/// One tenant: the number of each of its streams by the canonical name, and the sums over them.
+/// One tenant: the number of each of its streams by the canonical name, its streams by their labels, and the
+/// sums over them.
 #[derive(Debug, Drop)]
 pub struct TenantStreams {
     pub by_name: BTreeMap<String, usize>,
+    pub postings: Postings,
     pub kept: TenantKept,
 }
 
@@ -75,11 +84,52 @@ impl TenantKept {
     }
 }
 
+impl TenantStreams {
+    /// A tenant without streams.
+    fn new(alloc: Global) -> TenantStreams
+        ensures names { (n : List ℕ) → get_by_text result.by_name n ≡ None }
+        ensures posted { result.postings ≡ [] }
+        ensures kept { result.kept ≡ nothing_kept }
+    {
+        TenantStreams {
+            by_name: BTreeMap::new(alloc),
+            postings: Postings::new(alloc),
+            kept: NOTHING,
+        }
+    }
+
+    /// Lists a stream that is not listed, under a number above those of the listed ones. All or nothing.
+    fn list(&mut self, alloc: Global, labels: &Labels, number: usize) -> Result<(), AllocError>
+        requires free { get_by_text self.old.by_name (canonical_of labels.now) ≡ None }
+        requires above { All (λ s. s.number < number) self.old.postings }
+        ensures names { OnOk result ((n : List ℕ) → get_by_text self.new.by_name n ≡
+            (if bytes_eq (canonical_of labels.now) n then Some number
+            else get_by_text self.old.by_name n)) }
+        ensures posted { OnOk result (self.new.postings ≡
+            self.old.postings ++ listed_as number labels.now ∷ []) }
+        ensures err_names { OnErr result ((n : List ℕ) →
+            get_by_text self.new.by_name n ≡ get_by_text self.old.by_name n) }
+        ensures err_posted { OnErr result (self.new.postings ≡ self.old.postings) }
+        ensures kept { self.new.kept ≡ self.old.kept }
+        // Each `Labels` is a stream's.
+        ensures label_set { OnOk result (IsLabelSet labels.now) }
+    {
+        let name = String::from_str(alloc, labels.name())?;
+        self.by_name.insert(name, number)?;
+        if let Err(fault) = self.postings.add(labels, StreamNo::new(number as u64)) {
+            self.by_name.remove(labels.name());
+            return Err(fault);
+        }
+        Ok(())
+    }
+}
+
 impl Tenants {
     /// No tenant.
     pub fn new(alloc: Global) -> Tenants
         ensures find { (t n : List ℕ) → find_of result t n ≡ None }
         ensures kept { (t : List ℕ) → kept_of result t ≡ nothing_kept }
+        ensures posted { (t : List ℕ) → posted_of result t ≡ [] }
     {
         Tenants {
             by_id: BTreeMap::new(alloc),
@@ -104,33 +154,55 @@ impl Tenants {
         }
     }
 
-    /// Lists a stream under this number. After an error each stream is found as before.
+    /// The numbers of a tenant's streams whose labels the selector matches, in rising order.
+    pub fn select(
+        &self,
+        alloc: Global,
+        tenant: &str,
+        selector: &Selector,
+    ) -> Result<Vec<StreamNo>, AllocError>
+        ensures found { IfOk result (λ found. found.items ≡
+            numbers_of (selected selector.now (posted_of self.now tenant.now))) }
+        ensures rising { IfOk result (λ found. IsStrictlyIncreasing found.items) }
+    {
+        match self.by_id.get(tenant) {
+            Some(streams) => streams.postings.select(alloc, selector),
+            None => Ok(Vec::new(alloc)),
+        }
+    }
+
+    /// Lists a tenant's stream that is not listed, under a number above those of the tenant's listed ones.
+    /// After an error each stream is found as before, and the label index of each tenant lists what it listed.
     pub fn add(
         &mut self,
         alloc: Global,
         tenant: &str,
-        name: &str,
+        labels: &Labels,
         number: usize,
     ) -> Result<(), AllocError>
-        ensures find { OnOk result ((t n : List ℕ) →
-            find_of self.new t n ≡ (if bytes_eq tenant.now t && bytes_eq name.now n then Some number else find_of self.old t n)) }
+        requires free { find_of self.old tenant.now (canonical_of labels.now) ≡ None }
+        requires above { All (λ s. s.number < number) (posted_of self.old tenant.now) }
+        ensures find { OnOk result ((t n : List ℕ) → find_of self.new t n ≡
+            (if bytes_eq tenant.now t && bytes_eq (canonical_of labels.now) n then Some number
+            else find_of self.old t n)) }
         ensures known { OnOk result (is_known self.new tenant.now ≡ true) }
+        ensures posted { OnOk result ((t : List ℕ) → posted_of self.new t ≡
+            (if bytes_eq tenant.now t then posted_of self.old t ++ listed_as number labels.now ∷ []
+            else posted_of self.old t)) }
         ensures err { OnErr result ((t n : List ℕ) → find_of self.new t n ≡ find_of self.old t n) }
+        ensures err_posted { OnErr result ((t : List ℕ) →
+            posted_of self.new t ≡ posted_of self.old t) }
         ensures stay { (t : List ℕ) → is_known self.old t ≡ true → is_known self.new t ≡ true }
         ensures kept { (t : List ℕ) → kept_of self.new t ≡ kept_of self.old t }
+        // Each `Labels` is a stream's.
+        ensures label_set { OnOk result (IsLabelSet labels.now) }
     {
-        let id = String::from_str(alloc, tenant)?;
-        let name = String::from_str(alloc, name)?;
         if let Some(streams) = self.by_id.get_mut(tenant) {
-            streams.by_name.insert(name, number)?;
-            return Ok(());
+            return streams.list(alloc, labels, number);
         }
-        let mut by_name = BTreeMap::new(alloc);
-        by_name.insert(name, number)?;
-        let streams = TenantStreams {
-            by_name,
-            kept: NOTHING,
-        };
+        let id = String::from_str(alloc, tenant)?;
+        let mut streams = TenantStreams::new(alloc);
+        streams.list(alloc, labels, number)?;
         self.by_id.insert(id, streams)?;
         Ok(())
     }
@@ -142,6 +214,7 @@ impl Tenants {
         ensures known { (t : List ℕ) → is_known self.new t ≡ is_known self.old t }
         ensures kept { (t : List ℕ) →
             kept_of self.new t ≡ (if bytes_eq tenant.now t then kept else kept_of self.old t) }
+        ensures posted { (t : List ℕ) → posted_of self.new t ≡ posted_of self.old t }
     {
         if let Some(streams) = self.by_id.get_mut(tenant) {
             streams.kept = kept;

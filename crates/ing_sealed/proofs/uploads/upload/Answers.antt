@@ -1,7 +1,7 @@
 use Rattle.std.proofs.Common.{sym, ap, ◌∙◌}
 use Rattle.sha2.specs.Sha256.{sha256}
 use Rattle.ing_codec.specs.ChunkReading.{read_chunk}
-use Rattle.ing_sealed.specs.Listings.{first_in, blocks_in, extent_of}
+use Rattle.ing_parts.specs.Listings.{first_in, blocks_in, extent_of}
 use Rattle.ing_sealed.proofs.ExtentLaws.{extent_is}
 use Rattle.ing_sealed.proofs.uploads.upload.Goals as goal
 
@@ -17,6 +17,6 @@ of-requires g c = record {
 pub returns-clause-chunk : goal.returns-clause-chunk
 returns-clause-chunk g c =
     let read = ap read_chunk c.in_ok-uploaded.ensures.bytes ∙ c.chunks_are_exact.ensures.each c.of_chunk.result c.in_ok-uploaded.ensures.object in (
-      ap (λ l. l.first) c.of.ensures ∙ ap first_in read ∙ ap (λ o. o.first) c.of_chunk.ensures,
-      ap (λ l. l.blocks) c.of.ensures ∙ ap blocks_in read ∙ ap (λ o. o.blocks) c.of_chunk.ensures,
+      ap (λ l. l.first) c.in_ok-listing.ensures ∙ ap first_in read ∙ ap (λ o. o.first) c.of_chunk.ensures,
+      ap (λ l. l.blocks) c.in_ok-listing.ensures ∙ ap blocks_in read ∙ ap (λ o. o.blocks) c.of_chunk.ensures,
     )

@@ -46,7 +46,7 @@ returns-in_err-claim-clause-held g c =
     let now = c.claim-claimed.new.self in
     let new : Streams g.row.R.Denot = record { list = with_item old.list c.args.number now; tenants = c.settle.new.tenants; entries = old.entries; stored = c.settle.new.stored; active = old.active; flights = old.flights } in
     settled c.args.self.now c.args.number c.index_mut-stream.result.now c.claim-claimed.new.self c.measure-before.result c.requires.held split c.claim-claimed.ensures.stays c.measure-before.ensures.measure
-    new refl c.settle.ensures.find c.settle.ensures.known c.settle.ensures.kept refl c.settle.ensures.stored refl
+    new refl c.settle.ensures.find c.settle.ensures.posted c.settle.ensures.known c.settle.ensures.kept refl c.settle.ensures.stored refl
     (apart_same old.flights old.flights split.front st now split.back (subst (AreApart old.flights) split.is c.requires.held.flights) c.in_err-claim.ensures.err_flies (λ f. refl))
 
 pub returns-in_err-claim-clause-keys : goal.returns-in_err-claim-clause-keys
@@ -69,7 +69,7 @@ returns-in_default-clause-held g c =
     let now = c.claim-claimed.new.self in
     let new : Streams g.row.R.Denot = record { list = with_item old.list c.args.number now; tenants = c.settle.new.tenants; entries = old.entries; stored = c.settle.new.stored; active = old.active; flights = old.flights } in
     settled c.args.self.now c.args.number c.index_mut-stream.result.now c.claim-claimed.new.self c.measure-before.result c.requires.held split c.claim-claimed.ensures.stays c.measure-before.ensures.measure
-    new refl c.settle.ensures.find c.settle.ensures.known c.settle.ensures.kept refl c.settle.ensures.stored refl
+    new refl c.settle.ensures.find c.settle.ensures.posted c.settle.ensures.known c.settle.ensures.kept refl c.settle.ensures.stored refl
     (apart_same old.flights old.flights split.front st now split.back (subst (AreApart old.flights) split.is c.requires.held.flights) (if_none c.in_ok-claim.field-0 _ c.in_default.not-Some c.in_ok-claim.ensures.still) (λ f. refl))
 
 pub returns-in_default-clause-keys : goal.returns-in_default-clause-keys
@@ -96,7 +96,7 @@ returns-clause-held g c =
     let now = c.claim-claimed.new.self in
     let new : Streams g.row.R.Denot = record { list = with_item old.list c.args.number now; tenants = c.settle.new.tenants; entries = old.entries; stored = c.settle.new.stored; active = old.active; flights = c.insert_reserved.new.self } in
     settled c.args.self.now c.args.number c.index_mut-stream.result.now c.claim-claimed.new.self c.measure-before.result c.requires.held split c.claim-claimed.ensures.stays c.measure-before.ensures.measure
-    new refl c.settle.ensures.find c.settle.ensures.known c.settle.ensures.kept refl c.settle.ensures.stored refl
+    new refl c.settle.ensures.find c.settle.ensures.posted c.settle.ensures.known c.settle.ensures.kept refl c.settle.ensures.stored refl
     (apart_claimed old.flights c.insert_reserved.new.self c.vacant_key-flight.result tt split.front st now split.back (subst (AreApart old.flights) split.is c.requires.held.flights) c.vacant_key-flight.ensures.vacant
     (subst (λ k. Updates old.flights c.insert_reserved.new.self k (Some tt)) (c.insert_reserved.ensures.key ∙ sym c.vacant_key-flight.ensures.value) c.insert_reserved.ensures.updates)
     (subst (λ o. IfSome o (λ claim. IsPermutation (flights_of now.chunks.sealed) (c.vacant_key-flight.result ∷ flights_of st.chunks.sealed))) c.in-Some.is c.in_ok-claim.ensures.flies))

@@ -4,7 +4,7 @@ use Rattle.std.specs.Prelude.{Ok}
 use Rattle.ing_codec.specs.declared.extent.Extent.{Extent}
 use Rattle.ing_codec.specs.ChunkReading.{read_chunk}
 use Rattle.ing_codec.specs.Laws.{ChunksAreExact}
-use Rattle.ing_sealed.specs.Listings.{IsListing, listed_of, extent_of, first_in, blocks_in}
+use Rattle.ing_parts.specs.Listings.{IsListing, listed_of, extent_of, first_in, blocks_in}
 
 module _ (exact : ChunksAreExact) (name : List ℕ) (bytes : List ℕ) (extent : Extent) (key : List ℕ) (h : IsListing bytes extent key) where
   pub read : read_chunk bytes ≡ Ok h.object

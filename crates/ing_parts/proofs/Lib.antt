@@ -1,0 +1,3 @@
+pub mod FoundLaws
+mod ListingLaws
+pub mod RangeLaws

@@ -1,0 +1,5 @@
+use Rattle.ing_parts.proofs.FoundLaws.{rows_both}
+use Rattle.ing_parts.proofs.laws.rows_join.Goals as goal
+
+pub returns-clause-both : goal.returns-clause-both
+returns-clause-both g c = rows_both

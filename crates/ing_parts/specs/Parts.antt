@@ -1,0 +1,73 @@
+-- Where entries of streams stand that a query may want, and what a query gives of them.
+-- What names no section of the Loki documentation is own.
+use Rattle.std.specs.Prelude.{◌≡◌, ◌++◌, ℕ, Bool, ◌&&◌, nat_le, nat_lt, List, map, filter, IsPermutation}
+use Rattle.std.specs.List.{flat_map}
+use Rattle.ing_rows.specs.Rows.{StreamKey, Row}
+use Rattle.ing_chunk.specs.declared.numbered.Numbered.{Numbered}
+use Rattle.ing_chunk.specs.Chunks.{ChunksContents, block_rows, entries_in_memory, entries_of, in_blocks, stream_state}
+use Rattle.ing_parts.specs.declared.found.Found.{Found}
+use Rattle.ing_parts.specs.declared.part.Part.{Part}
+use Rattle.ing_parts.specs.declared.snapshot.Snapshot.{Snapshot}
+use Rattle.ing_parts.specs.declared.part.Source.{Source}
+use Rattle.ing_parts.specs.declared.part.Source.TheVariants.{Copied, Shared, Stored}
+
+-- the entries of a place
+abbrev pub entries_in : {R : Type 0} → Source R → List Numbered
+entries_in (Copied entries) = entries.items
+entries_in (Shared chunk) = entries_of chunk.value
+entries_in (Stored listing) = in_blocks listing.blocks
+
+-- what a query gives of an entry of the stream of this name
+abbrev pub found_of : List ℕ → Numbered → Found
+found_of name e = record { name = name; number = e.number; entry = e.entry }
+
+-- what a query gives of a row
+abbrev pub found_at : Row → Found
+found_at r = record { name = r.stream.name; number = r.number; entry = r.entry }
+
+-- the entries of a part
+abbrev pub found_in : {R : Type 0} → Part R → List Found
+found_in p = map (found_of p.name) (entries_in p.source)
+
+-- the entries of all of them
+abbrev pub found_among : {R : Type 0} → List (Part R) → List Found
+found_among ps = flat_map found_in ps
+
+-- the stamp is at least the start and below the end (Loki documentation: HTTP API, query range: start and end)
+abbrev pub is_within : ℕ → ℕ → Found → Bool
+is_within start end f = nat_le start f.entry.stamp && nat_lt f.entry.stamp end
+
+-- those whose stamp is in the range
+abbrev pub within : ℕ → ℕ → List Found → List Found
+within start end = filter (is_within start end)
+
+-- the entries of a snapshot that are wanted
+abbrev pub wanted : {R : Type 0} → Snapshot R → List Found
+wanted s = within s.start s.end (found_among s.parts.items)
+
+-- what is wanted of these entries is added to a snapshot
+pub record Adds {R : Type 0} (all : List Found) (old new : Snapshot R) : Type 0 where
+  pub front : new.front ≡ old.front
+  pub start : new.start ≡ old.start
+  pub end : new.end ≡ old.end
+  pub wanted : wanted new ≡ wanted old ++ within old.start old.end all
+
+-- what is wanted of these rows is added to a snapshot, in whatever order
+pub record AddsRows {R : Type 0} (rows : List Row) (old new : Snapshot R) : Type 0 where
+  pub all : List Found
+  pub same : IsPermutation (map found_at rows) all
+  pub adds : Adds all old new
+
+-- what is wanted of a snapshot is what is in its range of these rows, in whatever order
+pub record HasRows {R : Type 0} (rows : List Row) (snapshot : Snapshot R) : Type 0 where
+  pub all : List Found
+  pub same : IsPermutation (map found_at rows) all
+  pub is : wanted snapshot ≡ within snapshot.start snapshot.end all
+
+-- ---- rows of chunks
+
+-- what a query finds of the rows of closed blocks, and of the chunks of a stream in memory, are their entries under the
+-- name of the stream
+pub record RowsAreFound : Type 0 where
+  pub blocks : (s : StreamKey) (first index : ℕ) (bs : List (List Numbered)) → map found_at (block_rows s first index bs) ≡ map (found_of s.name) (in_blocks bs)
+  pub memory : (s : StreamKey) (c : ChunksContents) → IsPermutation (map found_at (stream_state s c).rows) (map (found_of s.name) (entries_in_memory c))

@@ -1,0 +1,26 @@
+//! Parts of streams.
+use crate::listing::Listing;
+use crate::stream_name::StreamName;
+use ing_chunk::{Chunk, Numbered};
+use ing_store::Receipt;
+use std::sync::Arc;
+
+/// Where entries stand that a query may want.
+#[derive(Drop)]
+pub enum Source<R: Receipt> {
+    /// Copies of entries in memory.
+    Copied(Vec<Numbered>),
+    /// A sealed chunk in memory, which its shard holds too.
+    Shared(Arc<Chunk>),
+    /// A chunk in a store.
+    Stored(Listing<R>),
+}
+
+/// Entries of one stream, where they stand.
+#[derive(Drop)]
+pub struct Part<R: Receipt> {
+    /// The canonical name of the stream.
+    pub name: StreamName,
+    /// Where they stand.
+    pub source: Source<R>,
+}

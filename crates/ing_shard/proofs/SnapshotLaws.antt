@@ -1,0 +1,72 @@
+-- What is read off a shard for a query: the rows of the streams that are picked.
+use Rattle.std.proofs.Common.{◌≡◌, ℕ, ◌+◌, Bool, true, false, cond, List, [], ◌∷◌, ◌++◌, length, map, filter, Some, refl, ap, sym, ◌∙◌, append_assoc, length-append, arith, subst}
+use Rattle.std.specs.Prelude.{All, slice_get}
+use Rattle.std.specs.List.{enumerate_from}
+use Rattle.std.proofs.lemmas.List.Elements.{All-head, All-tail, filter-append}
+use Rattle.ing_rows.specs.Rows.{StreamKey, Row}
+use Rattle.ing_parts.specs.declared.snapshot.Snapshot.{Snapshot}
+use Rattle.ing_parts.specs.Parts.{AddsRows, HasRows, wanted, within}
+use Rattle.ing_shard.specs.OneStream.{Stream}
+use Rattle.ing_shard.specs.Picked.{numbers_of_picked}
+use Rattle.ing_shard.specs.Snapshots.{rows_at, rows_of}
+use Rattle.ing_shard.specs.Streams.{key_of, part_of, whole}
+use Rattle.ing_shard.proofs.Parts.{all_rows}
+
+no_rows : (b : Bool) → ◌≡◌ {A = List Row} [] (cond b [] [])
+no_rows true = refl
+no_rows false = refl
+
+-- of rows that are all of one stream, all are picked or none
+one_stream : (picked : StreamKey → Bool) (s : StreamKey) (rows : List Row) → All (λ r. r.stream ≡ s) rows → filter (λ r. picked r.stream) rows ≡ cond (picked s) rows []
+one_stream picked s [] all = no_rows (picked s)
+one_stream picked s (r ∷ rows) all =
+    let rest = one_stream picked s rows (All-tail (λ (q : Row). q.stream ≡ s) r rows all) in
+    let mine = ap picked (All-head (λ (q : Row). q.stream ≡ s) r rows all) in
+    ap (λ b. cond b (r ∷ filter (λ q. picked q.stream) rows) (filter (λ q. picked q.stream) rows)) mine
+    ∙ ap (λ l. cond (picked s) (r ∷ l) l) rest
+    ∙ elim (picked s) as (λ b. cond b (r ∷ cond b rows []) (cond b rows []) ≡ cond b (r ∷ rows) []) [ true ↦ refl | false ↦ refl ]
+
+-- the stream behind those in front
+behind : (front : List Stream) (st : Stream) (sts : List Stream) → slice_get (front ++ st ∷ sts) (length front) ≡ Some st
+behind [] st sts = refl
+behind (f ∷ front) st sts = behind front st sts
+
+abbrev picked_from : (StreamKey → Bool) → ℕ → List Stream → List (ℕ × StreamKey)
+picked_from picked k sts = filter (λ e. picked e.1) (enumerate_from k (map key_of sts))
+
+abbrev numbers_from : (StreamKey → Bool) → ℕ → List Stream → List ℕ
+numbers_from picked k sts = map (λ e. e.0) (picked_from picked k sts)
+
+rows_from : (picked : StreamKey → Bool) (front sts : List Stream) → rows_at (front ++ sts) (numbers_from picked (length front) sts) ≡ filter (λ r. picked r.stream) (whole sts).rows
+rows_from picked front [] = refl
+rows_from picked front (st ∷ sts) =
+    let k = length front in
+    let all = front ++ st ∷ sts in
+    let others = picked_from picked (k + 1) sts in
+    let after = filter (λ (r : Row). picked r.stream) (whole sts).rows in
+    let next : length (front ++ st ∷ []) ≡ k + 1 = length-append front (st ∷ []) in
+    let rest : rows_at all (map (λ e. e.0) others) ≡ after =
+    ap (λ n. rows_at all (numbers_from picked n sts)) (sym next)
+    ∙ ap (λ l. rows_at l (numbers_from picked (length (front ++ st ∷ [])) sts)) (sym (append_assoc front (st ∷ []) sts))
+    ∙ rows_from picked (front ++ st ∷ []) sts in
+    let mine : rows_of (slice_get all k) ≡ (part_of st).rows = ap rows_of (behind front st sts) in
+    let chosen : rows_at all (map (λ e. e.0) (cond (picked (key_of st)) ((k, key_of st) ∷ others) others)) ≡ cond (picked (key_of st)) (part_of st).rows [] ++ after =
+    elim (picked (key_of st)) as (λ b. rows_at all (map (λ e. e.0) (cond b ((k, key_of st) ∷ others) others)) ≡ cond b (part_of st).rows [] ++ after) [
+      | true ↦ ap (λ l. l ++ rows_at all (map (λ e. e.0) others)) mine ∙ ap (λ l. (part_of st).rows ++ l) rest
+      | false ↦ rest
+    ] in
+    chosen
+    ∙ ap (λ l. l ++ after) (sym (one_stream picked (key_of st) (part_of st).rows (all_rows (key_of st) (λ r. r.stream ≡ key_of st) (λ first block place e. refl) st.chunks)))
+    ∙ sym (filter-append (λ (r : Row). picked r.stream) (part_of st).rows (whole sts).rows)
+
+-- the rows of the streams that are picked are those that are picked of all
+pub picked_rows : (picked : StreamKey → Bool) (sts : List Stream) → rows_at sts (numbers_of_picked picked (map key_of sts)) ≡ filter (λ r. picked r.stream) (whole sts).rows
+picked_rows picked sts = rows_from picked [] sts
+
+-- what was added to a snapshot without parts is all that is wanted of it
+pub has_rows : {R : Type 0} (rows : List Row) (old new : Snapshot R) → wanted old ≡ [] → AddsRows rows old new → HasRows rows new
+has_rows rows old new none h = record {
+  all = h.all;
+  same = h.same;
+  is = h.adds.wanted ∙ ap (λ l. l ++ within old.start old.end h.all) none ∙ (λ i. within (sym h.adds.start i) (sym h.adds.end i) h.all);
+}
