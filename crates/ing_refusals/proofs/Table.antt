@@ -2,7 +2,7 @@
 use Rattle.std.proofs.Common.{◌≡◌, ℕ, List, cond, refl, sym, ap, ◌∙◌, nat_eq, bytes_eq}
 use Rattle.std.specs.Prelude.{codes}
 use Rattle.ing_refusals.specs.declared.refusal.Refusal.{Refusal}
-use Rattle.ing_refusals.specs.declared.refusal.Refusal.TheVariants.{NoMemory, BadName, TwiceNamed, NoLabels, TooMany, NameTooLong, ValueTooLong, NotCanonical, BadSelector, TooWide, NotToml, UnknownSetting, BadSetting, Truncated, BadMagic, BadVersion, BadField, OutOfOrder, Trailing, CounterFull, Failed, Damaged, Stranger, BadTenant, BadStamp, TooManyEntries, BadCommand, Metadata, InputFault, OutputFault, BadArguments, NoSettings}
+use Rattle.ing_refusals.specs.declared.refusal.Refusal.TheVariants.{NoMemory, BadName, TwiceNamed, NoLabels, TooMany, NameTooLong, ValueTooLong, NotCanonical, BadSelector, TooWide, NotToml, UnknownSetting, BadSetting, Truncated, BadMagic, BadVersion, BadField, OutOfOrder, Trailing, CounterFull, Failed, Damaged, Stranger, StoreFault, BadObject, BadTenant, BadStamp, TooManyEntries, BadCommand, Metadata, InputFault, OutputFault, BadArguments, NoSettings}
 use Rattle.ing_refusals.specs.Refusals.{refusal_number, refusal_name}
 
 of_number : ℕ → Refusal
@@ -30,6 +30,8 @@ of_number n =
     cond (nat_eq n 20) Failed (
     cond (nat_eq n 21) Damaged (
     cond (nat_eq n 24) Stranger (
+    cond (nat_eq n 26) StoreFault (
+    cond (nat_eq n 27) BadObject (
     cond (nat_eq n 30) BadTenant (
     cond (nat_eq n 31) BadStamp (
     cond (nat_eq n 32) TooManyEntries (
@@ -38,7 +40,7 @@ of_number n =
     cond (nat_eq n 36) InputFault (
     cond (nat_eq n 37) OutputFault (
     cond (nat_eq n 38) BadArguments (
-    NoSettings)))))))))))))))))))))))))))))))
+    NoSettings)))))))))))))))))))))))))))))))))
 
 of_name : List ℕ → Refusal
 of_name name =
@@ -65,6 +67,8 @@ of_name name =
     cond (bytes_eq name (codes "Failed")) Failed (
     cond (bytes_eq name (codes "Damaged")) Damaged (
     cond (bytes_eq name (codes "Stranger")) Stranger (
+    cond (bytes_eq name (codes "StoreFault")) StoreFault (
+    cond (bytes_eq name (codes "BadObject")) BadObject (
     cond (bytes_eq name (codes "BadTenant")) BadTenant (
     cond (bytes_eq name (codes "BadStamp")) BadStamp (
     cond (bytes_eq name (codes "TooManyEntries")) TooManyEntries (
@@ -73,7 +77,7 @@ of_name name =
     cond (bytes_eq name (codes "InputFault")) InputFault (
     cond (bytes_eq name (codes "OutputFault")) OutputFault (
     cond (bytes_eq name (codes "BadArguments")) BadArguments (
-    NoSettings)))))))))))))))))))))))))))))))
+    NoSettings)))))))))))))))))))))))))))))))))
 
 numbered : (r : Refusal) → of_number (refusal_number r) ≡ r
 unfolding of_number
@@ -100,6 +104,8 @@ numbered CounterFull = refl
 numbered Failed = refl
 numbered Damaged = refl
 numbered Stranger = refl
+numbered StoreFault = refl
+numbered BadObject = refl
 numbered BadTenant = refl
 numbered BadStamp = refl
 numbered TooManyEntries = refl
@@ -135,6 +141,8 @@ named CounterFull = refl
 named Failed = refl
 named Damaged = refl
 named Stranger = refl
+named StoreFault = refl
+named BadObject = refl
 named BadTenant = refl
 named BadStamp = refl
 named TooManyEntries = refl

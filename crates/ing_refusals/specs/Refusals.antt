@@ -1,7 +1,7 @@
 -- The number and the name of each refusal (own).
 use Rattle.std.specs.Prelude.{ℕ, List, codes}
 use Rattle.ing_refusals.specs.declared.refusal.Refusal.{Refusal}
-use Rattle.ing_refusals.specs.declared.refusal.Refusal.TheVariants.{NoMemory, BadName, TwiceNamed, NoLabels, TooMany, NameTooLong, ValueTooLong, NotCanonical, BadSelector, TooWide, NotToml, UnknownSetting, BadSetting, Truncated, BadMagic, BadVersion, BadField, OutOfOrder, Trailing, CounterFull, Failed, Damaged, Stranger, BadTenant, BadStamp, TooManyEntries, BadCommand, Metadata, InputFault, OutputFault, BadArguments, NoSettings}
+use Rattle.ing_refusals.specs.declared.refusal.Refusal.TheVariants.{NoMemory, BadName, TwiceNamed, NoLabels, TooMany, NameTooLong, ValueTooLong, NotCanonical, BadSelector, TooWide, NotToml, UnknownSetting, BadSetting, Truncated, BadMagic, BadVersion, BadField, OutOfOrder, Trailing, CounterFull, Failed, Damaged, Stranger, StoreFault, BadObject, BadTenant, BadStamp, TooManyEntries, BadCommand, Metadata, InputFault, OutputFault, BadArguments, NoSettings}
 
 abbrev pub refusal_number : Refusal → ℕ
 refusal_number NoMemory = 0
@@ -27,6 +27,8 @@ refusal_number CounterFull = 19
 refusal_number Failed = 20
 refusal_number Damaged = 21
 refusal_number Stranger = 24
+refusal_number StoreFault = 26
+refusal_number BadObject = 27
 refusal_number BadTenant = 30
 refusal_number BadStamp = 31
 refusal_number TooManyEntries = 32
@@ -61,6 +63,8 @@ refusal_name CounterFull = codes "CounterFull"
 refusal_name Failed = codes "Failed"
 refusal_name Damaged = codes "Damaged"
 refusal_name Stranger = codes "Stranger"
+refusal_name StoreFault = codes "StoreFault"
+refusal_name BadObject = codes "BadObject"
 refusal_name BadTenant = codes "BadTenant"
 refusal_name BadStamp = codes "BadStamp"
 refusal_name TooManyEntries = codes "TooManyEntries"

@@ -52,6 +52,10 @@ pub enum Refusal {
     Damaged,
     /// A ticket is of another shard, or its flight is not open.
     Stranger,
+    /// A store did not give an object that a query needs.
+    StoreFault,
+    /// An object of the store is not the chunk that is listed.
+    BadObject,
     /// A text is no tenant id.
     BadTenant,
     /// A text is no stamp.
@@ -101,6 +105,8 @@ impl Refusal {
             Refusal::Failed => 20,
             Refusal::Damaged => 21,
             Refusal::Stranger => 24,
+            Refusal::StoreFault => 26,
+            Refusal::BadObject => 27,
             Refusal::BadTenant => 30,
             Refusal::BadStamp => 31,
             Refusal::TooManyEntries => 32,
@@ -141,6 +147,8 @@ impl Refusal {
             Refusal::Failed => "Failed",
             Refusal::Damaged => "Damaged",
             Refusal::Stranger => "Stranger",
+            Refusal::StoreFault => "StoreFault",
+            Refusal::BadObject => "BadObject",
             Refusal::BadTenant => "BadTenant",
             Refusal::BadStamp => "BadStamp",
             Refusal::TooManyEntries => "TooManyEntries",

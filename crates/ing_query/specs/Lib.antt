@@ -1,0 +1,4 @@
+pub mod Answers
+pub mod Best
+pub mod Fetched
+pub mod Gathered
