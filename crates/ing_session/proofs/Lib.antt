@@ -9,3 +9,5 @@ pub mod RunsLaws
 mod ObeyLaws
 mod StreamsLaws
 mod EndingsLaws
+mod Reordered
+pub mod QueryLaws

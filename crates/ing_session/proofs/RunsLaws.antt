@@ -13,12 +13,13 @@ use Rattle.ing_session.specs.declared.command.fault.LineFault.TheVariants.{BadCo
 use Rattle.ing_session.specs.declared.lines.NextLine.TheVariants.{Line, TooLong, End}
 use Rattle.ing_store.specs.declared.store_end.Receipt.{Ghosts}
 use Rattle.ing_session.specs.declared.session.Session.{Session}
-use Rattle.ing_session.specs.Flushing.{HaveCause, failed_among}
+use Rattle.ing_session.specs.Flushing.{HaveCause}
 use Rattle.ing_session.specs.Held.{Held, nothing_held, IsHeld}
 use Rattle.ing_session.specs.Lines.{lines_of, with_feed, EndsLine, TakesLine}
 use Rattle.ing_session.specs.Parts.{HasNoFeed, max_line}
+use Rattle.ing_session.specs.Queries.{Unasked}
 use Rattle.ing_session.specs.Replies.{line_text}
-use Rattle.ing_session.specs.Session.{Turn, turn, MayBe, MayBeFrom, is_long, line_fault, answer_to, after_line, report_of, answers_from, answers_of, failed_in, held_after, lines_in}
+use Rattle.ing_session.specs.Session.{Turn, turn, MayBe, MayBeFrom, is_long, line_fault, answer_to, after_line, report_of, answers_from, answers_of, failed_at, failed_in, held_after, lines_in}
 use Rattle.ing_session.specs.Runs.{AnswersAll, AnswersWhatWasRead, AnswersFirstLines, Answers, Serves, ServesKnown, with_replies}
 use Rattle.ing_session.proofs.LinesLaws.{lines_of-ended, lines_of-open_last, lines_of-rest}
 
@@ -87,7 +88,7 @@ causes_more a b c n m (risen, inr failed) (more, cause) = (omega (arith, risen, 
 
 -- ---- one line more
 
-module _ (settings : StoreSettings) where
+module _ (honest : Type 0) (settings : StoreSettings) where
   held_more : (turns : List Turn) (t : Turn) (held : Held) → held_after settings held (turns ++ t ∷ []) ≡ after_line settings t (held_after settings held turns)
   held_more [] t held = refl
   held_more (u ∷ us) t held = held_more us t (after_line settings u held)
@@ -98,12 +99,12 @@ module _ (settings : StoreSettings) where
       ap (λ (text : List ℕ). answer_to settings u held ++ text) (answers_more us t (after_line settings u held))
       ∙ sym (append_assoc (answer_to settings u held) (answers_from settings (after_line settings u held) us) (answer_to settings t (held_after settings (after_line settings u held) us)))
 
-  may_be_more : (turns : List Turn) (t : Turn) (held : Held) → MayBeFrom settings held turns → MayBe settings t (held_after settings held turns) → MayBeFrom settings held (turns ++ t ∷ [])
+  may_be_more : (turns : List Turn) (t : Turn) (held : Held) → MayBeFrom honest settings held turns → MayBe honest settings t (held_after settings held turns) → MayBeFrom honest settings held (turns ++ t ∷ [])
   may_be_more [] t held before this = (this, tt)
   may_be_more (u ∷ us) t held before this = (before.0, may_be_more us t (after_line settings u held) before.1 this)
 
-failed_more : (turns : List Turn) (t : Turn) → failed_in (turns ++ t ∷ []) ≡ failed_in turns + failed_among t.outcomes
-failed_more turns t = sum_by_push (λ (u : Turn). failed_among u.outcomes) turns t
+failed_more : (turns : List Turn) (t : Turn) → failed_in (turns ++ t ∷ []) ≡ failed_in turns + failed_at t.outcomes t.answer
+failed_more turns t = sum_by_push (λ (u : Turn). failed_at u.outcomes u.answer) turns t
 
 lines_more : (turns : List Turn) (t : Turn) → lines_in (turns ++ t ∷ []) ≡ lines_in turns ++ t.line ∷ []
 lines_more turns t = map-append (λ u. u.line) turns (t ∷ [])
@@ -128,15 +129,15 @@ none_left old new [] false empty ends = absurd cc
 none_left old new (x ∷ xs) false empty ends = absurd cc
 none_left old new line true empty ends = let nothing : line ≡ [] = sym ends.0 ∙ empty in absurd (omega (arith, ends.1, ap length nothing))
 
-module _ {R : Type 0} {g : Ghosts R} (settings : StoreSettings) (session after : Session R g) (input : List ℕ) (before b1 b2 : ℕ) (first c k : Option (List ℕ)) (r q s line : List ℕ) where
+module _ {R : Type 0} {g : Ghosts R} (honest : Type 0) (settings : StoreSettings) (session after : Session R g) (input : List ℕ) (before b1 b2 : ℕ) (first c k : Option (List ℕ)) (r q s line : List ℕ) where
   -- a line is taken and answered
-  one_line : (was now : Bool) (left rest : List ℕ) → (serves : Serves settings session input before b1 first (with_replies c r) was left) → HasNoFeed line → EndsLine left rest now line
+  one_line : (was now : Bool) (left rest : List ℕ) → (serves : Serves honest settings session input before b1 first (with_replies c r) was left) → HasNoFeed line → EndsLine left rest now line
       → Keeps (with_replies c r) (with_replies k q) → after.shard.settings ≡ settings
-      → Answers settings line (held_after settings nothing_held serves.turns) after b1 b2 q s
-      → Serves settings after input before b2 first (with_replies k s) now rest
+      → Answers honest settings line (held_after settings nothing_held serves.turns) after b1 b2 q s
+      → Serves honest settings after input before b2 first (with_replies k s) now rest
   one_line true now left rest serves clean ends keeps same answers = absurd (none_left left rest line now (serves.read refl).1 ends)
   one_line false now left rest serves clean ends keeps same answers =
-      let t = turn line answers.outcomes answers.left in
+      let t = turn line answers.outcomes answers.left answers.answer in
       let held = held_after settings nothing_held serves.turns in
       record {
         turns = serves.turns ++ t ∷ [];
@@ -144,15 +145,15 @@ module _ {R : Type 0} {g : Ghosts R} (settings : StoreSettings) (session after :
         taken = λ going. subst (λ ls. input ≡ flat_map with_feed ls ++ rest) (sym lines) (front now ends going);
         read = λ ended. subst (λ ls. (lines_of input ≡ ls) × (rest ≡ [])) (sym lines) (end now ends ended);
         settings_are = same;
-        holds = rw (held_more settings serves.turns t nothing_held) answers.holds;
+        holds = rw (held_more honest settings serves.turns t nothing_held) answers.holds;
         may_be = record {
-          flushes = may_be_more settings serves.turns t nothing_held serves.may_be.flushes answers.may_be;
-          causes = rw (failed_more serves.turns t) (causes_more before b1 b2 (failed_in serves.turns) (failed_among answers.outcomes) serves.may_be.causes answers.causes);
+          flushes = may_be_more honest settings serves.turns t nothing_held serves.may_be.flushes answers.may_be;
+          causes = rw (failed_more serves.turns t) (causes_more before b1 b2 (failed_in serves.turns) (failed_at answers.outcomes answers.answer) serves.may_be.causes answers.causes);
         };
-        answered = rw (answers_more settings serves.turns t nothing_held) (adds first c k r q s (answers_of settings serves.turns) (answer_to settings t held) serves.answered keeps answers.told);
+        answered = rw (answers_more honest settings serves.turns t nothing_held) (adds first c k r q s (answers_of settings serves.turns) (answer_to settings t held) serves.answered keeps answers.told);
       } where
-        lines : lines_in (serves.turns ++ turn line answers.outcomes answers.left ∷ []) ≡ lines_in serves.turns ++ line ∷ []
-        lines = lines_more serves.turns (turn line answers.outcomes answers.left)
+        lines : lines_in (serves.turns ++ turn line answers.outcomes answers.left answers.answer ∷ []) ≡ lines_in serves.turns ++ line ∷ []
+        lines = lines_more serves.turns (turn line answers.outcomes answers.left answers.answer)
 
         so_far : input ≡ flat_map with_feed (lines_in serves.turns) ++ left
         so_far = serves.taken refl
@@ -167,13 +168,14 @@ module _ {R : Type 0} {g : Ghosts R} (settings : StoreSettings) (session after :
             (ap lines_of (so_far ∙ ap (λ (l : List ℕ). flat_map with_feed (lines_in serves.turns) ++ l) is.0) ∙ lines_of-open_last (lines_in serves.turns) line serves.no_feeds clean is.1, is.2)
 
 -- a line that is too long is refused, and changes nothing
-long_answers : {R : Type 0} {g : Ghosts R} (settings : StoreSettings) (line : List ℕ) (held : Held) (session : Session R g) (n : ℕ) (q s : List ℕ) → max_line < length line
-    → s ≡ q ++ line_text (line_fault BadCommand) → IsHeld session held → Answers settings line held session n n q s
-long_answers settings line held session n q s long refused holds =
+long_answers : {R : Type 0} {g : Ghosts R} (honest : Type 0) (settings : StoreSettings) (line : List ℕ) (held : Held) (session : Session R g) (n : ℕ) (q s : List ℕ) → max_line < length line
+    → s ≡ q ++ line_text (line_fault BadCommand) → IsHeld session held → Answers honest settings line held session n n q s
+long_answers honest settings line held session n q s long refused holds =
     let is : is_long line ≡ true = grind (arith, nat_tests) in
     record {
       outcomes = [];
       left = held.state;
+      answer = Unasked;
       may_be = rw is tt;
       told = rw is refused;
       causes = no_failure n;
@@ -181,13 +183,13 @@ long_answers settings line held session n q s long refused holds =
     }
 
 -- before the first line
-module _ {R : Type 0} {g : Ghosts R} (settings : StoreSettings) (session : Session R g) (n : ℕ) (contents : Option (List ℕ)) (replies ahead : List ℕ) (ended : Bool)
+module _ {R : Type 0} {g : Ghosts R} (honest : Type 0) (settings : StoreSettings) (session : Session R g) (n : ℕ) (contents : Option (List ℕ)) (replies ahead : List ℕ) (ended : Bool)
     (none : replies ≡ []) (going : ended ≡ false) (unread : ahead ≡ []) (same : session.shard.settings ≡ settings) (empty : IsHeld session nothing_held) where
   nothing_added : (known : Option (List ℕ)) → Appends known (with_replies known replies) []
   nothing_added None = tt
   nothing_added (Some x) = ap (λ (l : List ℕ). x ++ l) none
 
-  pub begins : (known : Option (List ℕ)) → IfSome known (λ input. ServesKnown settings session input n n contents (with_replies contents replies) ended (prepend_known ahead known))
+  pub begins : (known : Option (List ℕ)) → IfSome known (λ input. ServesKnown honest settings session input n n contents (with_replies contents replies) ended (prepend_known ahead known))
   begins None = tt
   begins (Some input) =
       record {
@@ -203,42 +205,42 @@ module _ {R : Type 0} {g : Ghosts R} (settings : StoreSettings) (session : Sessi
 
 -- ---- what a turn of the run makes of it
 
-module _ {R : Type 0} {g : Ghosts R} (settings : StoreSettings) (session after : Session R g) (input : List ℕ) (before b1 b2 : ℕ) (first c k : Option (List ℕ)) (r q s line : List ℕ) (was now : Bool) where
-  pub serves_line : (left rest : Option (List ℕ)) → ServesKnown settings session input before b1 first (with_replies c r) was left → ((was ≡ true → IsAtEnd left) → TakesLine left rest now Line line)
+module _ {R : Type 0} {g : Ghosts R} (honest : Type 0) (settings : StoreSettings) (session after : Session R g) (input : List ℕ) (before b1 b2 : ℕ) (first c k : Option (List ℕ)) (r q s line : List ℕ) (was now : Bool) where
+  pub serves_line : (left rest : Option (List ℕ)) → ServesKnown honest settings session input before b1 first (with_replies c r) was left → ((was ≡ true → IsAtEnd left) → TakesLine left rest now Line line)
       → Keeps (with_replies c r) (with_replies k q)
-      → ((held : Held) → IsHeld session held → Answers session.shard.settings line held after b1 b2 q s)
+      → ((held : Held) → IsHeld session held → Answers honest session.shard.settings line held after b1 b2 q s)
       → after.shard.settings ≡ session.shard.settings
-      → ServesKnown settings after input before b2 first (with_replies k s) now rest
+      → ServesKnown honest settings after input before b2 first (with_replies k s) now rest
   serves_line None rest serves takes keeps answers same = absurd serves
   serves_line (Some left) None serves takes keeps answers same = absurd (takes (λ e. (serves.read e).1))
   serves_line (Some left) (Some rest) serves takes keeps answers same =
       let taken = takes (λ e. (serves.read e).1) in
       let held = held_after settings nothing_held serves.turns in
-      one_line settings session after input before b1 b2 first c k r q s line was now left rest serves taken.0 taken.1 keeps
+      one_line honest settings session after input before b1 b2 first c k r q s line was now left rest serves taken.0 taken.1 keeps
       (same ∙ serves.settings_are)
-      (subst (λ t. Answers t line held after b1 b2 q s) serves.settings_are (answers held serves.holds))
+      (subst (λ t. Answers honest t line held after b1 b2 q s) serves.settings_are (answers held serves.holds))
 
-  pub serves_long : (left rest : Option (List ℕ)) → ServesKnown settings session input before b1 first (with_replies c r) was left → ((was ≡ true → IsAtEnd left) → TakesLine left rest now TooLong line)
+  pub serves_long : (left rest : Option (List ℕ)) → ServesKnown honest settings session input before b1 first (with_replies c r) was left → ((was ≡ true → IsAtEnd left) → TakesLine left rest now TooLong line)
       → Keeps (with_replies c r) (with_replies k q) → s ≡ q ++ line_text (line_fault BadCommand)
-      → ServesKnown settings session input before b1 first (with_replies k s) now rest
+      → ServesKnown honest settings session input before b1 first (with_replies k s) now rest
   serves_long None rest serves takes keeps refused = absurd serves
   serves_long (Some left) None serves takes keeps refused = absurd (takes (λ e. (serves.read e).1))
   serves_long (Some left) (Some rest) serves takes keeps refused =
       let taken = takes (λ e. (serves.read e).1) in
       let held = held_after settings nothing_held serves.turns in
-      one_line settings session session input before b1 b1 first c k r q s taken.0 was now left rest serves taken.1 taken.2 keeps
+      one_line honest settings session session input before b1 b1 first c k r q s taken.0 was now left rest serves taken.1 taken.2 keeps
       serves.settings_are
-      (long_answers settings taken.0 held session b1 q s taken.3 refused serves.holds)
+      (long_answers honest settings taken.0 held session b1 q s taken.3 refused serves.holds)
 
-  all_lines : (left : List ℕ) (serves : Serves settings session input before b1 first (with_replies c r) was left) → left ≡ [] → (b : Bool) → was ≡ b → lines_of input ≡ lines_in serves.turns
+  all_lines : (left : List ℕ) (serves : Serves honest settings session input before b1 first (with_replies c r) was left) → left ≡ [] → (b : Bool) → was ≡ b → lines_of input ≡ lines_in serves.turns
   all_lines left serves empty true is = (serves.read is).0
   all_lines left serves empty false is =
       let lines = lines_in serves.turns in
       ap lines_of (serves.taken is ∙ ap (λ (l : List ℕ). flat_map with_feed lines ++ l) empty ∙ append-nil (flat_map with_feed lines)) ∙ lines_of-ended lines serves.no_feeds
 
-  pub serves_end : (left rest : Option (List ℕ)) → ServesKnown settings session input before b1 first (with_replies c r) was left → ((was ≡ true → IsAtEnd left) → TakesLine left rest now End line)
+  pub serves_end : (left rest : Option (List ℕ)) → ServesKnown honest settings session input before b1 first (with_replies c r) was left → ((was ≡ true → IsAtEnd left) → TakesLine left rest now End line)
       → Keeps (with_replies c r) (with_replies k q) → ((held : Held) → IsHeld session held → s ≡ q ++ line_text (report_of held.state))
-      → AnswersAll settings input before b1 first (with_replies k s)
+      → AnswersAll honest settings input before b1 first (with_replies k s)
   serves_end None rest serves takes keeps reported = absurd serves
   serves_end (Some left) None serves takes keeps reported = absurd (takes (λ e. (serves.read e).1))
   serves_end (Some left) (Some rest) serves takes keeps reported =
@@ -252,9 +254,9 @@ module _ {R : Type 0} {g : Ghosts R} (settings : StoreSettings) (session after :
 
 -- ---- what has been written when it ends early
 
-module _ {R : Type 0} {g : Ghosts R} (settings : StoreSettings) (session : Session R g) (input : List ℕ) (before b1 b2 : ℕ) (first now : Option (List ℕ)) (was : Bool) where
+module _ {R : Type 0} {g : Ghosts R} (honest : Type 0) (settings : StoreSettings) (session : Session R g) (input : List ℕ) (before b1 b2 : ℕ) (first now : Option (List ℕ)) (was : Bool) where
   -- memory ran out
-  pub stops : (left h : Option (List ℕ)) → ServesKnown settings session input before b1 first now was left → Keeps now h → b1 ≤ b2 → AnswersFirstLines settings input before b2 first h
+  pub stops : (left h : Option (List ℕ)) → ServesKnown honest settings session input before b1 first now was left → Keeps now h → b1 ≤ b2 → AnswersFirstLines honest settings input before b2 first h
   stops None h serves keeps risen = absurd serves
   stops (Some left) h serves keeps risen =
       record {
@@ -272,8 +274,8 @@ module _ {R : Type 0} {g : Ghosts R} (settings : StoreSettings) (session : Sessi
         by_end false is = ap lines_of (serves.taken is) ∙ lines_of-rest (lines_in serves.turns) left serves.no_feeds
 
   -- a read failed
-  pub fails : (left rest h : Option (List ℕ)) (bytes : List ℕ) → ServesKnown settings session input before b1 first now was left → was ≡ false → HasNoFeed bytes → Consumes left rest bytes → Keeps now h
-      → AnswersWhatWasRead settings input rest before b1 first h
+  pub fails : (left rest h : Option (List ℕ)) (bytes : List ℕ) → ServesKnown honest settings session input before b1 first now was left → was ≡ false → HasNoFeed bytes → Consumes left rest bytes → Keeps now h
+      → AnswersWhatWasRead honest settings input rest before b1 first h
   fails None rest h bytes serves going clean consumed keeps = absurd serves
   fails (Some left) None h bytes serves going clean consumed keeps = absurd consumed
   fails (Some left) (Some rest) h bytes serves going clean consumed keeps =

@@ -10,6 +10,7 @@ use Rattle.ing_session.specs.declared.command.fault.LineFault.TheVariants.{BadCo
 use Rattle.ing_session.specs.FlushCommands.{FlushCommand, flush_of}
 use Rattle.ing_session.specs.GaugesCommands.{GaugesCommand, gauges_of}
 use Rattle.ing_session.specs.PushCommands.{PushCommand, push_of}
+use Rattle.ing_session.specs.QueryCommands.{QueryCommand, query_of}
 use Rattle.ing_session.specs.Shapes.{text_at}
 use Rattle.ing_session.specs.SweepCommands.{SweepCommand, sweep_of}
 
@@ -18,6 +19,7 @@ pub data Command : Type 0 where
   Sweep : SweepCommand → Command
   Flush : FlushCommand → Command
   Gauges : GaugesCommand → Command
+  Query : QueryCommand → Command
 
 abbrev pub pushed : PushCommand → Result Command LineFault
 pushed push = Ok (Push push)
@@ -31,6 +33,9 @@ flushed flush = Ok (Flush flush)
 abbrev pub asked : GaugesCommand → Result Command LineFault
 asked gauges = Ok (Gauges gauges)
 
+abbrev pub queried : QueryCommand → Result Command LineFault
+queried query = Ok (Query query)
+
 -- the JSON value of a line, which is UTF-8
 abbrev pub data_of : List ℕ → Result Data LineFault
 data_of line = if is_utf8 line then ok_or (json.read line) BadCommand else Err BadCommand
@@ -42,6 +47,7 @@ said_as cmd d =
     else if bytes_eq cmd (codes "sweep") then sweep_of d >>= swept
     else if bytes_eq cmd (codes "flush") then flush_of d >>= flushed
     else if bytes_eq cmd (codes "gauges") then gauges_of d >>= asked
+    else if bytes_eq cmd (codes "query") then query_of d >>= queried
     else Err BadCommand
 
 -- what a value commands, by its member `cmd`

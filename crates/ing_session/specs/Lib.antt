@@ -8,6 +8,8 @@ pub mod Held
 pub mod Lines
 pub mod Parts
 pub mod PushCommands
+pub mod Queries
+pub mod QueryCommands
 pub mod Replies
 pub mod Runs
 pub mod Session

@@ -6,6 +6,7 @@ use Rattle.serde_json.specs.Written.{compact_text}
 use Rattle.ing_session.specs.declared.reply.ShardReport.{ShardReport}
 use Rattle.ing_refusals.specs.declared.refusal.Refusal.{Refusal}
 use Rattle.ing_refusals.specs.Refusals.{refusal_number, refusal_name}
+use Rattle.ing_parts.specs.declared.found.Found.{Found}
 use Rattle.ing_rows.specs.declared.gauges.Gauge.{Gauge}
 use Rattle.ing_rows.specs.declared.gauges.Gauges.{Gauges}
 use Rattle.ing_rows.specs.declared.verdict.Verdict.{Verdict}
@@ -76,6 +77,20 @@ tenant_data gauges =
 -- one for each shard
 abbrev pub gauges_data : List Gauges → Data
 gauges_data shards = object (member (codes "gauges") (array (items_of (map tenant_data shards))) no_members)
+
+-- an entry that a query gives: its line, its stamp, and its stream by its canonical name
+abbrev pub entry_data : Found → Data
+entry_data found =
+    object (member (codes "line") (string found.entry.line) (
+    member (codes "stamp") (string (decimal found.entry.stamp)) (
+    member (codes "stream") (string found.name) no_members)))
+
+-- of a query: the entries, and how many entries each shard had accepted
+abbrev pub query_data : List Found → List ℕ → Data
+query_data found fronts =
+    object (member (codes "query") (object (
+    member (codes "entries") (array (items_of (map entry_data found))) (
+    member (codes "fronts") (array (items_of (map count fronts))) no_members))) no_members)
 
 -- of a shard: entries accepted in this run, kept in memory, recovered from an earlier run, and stored
 abbrev pub shard_data : ShardReport → Data

@@ -13,36 +13,38 @@ use Rattle.ing_store.specs.declared.store_end.Receipt.{Ghosts}
 use Rattle.ing_session.specs.declared.session.Session.{Session}
 use Rattle.ing_session.specs.Held.{Held, nothing_held, IsHeld}
 use Rattle.ing_session.specs.Parts.{HasNoFeed}
-use Rattle.ing_session.specs.Session.{Turn, turn, FlushMayBe, CommandMayBe, MayBe, MayBeFrom, after_command, after_flush, after_line, answer_to, answers_of, command_reply, failed_in, held_after, lines_in, output_of}
+use Rattle.ing_session.specs.Queries.{Answer}
+use Rattle.ing_session.specs.Session.{Turn, turn, FlushMayBe, CommandMayBe, MayBe, MayBeFrom, after_command, after_flush, after_line, answer_to, answers_of, command_reply, failed_at, failed_in, held_after, lines_in, output_of}
 
--- These lines may be answered so from nothing on, while the end of the store counts its failures from before to after.
-pub record MayBeAnswered (settings : StoreSettings) (before after : ℕ) (turns : List Turn) : Type 0 where
-  pub flushes : MayBeFrom settings nothing_held turns
+-- These lines may be answered so from nothing on, over an end of the store that is honest or not and counts its failures from
+-- before to after.
+pub record MayBeAnswered (honest : Type 0) (settings : StoreSettings) (before after : ℕ) (turns : List Turn) : Type 0 where
+  pub flushes : MayBeFrom honest settings nothing_held turns
   pub causes : HaveCause before after (failed_in turns)
 
 -- Where the input came to its end: the answers to all its lines and the report, and nothing else.
-pub record AnswersAll (settings : StoreSettings) (input : List ℕ) (before after : ℕ) (old new : Option (List ℕ)) : Type 0 where
+pub record AnswersAll (honest : Type 0) (settings : StoreSettings) (input : List ℕ) (before after : ℕ) (old new : Option (List ℕ)) : Type 0 where
   pub turns : List Turn
   pub all : lines_of input ≡ lines_in turns
-  pub may_be : MayBeAnswered settings before after turns
+  pub may_be : MayBeAnswered honest settings before after turns
   pub answered : Appends old new (output_of settings turns)
 
 -- Where a read failed: the answers to all lines that were read whole, with their line feeds, and nothing else.
-pub record AnswersWhatWasRead (settings : StoreSettings) (input : List ℕ) (rest : Option (List ℕ)) (before after : ℕ) (old new : Option (List ℕ)) : Type 0 where
+pub record AnswersWhatWasRead (honest : Type 0) (settings : StoreSettings) (input : List ℕ) (rest : Option (List ℕ)) (before after : ℕ) (old new : Option (List ℕ)) : Type 0 where
   pub turns : List Turn
   pub last : List ℕ
   pub no_feeds : AllByRecursion HasNoFeed (lines_in turns)
   pub no_feed : HasNoFeed last
   pub read : Consumes (Some input) rest (flat_map with_feed (lines_in turns) ++ last)
-  pub may_be : MayBeAnswered settings before after turns
+  pub may_be : MayBeAnswered honest settings before after turns
   pub answered : Appends old new (answers_of settings turns)
 
 -- Where memory ran out: the answers to the first lines of the input, each whole, and nothing else.
-pub record AnswersFirstLines (settings : StoreSettings) (input : List ℕ) (before after : ℕ) (old new : Option (List ℕ)) : Type 0 where
+pub record AnswersFirstLines (honest : Type 0) (settings : StoreSettings) (input : List ℕ) (before after : ℕ) (old new : Option (List ℕ)) : Type 0 where
   pub turns : List Turn
   pub others : List (List ℕ)
   pub first : lines_of input ≡ lines_in turns ++ others
-  pub may_be : MayBeAnswered settings before after turns
+  pub may_be : MayBeAnswered honest settings before after turns
   pub answered : Appends old new (answers_of settings turns)
 
 -- ---- for private clauses
@@ -58,22 +60,24 @@ pub record IsFlushed {R : Type 0} {g : Ghosts R} (settings : StoreSettings) (old
   pub holds : IsHeld new (after_flush left old)
 
 -- a command is obeyed, with this reply
-pub record Obeys {R : Type 0} {g : Ghosts R} (settings : StoreSettings) (command : Result Command LineFault) (old : Held) (new : Session R g) (before after : ℕ) (reply : Data) : Type 0 where
+pub record Obeys {R : Type 0} {g : Ghosts R} (honest : Type 0) (settings : StoreSettings) (command : Result Command LineFault) (old : Held) (new : Session R g) (before after : ℕ) (reply : Data) : Type 0 where
   pub outcomes : List Outcome
   pub left : State
-  pub may_be : CommandMayBe settings command outcomes left old
-  pub told : reply ≡ command_reply settings command outcomes old
-  pub causes : HaveCause before after (failed_among outcomes)
+  pub answer : Answer
+  pub may_be : CommandMayBe honest settings command outcomes left answer old
+  pub told : reply ≡ command_reply settings command outcomes answer old
+  pub causes : HaveCause before after (failed_at outcomes answer)
   pub holds : IsHeld new (after_command settings command left old)
 
 -- a line is answered, behind the replies that were held back
-pub record Answers {R : Type 0} {g : Ghosts R} (settings : StoreSettings) (line : List ℕ) (old : Held) (new : Session R g) (before after : ℕ) (replies with_answer : List ℕ) : Type 0 where
+pub record Answers {R : Type 0} {g : Ghosts R} (honest : Type 0) (settings : StoreSettings) (line : List ℕ) (old : Held) (new : Session R g) (before after : ℕ) (replies with_answer : List ℕ) : Type 0 where
   pub outcomes : List Outcome
   pub left : State
-  pub may_be : MayBe settings (turn line outcomes left) old
-  pub told : with_answer ≡ replies ++ answer_to settings (turn line outcomes left) old
-  pub causes : HaveCause before after (failed_among outcomes)
-  pub holds : IsHeld new (after_line settings (turn line outcomes left) old)
+  pub answer : Answer
+  pub may_be : MayBe honest settings (turn line outcomes left answer) old
+  pub told : with_answer ≡ replies ++ answer_to settings (turn line outcomes left answer) old
+  pub causes : HaveCause before after (failed_at outcomes answer)
+  pub holds : IsHeld new (after_line settings (turn line outcomes left answer) old)
 
 -- what a writer holds, and then the replies that are held back
 abbrev pub with_replies : Option (List ℕ) → List ℕ → Option (List ℕ)
@@ -81,17 +85,17 @@ with_replies contents replies = append_known contents replies
 
 -- While a run goes on: the lines that were answered, with their line feeds, are what was read of the input but for what is
 -- left; once the input is at its end, all lines were answered. The session holds what these lines leave.
-pub record Serves {R : Type 0} {g : Ghosts R} (settings : StoreSettings) (session : Session R g) (input : List ℕ) (before after : ℕ) (old new : Option (List ℕ)) (at_end : Bool) (left : List ℕ) : Type 0 where
+pub record Serves {R : Type 0} {g : Ghosts R} (honest : Type 0) (settings : StoreSettings) (session : Session R g) (input : List ℕ) (before after : ℕ) (old new : Option (List ℕ)) (at_end : Bool) (left : List ℕ) : Type 0 where
   pub turns : List Turn
   pub no_feeds : AllByRecursion HasNoFeed (lines_in turns)
   pub taken : at_end ≡ false → input ≡ flat_map with_feed (lines_in turns) ++ left
   pub read : at_end ≡ true → (lines_of input ≡ lines_in turns) × (left ≡ [])
   pub settings_are : session.shard.settings ≡ settings
   pub holds : IsHeld session (held_after settings nothing_held turns)
-  pub may_be : MayBeAnswered settings before after turns
+  pub may_be : MayBeAnswered honest settings before after turns
   pub answered : Appends old new (answers_of settings turns)
 
 -- the same where the bytes that are left are known
-abbrev pub ServesKnown : {R : Type 0} {g : Ghosts R} → StoreSettings → Session R g → List ℕ → ℕ → ℕ → Option (List ℕ) → Option (List ℕ) → Bool → Option (List ℕ) → Type 0
-ServesKnown settings session input before after old new at_end None = ⊥
-ServesKnown settings session input before after old new at_end (Some left) = Serves settings session input before after old new at_end left
+abbrev pub ServesKnown : {R : Type 0} {g : Ghosts R} → Type 0 → StoreSettings → Session R g → List ℕ → ℕ → ℕ → Option (List ℕ) → Option (List ℕ) → Bool → Option (List ℕ) → Type 0
+ServesKnown honest settings session input before after old new at_end None = ⊥
+ServesKnown honest settings session input before after old new at_end (Some left) = Serves honest settings session input before after old new at_end left

@@ -1,11 +1,12 @@
 -- What is written for an input: by the model alone, from the bytes read to the bytes written.
-use Rattle.std.specs.Prelude.{ℕ, ◌-◌, List, [], ◌∷◌, ◌++◌, length, map, sum_by, Bool, false, ◌||◌, ◌==◌, nat_lt, if◌then◌else◌, None, Result, Ok, Err, ⊤, MatchBool}
+use Rattle.std.specs.Prelude.{◌≡◌, ℕ, ◌+◌, ◌-◌, List, [], ◌∷◌, ◌++◌, length, map, sum_by, Bool, false, ◌||◌, ◌==◌, nat_lt, if◌then◌else◌, None, Result, Ok, Err, ⊤, MatchBool}
 use Rattle.std.specs.List.{list_all}
-use Rattle.serde_json.specs.Data.{Data}
+use Rattle.serde_json.specs.Data.{Data, null}
 use Rattle.ing_labels.specs.declared.fault.LabelLimits.{LabelLimits}
 use Rattle.ing_labels.specs.declared.fault.LabelFault.{LabelFault}
 use Rattle.ing_labels.specs.Labels.{LabelMap, labels_of}
 use Rattle.ing_labels.specs.Faults as label_faults
+use Rattle.ing_labels.specs.TextFaults.{text_refusal_of, text_fault_place}
 use Rattle.ing_labels.specs.Canonical.{canonical_of}
 use Rattle.ing_rows.specs.declared.entry.Entry.{Entry}
 use Rattle.ing_rows.specs.declared.rules.Rules.{Rules}
@@ -24,12 +25,14 @@ use Rattle.ing_session.specs.declared.command.fault.LineFault.{LineFault}
 use Rattle.ing_session.specs.declared.command.fault.LineFault.TheVariants.{BadCommand}
 use Rattle.ing_session.specs.Faults.{refusal_of}
 use Rattle.ing_refusals.specs.declared.refusal.Refusal.TheVariants.{TooManyEntries, CounterFull}
-use Rattle.ing_session.specs.Commands.{Command, Push, Sweep, Flush, Gauges, command_of}
+use Rattle.ing_refusals.specs.declared.refusal.Refusal.TheVariants as refusals
+use Rattle.ing_session.specs.Commands.{Command, Push, Sweep, Flush, Gauges, Query, command_of}
 use Rattle.ing_session.specs.Flushing.{Outcome, EndSo, failed_among, stored_among}
 use Rattle.ing_session.specs.Held.{Held, nothing_held, shard_number}
 use Rattle.ing_session.specs.PushCommands.{StreamEntries}
 use Rattle.ing_session.specs.Parts.{max_line}
-use Rattle.ing_session.specs.Replies.{fault_data, judged_data, push_data, sweep_data, flush_data, gauges_data, report_data, line_text}
+use Rattle.ing_session.specs.Queries.{Answer, Unasked, Refused, Given, Failed, Damaged, QueryMayBe, failed_of}
+use Rattle.ing_session.specs.Replies.{fault_data, judged_data, push_data, sweep_data, flush_data, gauges_data, query_data, report_data, line_text}
 
 abbrev pub limits_of : Rules → LabelLimits
 limits_of rules = record { names = rules.max_label_names; name_bytes = rules.max_label_name_length; value_bytes = rules.max_label_value_length }
@@ -132,19 +135,30 @@ FlushMayBe settings outcomes left held = EndSo (rules_for settings) held.listed 
 abbrev pub after_flush : State → Held → Held
 after_flush left held = record held { state = left; ops = [] }
 
+-- ---- a query
+
+-- the reply to a query that came to this, of the one shard
+abbrev pub query_reply : Answer → Held → Data
+query_reply Unasked held = null
+query_reply (Refused fault) held = fault_data (text_refusal_of fault) (text_fault_place fault)
+query_reply (Given found) held = query_data found (length held.state.rows ∷ [])
+query_reply Failed held = fault_data refusals.StoreFault None
+query_reply Damaged held = fault_data refusals.BadObject None
+
 -- ---- one line, by the rules of the tenant that it names
 
 abbrev pub line_fault : LineFault → Data
 line_fault fault = fault_data (refusal_of fault) None
 
--- the reply to a command; of a flush, where its operations ended so
-abbrev pub command_reply : StoreSettings → Result Command LineFault → List Outcome → Held → Data
-command_reply settings (Err fault) outcomes held = line_fault fault
-command_reply settings (Ok (Push push)) outcomes held =
+-- the reply to a command; of a flush, where its operations ended so, and of a query, where it came to this
+abbrev pub command_reply : StoreSettings → Result Command LineFault → List Outcome → Answer → Held → Data
+command_reply settings (Err fault) outcomes answer held = line_fault fault
+command_reply settings (Ok (Push push)) outcomes answer held =
     push_data (stream_replies (rules_for settings push.tenant) push.tenant push.now push.streams held)
-command_reply settings (Ok (Sweep sweep)) outcomes held = sweep_reply settings sweep.now held
-command_reply settings (Ok (Flush flush)) outcomes held = flush_reply flush.forced outcomes held
-command_reply settings (Ok (Gauges gauges)) outcomes held = gauges_data (gauges_of held.state.rows gauges.tenant ∷ [])
+command_reply settings (Ok (Sweep sweep)) outcomes answer held = sweep_reply settings sweep.now held
+command_reply settings (Ok (Flush flush)) outcomes answer held = flush_reply flush.forced outcomes held
+command_reply settings (Ok (Gauges gauges)) outcomes answer held = gauges_data (gauges_of held.state.rows gauges.tenant ∷ [])
+command_reply settings (Ok (Query query)) outcomes answer held = query_reply answer held
 
 -- a refused line changes nothing, nor does a question; a flush leaves these rows and marks
 abbrev pub after_command : StoreSettings → Result Command LineFault → State → Held → Held
@@ -154,14 +168,17 @@ after_command settings (Ok (Push push)) left held =
 after_command settings (Ok (Sweep sweep)) left held = after_sweep settings sweep.now held
 after_command settings (Ok (Flush flush)) left held = after_flush left held
 after_command settings (Ok (Gauges gauges)) left held = held
+after_command settings (Ok (Query query)) left held = held
 
--- the operations of a flush may end so, and leave these rows and marks
-abbrev pub CommandMayBe : StoreSettings → Result Command LineFault → List Outcome → State → Held → Type 0
-CommandMayBe settings (Err fault) outcomes left held = ⊤
-CommandMayBe settings (Ok (Push push)) outcomes left held = ⊤
-CommandMayBe settings (Ok (Sweep sweep)) outcomes left held = ⊤
-CommandMayBe settings (Ok (Flush flush)) outcomes left held = FlushMayBe settings outcomes left (to_flush flush.forced held)
-CommandMayBe settings (Ok (Gauges gauges)) outcomes left held = ⊤
+-- The operations of a flush may end so, and leave these rows and marks; a query may come to this, over an end of the store
+-- that is honest or not.
+abbrev pub CommandMayBe : Type 0 → StoreSettings → Result Command LineFault → List Outcome → State → Answer → Held → Type 0
+CommandMayBe honest settings (Err fault) outcomes left answer held = ⊤
+CommandMayBe honest settings (Ok (Push push)) outcomes left answer held = ⊤
+CommandMayBe honest settings (Ok (Sweep sweep)) outcomes left answer held = ⊤
+CommandMayBe honest settings (Ok (Flush flush)) outcomes left answer held = FlushMayBe settings outcomes left (to_flush flush.forced held)
+CommandMayBe honest settings (Ok (Gauges gauges)) outcomes left answer held = ⊤
+CommandMayBe honest settings (Ok (Query query)) outcomes left answer held = (outcomes ≡ []) × QueryMayBe honest query answer held.state.rows
 
 -- spaces, tabs and carriage returns alone
 abbrev pub is_blank : List ℕ → Bool
@@ -170,22 +187,23 @@ is_blank line = list_all (λ byte. byte == 32 || byte == 9 || byte == 13) line
 abbrev pub is_long : List ℕ → Bool
 is_long line = nat_lt max_line (length line)
 
--- A line of the input. Where it is a flush, its operations ended so, and these rows and marks were left; of another line these
--- two say nothing.
+-- A line of the input. Where it is a flush, its operations ended so, and these rows and marks were left; where it is a query, it
+-- came to this. Of another line these say nothing.
 pub record Turn : Type 0 where
   pub line : List ℕ
   pub outcomes : List Outcome
   pub left : State
+  pub answer : Answer
 
-abbrev pub turn : List ℕ → List Outcome → State → Turn
-turn line outcomes left = record { line = line; outcomes = outcomes; left = left }
+abbrev pub turn : List ℕ → List Outcome → State → Answer → Turn
+turn line outcomes left answer = record { line = line; outcomes = outcomes; left = left; answer = answer }
 
 -- a line that is too long is refused unread, a blank one is skipped, and each other is answered
 abbrev pub answer_to : StoreSettings → Turn → Held → List ℕ
 answer_to settings t held =
     if is_long t.line then line_text (line_fault BadCommand)
     else if is_blank t.line then []
-    else line_text (command_reply settings (command_of t.line) t.outcomes held)
+    else line_text (command_reply settings (command_of t.line) t.outcomes t.answer held)
 
 abbrev pub after_line : StoreSettings → Turn → Held → Held
 after_line settings t held =
@@ -193,11 +211,11 @@ after_line settings t held =
     else if is_blank t.line then held
     else after_command settings (command_of t.line) t.left held
 
-abbrev pub MayBe : StoreSettings → Turn → Held → Type 0
-MayBe settings t held =
+abbrev pub MayBe : Type 0 → StoreSettings → Turn → Held → Type 0
+MayBe honest settings t held =
     MatchBool (is_long t.line) ⊤ (
     MatchBool (is_blank t.line) ⊤ (
-    CommandMayBe settings (command_of t.line) t.outcomes t.left held))
+    CommandMayBe honest settings (command_of t.line) t.outcomes t.left t.answer held))
 
 -- ---- the whole input
 
@@ -225,17 +243,21 @@ abbrev pub held_after : StoreSettings → Held → List Turn → Held
 held_after settings held [] = held
 held_after settings held (t ∷ turns) = held_after settings (after_line settings t held) turns
 
--- their flushes may end so
-abbrev pub MayBeFrom : StoreSettings → Held → List Turn → Type 0
-MayBeFrom settings held [] = ⊤
-MayBeFrom settings held (t ∷ turns) = MayBe settings t held × MayBeFrom settings (after_line settings t held) turns
+-- their flushes may end so, and their queries come to this
+abbrev pub MayBeFrom : Type 0 → StoreSettings → Held → List Turn → Type 0
+MayBeFrom honest settings held [] = ⊤
+MayBeFrom honest settings held (t ∷ turns) = MayBe honest settings t held × MayBeFrom honest settings (after_line settings t held) turns
 
 abbrev pub lines_in : List Turn → List (List ℕ)
 lines_in = map (λ t. t.line)
 
--- how many uploads failed
+-- how many uploads and queries failed at a line
+abbrev pub failed_at : List Outcome → Answer → ℕ
+failed_at outcomes answer = failed_among outcomes + failed_of answer
+
+-- and in all
 abbrev pub failed_in : List Turn → ℕ
-failed_in = sum_by (λ t. failed_among t.outcomes)
+failed_in = sum_by (λ t. failed_at t.outcomes t.answer)
 
 -- the answers to the lines of a run
 abbrev pub answers_of : StoreSettings → List Turn → List ℕ

@@ -15,7 +15,16 @@ text_of d = ok_or (as_str d) BadCommand
 abbrev pub text_at : List ℕ → Data → Result (List ℕ) LineFault
 text_at name d = ok_or (option_and_then as_str (get name d)) BadCommand
 
--- the same, an array
+-- the text that a value is; where there is none, this
+abbrev pub text_of_or : List ℕ → Option Data → Result (List ℕ) LineFault
+text_of_or absent None = Ok absent
+text_of_or absent (Some d) = text_of d
+
+-- the member of this name, a text, which may be absent
+abbrev pub text_or : List ℕ → List ℕ → Data → Result (List ℕ) LineFault
+text_or name absent d = text_of_or absent (get name d)
+
+-- the same as `text_at`, an array
 abbrev pub array_at : List ℕ → Data → Result Items LineFault
 array_at name d = ok_or (option_and_then as_array (get name d)) BadCommand
 

@@ -8,6 +8,8 @@ use Rattle.ing_session.specs.declared.command.push.texts.StreamTexts.{StreamText
 use Rattle.ing_session.specs.declared.command.push.texts.ValueTexts.{ValueTexts}
 use Rattle.ing_session.specs.declared.command.flush.Flush as flush
 use Rattle.ing_session.specs.declared.command.gauges.GaugesOf.{GaugesOf}
+use Rattle.ing_session.specs.declared.command.query.Query as query
+use Rattle.ing_session.specs.declared.command.query.QueryTexts.{QueryTexts}
 use Rattle.ing_session.specs.declared.command.sweep.Sweep as sweep
 use Rattle.ing_session.specs.declared.command.Command as code
 use Rattle.ing_session.specs.declared.command.Command.TheVariants as variants
@@ -17,12 +19,13 @@ use Rattle.ing_session.specs.declared.reply.StreamReply.{StreamReply}
 use Rattle.ing_session.specs.declared.reply.StreamReply.TheVariants as replies_of_streams
 use Rattle.ing_labels.specs.Canonical.{canonical_of}
 use Rattle.serde_json.specs.Data.{Data}
-use Rattle.ing_session.specs.Replies.{fault_data, judged_data, push_data, sweep_data, flush_data, gauges_data, report_data}
+use Rattle.ing_session.specs.Replies.{fault_data, judged_data, push_data, sweep_data, flush_data, gauges_data, query_data, report_data}
 use Rattle.ing_session.specs.PushCommands.{RawValue, RawStream, RawPush, PushCommand, StreamEntries}
 use Rattle.ing_session.specs.SweepCommands.{SweepCommand}
 use Rattle.ing_session.specs.FlushCommands.{FlushCommand}
 use Rattle.ing_session.specs.GaugesCommands.{GaugesCommand}
-use Rattle.ing_session.specs.Commands.{Command, Push, Sweep, Flush, Gauges}
+use Rattle.ing_session.specs.QueryCommands.{RawQuery, QueryCommand}
+use Rattle.ing_session.specs.Commands.{Command, Push, Sweep, Flush, Gauges, Query}
 
 -- the bytes of a label and its value
 abbrev pub label_view : Bor (List ℕ) × Bor (List ℕ) → List ℕ × List ℕ
@@ -60,12 +63,21 @@ flush_view f = record { forced = f.forced }
 abbrev pub gauges_view : GaugesOf → GaugesCommand
 gauges_view g = record { tenant = g.tenant }
 
+-- the texts of a query
+abbrev pub query_texts : QueryTexts → RawQuery
+query_texts q = record { tenant = q.tenant.now; text = q.text.now; start = q.start.now; end = q.end.now; limit = q.limit; order = q.order }
+
+-- a query
+abbrev pub query_view : query.Query → QueryCommand
+query_view q = record { tenant = q.tenant; text = q.text.now; start = q.start; end = q.end; limit = q.limit; order = q.order }
+
 -- a command
 abbrev pub command_view : code.Command → Command
 command_view (variants.Push p) = Push (push_view p)
 command_view (variants.Sweep s) = Sweep (sweep_view s)
 command_view (variants.Flush f) = Flush (flush_view f)
 command_view (variants.Gauges g) = Gauges (gauges_view g)
+command_view (variants.Query q) = Query (query_view q)
 
 -- the reply to a stream
 abbrev pub stream_data : StreamReply → Data
@@ -79,4 +91,6 @@ reply_data (replies.Push streams) = push_data (map stream_data streams.items)
 reply_data (replies.Sweep queued sealed) = sweep_data queued sealed
 reply_data (replies.Flush failed sealed stored) = flush_data failed sealed stored
 reply_data (replies.Gauges gauges) = gauges_data (gauges ∷ [])
+reply_data (replies.Refused refusal at) = fault_data refusal at
+reply_data (replies.Query found front) = query_data found.items (front ∷ [])
 reply_data (replies.Report shard) = report_data (shard ∷ [])

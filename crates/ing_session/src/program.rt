@@ -1,5 +1,5 @@
 //! The program but for its handles: from argument words and a settings file to a run, and from a run to the program's end.
-ghost use Rattle.std.specs.Prelude.{◌≡◌, ◌≢◌, ◌↔◌, ◌<◌, ◌⊎◌, List, ℕ, IfOk, IfErr, OnOk, OnErr, IsErrOf, IfSome, Ok, Err, None, map, length};
+ghost use Rattle.std.specs.Prelude.{◌≡◌, ◌≢◌, ◌↔◌, ◌<◌, ◌⊎◌, List, ℕ, IfOk, IfErr, OnOk, OnErr, IsErrOf, IfSome, Ok, Err, None, map, length, ⊤};
 ghost use Rattle.std.specs.Io.KnownBytes.{Appends};
 ghost use Rattle.std.specs.String.{string_bytes};
 ghost use Rattle.ing_limits.specs.Settings.{StoreSettings};
@@ -34,7 +34,7 @@ pub fn start<F: Files + AllocGlobal + Wait, R: Read, W: Write>(
     ensures output { OnOk result (IfSome (R.remaining reader.old) (λ input.
         (file : List ℕ) × NamesFile (map string_bytes words.now) file
         × (settings : StoreSettings) × (started_by file ≡ Ok settings)
-        × AnswersAll settings input 0 0 (W.contents writer.old) (W.contents writer.new))) }
+        × AnswersAll ⊤ settings input 0 0 (W.contents writer.old) (W.contents writer.new))) }
     ensures refused { IfErr result (λ e. IfSome (refusal_of e) (λ refusal.
         (file : List ℕ) × NamesFile (map string_bytes words.now) file × (started_by file ≡ Err refusal))) }
     ensures words { IsErrOf result Ending.BadArguments ↔ (1 < length words.now) }
@@ -83,17 +83,17 @@ pub fn start_on<T: AllocGlobal + Wait, R: Read, W: Write>(
 ) -> Result<(), Ending>
     ensures output { OnOk result (IfSome (R.remaining reader.old) (λ input.
         (settings : StoreSettings) × (started_by file.now ≡ Ok settings)
-        × AnswersAll settings input 0 0 (W.contents writer.old) (W.contents writer.new))) }
+        × AnswersAll ⊤ settings input 0 0 (W.contents writer.old) (W.contents writer.new))) }
     ensures refused { IfErr result (λ e. IfSome (refusal_of e) (λ refusal.
         started_by file.now ≡ Err refusal)) }
     ensures input_fault { IsErrOf result Ending.InputFault → IfSome (R.remaining reader.old) (λ input.
         (settings : StoreSettings) × (started_by file.now ≡ Ok settings)
-        × AnswersWhatWasRead settings input (R.remaining reader.new) 0 0
+        × AnswersWhatWasRead ⊤ settings input (R.remaining reader.new) 0 0
         (W.contents writer.old) (W.contents writer.new)) }
     ensures no_memory { IsErrOf result Ending.NoMemory → (writer.new ≡ writer.old)
         ⊎ IfSome (R.remaining reader.old) (λ input.
         (settings : StoreSettings) × (started_by file.now ≡ Ok settings)
-        × AnswersFirstLines settings input 0 0 (W.contents writer.old) (W.contents writer.new)) }
+        × AnswersFirstLines ⊤ settings input 0 0 (W.contents writer.old) (W.contents writer.new)) }
     ensures begun { IsErrOf result Ending.OutputFault →
         (settings : StoreSettings) × (started_by file.now ≡ Ok settings) }
     ensures file_read { IfErr result (λ e. (e ≢ Ending.BadArguments) × (e ≢ Ending.NoSettings)) }

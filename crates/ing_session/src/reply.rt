@@ -1,19 +1,21 @@
 //! The replies, and the lines that they are written as.
-ghost use Rattle.std.specs.Prelude.{◌≡◌, ◌++◌, ◌∷◌, [], OnOk, OnErr, decimal, map};
-ghost use Rattle.ing_session.specs.Replies.{verdict_data, verdicts_data, fault_data, judged_data, push_data, sweep_data, flush_data, gauge_data, gauges_data, tenant_data, shard_data, report_data, line_text, count};
+ghost use Rattle.std.specs.Prelude.{◌≡◌, ◌++◌, ◌∷◌, [], OnOk, OnErr, codes, decimal, map};
+ghost use Rattle.ing_session.specs.Replies.{verdict_data, verdicts_data, fault_data, judged_data, push_data, sweep_data, flush_data, gauge_data, gauges_data, tenant_data, entry_data, query_data, shard_data, report_data, line_text, count};
 ghost use Rattle.ing_session.specs.Views.{stream_data, reply_data};
 ghost use Rattle.ing_session.specs.Written.{Adds, member_tokens, data_tokens, tokens_of_each};
-ghost use Rattle.serde_json.specs.Data.{string, object, no_members, member};
+ghost use Rattle.serde_json.specs.Data.{array, string, object, no_members, member};
+ghost use Rattle.serde_json.specs.View.{items_of};
 ghost use Rattle.ing_labels.specs.Canonical.{canonical_of};
 
 use ing_labels::Labels;
+use ing_parts::Found;
 use ing_refusals::Refusal;
 use ing_rows::{Gauge, Gauges, Verdict};
 use json::Writer;
 use std::alloc::{AllocError, Global};
 
 /// The reply to a line, or the report.
-#[derive(Debug, Drop)]
+#[derive(Drop)]
 pub enum Reply {
     /// The line is refused.
     Fault(Refusal),
@@ -32,6 +34,16 @@ pub enum Reply {
     },
     /// What the one shard counts of a tenant.
     Gauges(Gauges),
+    /// The text of a query is refused, with the place at fault where there is one.
+    Refused {
+        refusal: Refusal,
+        at: Option<usize>,
+    },
+    /// What a query gives, and how many entries the one shard had accepted.
+    Query {
+        found: Vec<Found>,
+        front: u64,
+    },
     /// What is reported of the one shard.
     Report(ShardReport),
 }
@@ -97,6 +109,8 @@ fn write_reply(alloc: Global, out: &mut Writer, reply: &Reply) -> Result<(), All
             stored,
         } => write_flush(out, *failed, *sealed, *stored),
         Reply::Gauges(gauges) => write_gauges(alloc, out, gauges),
+        Reply::Refused { refusal, at } => write_fault(out, *refusal, *at),
+        Reply::Query { found, front } => write_query(alloc, out, found, *front),
         Reply::Report(shard) => write_report(out, shard),
     }
 }
@@ -327,6 +341,78 @@ fn write_gauge(alloc: Global, out: &mut Writer, name: &str, gauge: &Gauge) -> Re
     out.begin_object()?;
     write_text(out, "bytes", bytes.as_str())?;
     write_count(out, "entries", gauge.entries)?;
+    out.end_object()?;
+    Ok(())
+}
+
+/// Writes what a query gives.
+fn write_query(
+    alloc: Global,
+    out: &mut Writer,
+    found: &[Found],
+    front: u64,
+) -> Result<(), AllocError>
+    ensures tokens { OnOk result
+        (Adds out.old out.new (data_tokens (query_data found.now (front ∷ [])))) }
+    ensures before { out.new.before ≡ out.old.before }
+{
+    out.begin_object()?;
+    out.key("query")?;
+    out.begin_object()?;
+    write_entries(alloc, out, found)?;
+    write_front(out, front)?;
+    out.end_object()?;
+    out.end_object()?;
+    Ok(())
+}
+
+/// Writes how many entries the one shard had accepted.
+fn write_front(out: &mut Writer, front: u64) -> Result<(), AllocError>
+    ensures tokens { OnOk result (Adds out.old out.new
+        (member_tokens (codes "fronts") (array (items_of (map count (front ∷ [])))))) }
+    ensures before { out.new.before ≡ out.old.before }
+{
+    out.key("fronts")?;
+    out.begin_array()?;
+    out.u64(front)?;
+    out.end_array()?;
+    Ok(())
+}
+
+/// Writes the entries that a query gives.
+fn write_entries(alloc: Global, out: &mut Writer, found: &[Found]) -> Result<(), AllocError>
+    ensures tokens { OnOk result (Adds out.old out.new
+        (member_tokens (codes "entries") (array (items_of (map entry_data found.now))))) }
+    ensures before { out.new.before ≡ out.old.before }
+{
+    out.key("entries")?;
+    out.begin_array()?;
+    write_each_entry(alloc, out, found)?;
+    out.end_array()?;
+    Ok(())
+}
+
+fn write_each_entry(alloc: Global, out: &mut Writer, found: &[Found]) -> Result<(), AllocError>
+    ensures tokens { OnOk result (Adds out.old out.new
+        (tokens_of_each (map entry_data found.now))) }
+    ensures before { out.new.before ≡ out.old.before }
+{
+    for entry in found {
+        write_entry(alloc, out, entry)?;
+    }
+    Ok(())
+}
+
+/// Writes an entry that a query gives.
+fn write_entry(alloc: Global, out: &mut Writer, found: &Found) -> Result<(), AllocError>
+    ensures tokens { OnOk result (Adds out.old out.new (data_tokens (entry_data found.now))) }
+    ensures before { out.new.before ≡ out.old.before }
+{
+    let stamp = format!(in alloc; "{}", found.entry.stamp.nanoseconds())?;
+    out.begin_object()?;
+    write_text(out, "line", found.entry.line.as_str())?;
+    write_text(out, "stamp", stamp.as_str())?;
+    write_text(out, "stream", found.name.as_str())?;
     out.end_object()?;
     Ok(())
 }

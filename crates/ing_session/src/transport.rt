@@ -33,14 +33,14 @@ pub fn run<R: Read, W: Write, S: StoreEnd>(
     // What is written is, line for line, what the model answers to the lines read, by how the uploads ended; and none failed
     // without a cause.
     ensures output { OnOk result (IfSome (R.remaining reader.old) (λ input.
-        AnswersAll settings input (S.failure_count end.old) (S.failure_count end.new)
+        AnswersAll S.is_honest settings input (S.failure_count end.old) (S.failure_count end.new)
         (W.contents writer.old) (W.contents writer.new))) }
     ensures input_fault { IsErrOf result Ending.InputFault → IfSome (R.remaining reader.old) (λ input.
-        AnswersWhatWasRead settings input (R.remaining reader.new)
+        AnswersWhatWasRead S.is_honest settings input (R.remaining reader.new)
         (S.failure_count end.old) (S.failure_count end.new)
         (W.contents writer.old) (W.contents writer.new)) }
     ensures no_memory { IsErrOf result Ending.NoMemory → IfSome (R.remaining reader.old) (λ input.
-        AnswersFirstLines settings input (S.failure_count end.old) (S.failure_count end.new)
+        AnswersFirstLines S.is_honest settings input (S.failure_count end.old) (S.failure_count end.new)
         (W.contents writer.old) (W.contents writer.new)) }
     ensures end { GoesOn S.never_fails S.failure_count end.old end.new }
     ensures ending { IfErr result (λ e. IsTrue (is_of_run e)) }
@@ -65,14 +65,14 @@ fn answer_all<R: Read, W: Write, S: StoreEnd>(
 ) -> Result<(), Ending>
     requires { replies.old.items ≡ [] }
     ensures output { OnOk result (IfSome (R.remaining reader.old) (λ input.
-        AnswersAll settings input (S.failure_count end.old) (S.failure_count end.new)
+        AnswersAll S.is_honest settings input (S.failure_count end.old) (S.failure_count end.new)
         (W.contents writer.old) (with_replies (W.contents writer.new) replies.new.items))) }
     ensures input_fault { IsErrOf result Ending.InputFault → IfSome (R.remaining reader.old) (λ input.
-        AnswersWhatWasRead settings input (R.remaining reader.new)
+        AnswersWhatWasRead S.is_honest settings input (R.remaining reader.new)
         (S.failure_count end.old) (S.failure_count end.new)
         (W.contents writer.old) (with_replies (W.contents writer.new) replies.new.items)) }
     ensures no_memory { IsErrOf result Ending.NoMemory → IfSome (R.remaining reader.old) (λ input.
-        AnswersFirstLines settings input (S.failure_count end.old) (S.failure_count end.new)
+        AnswersFirstLines S.is_honest settings input (S.failure_count end.old) (S.failure_count end.new)
         (W.contents writer.old) (with_replies (W.contents writer.new) replies.new.items)) }
     ensures end { GoesOn S.never_fails S.failure_count end.old end.new }
     ensures ending { IfErr result (λ e. IsTrue (is_of_run e)) }
@@ -107,28 +107,28 @@ fn serve<R: Read, W: Write, S: StoreEnd>(
 ) -> Result<bool, Ending>
     ensures served { IfOk result (λ more.
         (first : Option (List ℕ)) (before : ℕ) (settings : StoreSettings) (input : List ℕ) →
-        ServesKnown settings session.old input before (S.failure_count end.old) first
+        ServesKnown S.is_honest settings session.old input before (S.failure_count end.old) first
         (with_replies (W.contents writer.old) replies.old.items) (is_ended lines.old)
         (left lines.old (R.remaining reader.old)) →
         MatchBool more
-        (ServesKnown settings session.new input before (S.failure_count end.new) first
+        (ServesKnown S.is_honest settings session.new input before (S.failure_count end.new) first
         (with_replies (W.contents writer.new) replies.new.items) (is_ended lines.new)
         (left lines.new (R.remaining reader.new)))
-        (AnswersAll settings input before (S.failure_count end.new) first
+        (AnswersAll S.is_honest settings input before (S.failure_count end.new) first
         (with_replies (W.contents writer.new) replies.new.items))) }
     ensures input_fault { IsErrOf result Ending.InputFault →
         (first : Option (List ℕ)) (before : ℕ) (settings : StoreSettings) (input : List ℕ) →
-        ServesKnown settings session.old input before (S.failure_count end.old) first
+        ServesKnown S.is_honest settings session.old input before (S.failure_count end.old) first
         (with_replies (W.contents writer.old) replies.old.items) (is_ended lines.old)
         (left lines.old (R.remaining reader.old)) →
-        AnswersWhatWasRead settings input (R.remaining reader.new) before (S.failure_count end.new)
+        AnswersWhatWasRead S.is_honest settings input (R.remaining reader.new) before (S.failure_count end.new)
         first (with_replies (W.contents writer.new) replies.new.items) }
     ensures no_memory { IsErrOf result Ending.NoMemory →
         (first : Option (List ℕ)) (before : ℕ) (settings : StoreSettings) (input : List ℕ) →
-        ServesKnown settings session.old input before (S.failure_count end.old) first
+        ServesKnown S.is_honest settings session.old input before (S.failure_count end.old) first
         (with_replies (W.contents writer.old) replies.old.items) (is_ended lines.old)
         (left lines.old (R.remaining reader.old)) →
-        AnswersFirstLines settings input before (S.failure_count end.new) first
+        AnswersFirstLines S.is_honest settings input before (S.failure_count end.new) first
         (with_replies (W.contents writer.new) replies.new.items) }
     ensures progress { IfOk result (λ more. more ≡ true → progress lines.old < progress lines.new) }
     ensures end { GoesOn S.never_fails S.failure_count end.old end.new }

@@ -1,13 +1,17 @@
 //! Which lines are blank, and the replies to what is refused.
 ghost use Rattle.std.specs.Prelude.{◌≡◌, IfOk, IsErr, None};
+ghost use Rattle.ing_labels.specs.TextFaults.{text_fault_place, text_refusal_of};
 ghost use Rattle.ing_shard.specs.Faults.{refusal_of as push_refusal};
+ghost use Rattle.ing_session.specs.Faults.{query_refusal};
 ghost use Rattle.ing_session.specs.Replies.{fault_data};
 ghost use Rattle.ing_session.specs.Session.{is_blank, label_fault, limits_of, line_fault};
 ghost use Rattle.ing_session.specs.Views.{reply_data, stream_data};
 
 use crate::command::LineFault;
 use crate::reply::{Reply, StreamReply};
-use ing_labels::{LabelFault, LabelLimits};
+use ing_labels::{LabelFault, LabelLimits, TextFault};
+use ing_query::QueryFault;
+use ing_refusals::Refusal;
 use ing_rows::Rules;
 use ing_shard::PushFault;
 use std::alloc::AllocError;
@@ -68,4 +72,30 @@ pub(super) fn push_fault(fault: PushFault) -> Result<StreamReply, AllocError>
         refusal: fault.refusal(),
         at: None,
     })
+}
+
+/// The reply to a query whose text is refused.
+pub(super) fn selector_fault(fault: TextFault) -> Result<Reply, AllocError>
+    ensures reply { IfOk result (λ reply. reply_data reply ≡ fault_data (text_refusal_of fault) (text_fault_place fault)) }
+    ensures memory { fault ≡ TextFault.NoMemory → IsErr result }
+{
+    if fault == TextFault::NoMemory {
+        return Err(AllocError);
+    }
+    Ok(Reply::Refused {
+        refusal: fault.refusal(),
+        at: fault.at(),
+    })
+}
+
+/// The reply to a query that the store does not let answer.
+pub(super) fn query_fault(fault: QueryFault) -> Result<Reply, AllocError>
+    ensures reply { IfOk result (λ reply. reply_data reply ≡ fault_data (query_refusal fault) None) }
+    ensures memory { fault ≡ QueryFault.NoMemory → IsErr result }
+{
+    match fault {
+        QueryFault::NoMemory => Err(AllocError),
+        QueryFault::StoreFault { .. } => Ok(Reply::Fault(Refusal::StoreFault)),
+        QueryFault::BadObject { .. } => Ok(Reply::Fault(Refusal::BadObject)),
+    }
 }

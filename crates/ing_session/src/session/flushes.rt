@@ -33,7 +33,7 @@ impl<R: Receipt> Session<R> {
         flush: Flush,
     ) -> Result<Reply, AllocError>
         ensures obeyed { IfOk result (λ reply. (old : Held) → IsHeld self.old old →
-            Obeys self.old.shard.settings (Ok (commands.Flush (flush_view flush))) old self.new
+            Obeys S.is_honest self.old.shard.settings (Ok (commands.Flush (flush_view flush))) old self.new
             (S.failure_count end.old) (S.failure_count end.new) (reply_data reply)) }
         ensures settings { self.new.shard.settings ≡ self.old.shard.settings }
         ensures end { GoesOn S.never_fails S.failure_count end.old end.new }

@@ -1,4 +1,5 @@
 use Rattle.std.proofs.Common.{◌≡◌, ap, inr, ◌∙◌, Ok}
+use Rattle.std.specs.Prelude.{⊤}
 use Rattle.std.proofs.lemmas.Result.{on_ok_weaker}
 use Rattle.ing_limits.specs.Settings.{StoreSettings}
 use Rattle.ing_session.specs.Runs.{AnswersAll, AnswersWhatWasRead, AnswersFirstLines}
@@ -18,10 +19,10 @@ returns-clause-output g c =
     let sure = c.run.ensures.end.1 (ap (λ end. end.fuse) c.end-end.ensures) in
     on_ok_weaker c.run.result
     (λ output. if_some_then
-    (λ input. AnswersAll settings input first last old new)
-    (λ input. (x : StoreSettings) × (started_by c.args.file.now ≡ Ok x) × AnswersAll x input 0 0 old new)
+    (λ input. AnswersAll ⊤ settings input first last old new)
+    (λ input. (x : StoreSettings) × (started_by c.args.file.now ≡ Ok x) × AnswersAll ⊤ x input 0 0 old new)
     (g.R.Read.remaining c.args.reader.now)
-    (λ input answers. (settings, c.in_ok-settings.ensures.settings, at_zero (λ a b. AnswersAll settings input a b old new) first last fresh (sure.1 ∙ fresh) answers))
+    (λ input answers. (settings, c.in_ok-settings.ensures.settings, at_zero (λ a b. AnswersAll ⊤ settings input a b old new) first last fresh (sure.1 ∙ fresh) answers))
     output)
     c.run.ensures.output
 
@@ -35,10 +36,10 @@ returns-clause-input_fault g c = λ is.
     let fresh : first ≡ 0 = ap (λ end. end.failures) c.end-end.ensures in
     let sure = c.run.ensures.end.1 (ap (λ end. end.fuse) c.end-end.ensures) in
     if_some_then
-    (λ input. AnswersWhatWasRead settings input (g.R.Read.remaining c.run.new.reader) first last old new)
-    (λ input. (x : StoreSettings) × (started_by c.args.file.now ≡ Ok x) × AnswersWhatWasRead x input (g.R.Read.remaining c.run.new.reader) 0 0 old new)
+    (λ input. AnswersWhatWasRead ⊤ settings input (g.R.Read.remaining c.run.new.reader) first last old new)
+    (λ input. (x : StoreSettings) × (started_by c.args.file.now ≡ Ok x) × AnswersWhatWasRead ⊤ x input (g.R.Read.remaining c.run.new.reader) 0 0 old new)
     (g.R.Read.remaining c.args.reader.now)
-    (λ input answers. (settings, c.in_ok-settings.ensures.settings, at_zero (λ a b. AnswersWhatWasRead settings input (g.R.Read.remaining c.run.new.reader) a b old new) first last fresh (sure.1 ∙ fresh) answers))
+    (λ input answers. (settings, c.in_ok-settings.ensures.settings, at_zero (λ a b. AnswersWhatWasRead ⊤ settings input (g.R.Read.remaining c.run.new.reader) a b old new) first last fresh (sure.1 ∙ fresh) answers))
     (c.run.ensures.input_fault is)
 
 pub returns-clause-no_memory : goal.returns-clause-no_memory
@@ -51,8 +52,8 @@ returns-clause-no_memory g c = λ is.
     let fresh : first ≡ 0 = ap (λ end. end.failures) c.end-end.ensures in
     let sure = c.run.ensures.end.1 (ap (λ end. end.fuse) c.end-end.ensures) in
     inr (if_some_then
-    (λ input. AnswersFirstLines settings input first last old new)
-    (λ input. (x : StoreSettings) × (started_by c.args.file.now ≡ Ok x) × AnswersFirstLines x input 0 0 old new)
+    (λ input. AnswersFirstLines ⊤ settings input first last old new)
+    (λ input. (x : StoreSettings) × (started_by c.args.file.now ≡ Ok x) × AnswersFirstLines ⊤ x input 0 0 old new)
     (g.R.Read.remaining c.args.reader.now)
-    (λ input answers. (settings, c.in_ok-settings.ensures.settings, at_zero (λ a b. AnswersFirstLines settings input a b old new) first last fresh (sure.1 ∙ fresh) answers))
+    (λ input answers. (settings, c.in_ok-settings.ensures.settings, at_zero (λ a b. AnswersFirstLines ⊤ settings input a b old new) first last fresh (sure.1 ∙ fresh) answers))
     (c.run.ensures.no_memory is))

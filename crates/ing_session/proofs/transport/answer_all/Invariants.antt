@@ -11,7 +11,7 @@ invariant-loop-line g l =
     let failures = g.S.StoreEnd.failure_count in
     record {
       served : IfSome (g.R.Read.remaining l.fn.reader) (λ input.
-          ServesKnown l.fn.settings l.session input (failures l.fn.end) (failures l.end) (g.W.Write.contents l.fn.writer) (with_replies (g.W.Write.contents l.writer) l.replies.items)
+          ServesKnown g.S.StoreEnd.is_honest l.fn.settings l.session input (failures l.fn.end) (failures l.end) (g.W.Write.contents l.fn.writer) (with_replies (g.W.Write.contents l.writer) l.replies.items)
           (is_ended l.lines) (left l.lines (g.R.Read.remaining l.reader)));
       end : GoesOn g.S.StoreEnd.never_fails failures l.fn.end l.end;
     }

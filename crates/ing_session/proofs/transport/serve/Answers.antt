@@ -10,28 +10,28 @@ pub returns-in_err-next_line-clause-no_memory : goal.returns-in_err-next_line-cl
 returns-in_err-next_line-clause-no_memory g c = λ is first start settings input serves.
     let failures = g.S.StoreEnd.failure_count in
     let p = err_from_is_err_and c.from_residual.result c.from_residual.ensures.1 in
-    stops settings c.args.session.now input start (failures c.args.end.now) (failures c.args.end.now) first _ (is_ended c.args.lines.now) (left c.args.lines.now (g.R.Read.remaining c.args.reader.now)) _ serves
+    stops g.S.StoreEnd.is_honest settings c.args.session.now input start (failures c.args.end.now) (failures c.args.end.now) first _ (is_ended c.args.lines.now) (left c.args.lines.now (g.R.Read.remaining c.args.reader.now)) _ serves
     (c.in_err-next_line.ensures.kept (no_output _ _ _ p.1 p.2 is)) (omega arith)
 
 pub returns-in_err-answer-in-Line-clause-no_memory : goal.returns-in_err-answer-in-Line-clause-no_memory
 returns-in_err-answer-in-Line-clause-no_memory g c = λ is first start settings input serves.
     let contents = g.W.Write.contents in
     let failures = g.S.StoreEnd.failure_count in
-    stops settings c.args.session.now input start (failures c.args.end.now) (failures c.answer.new.end) first _ (is_ended c.args.lines.now) (left c.args.lines.now (g.R.Read.remaining c.args.reader.now)) _ serves
+    stops g.S.StoreEnd.is_honest settings c.args.session.now input start (failures c.args.end.now) (failures c.answer.new.end) first _ (is_ended c.args.lines.now) (left c.args.lines.now (g.R.Read.remaining c.args.reader.now)) _ serves
     (held_same _ (contents c.next_line.new.writer) c.next_line.new.replies.items c.answer.new.replies.items c.in_ok-next_line.ensures.held c.in_err-answer-in-Line.ensures.err) c.in_err-answer-in-Line.ensures.end.0
 
 pub returns-in_err-refuse_long-in-TooLong-clause-no_memory : goal.returns-in_err-refuse_long-in-TooLong-clause-no_memory
 returns-in_err-refuse_long-in-TooLong-clause-no_memory g c = λ is first start settings input serves.
     let contents = g.W.Write.contents in
     let failures = g.S.StoreEnd.failure_count in
-    stops settings c.args.session.now input start (failures c.args.end.now) (failures c.args.end.now) first _ (is_ended c.args.lines.now) (left c.args.lines.now (g.R.Read.remaining c.args.reader.now)) _ serves
+    stops g.S.StoreEnd.is_honest settings c.args.session.now input start (failures c.args.end.now) (failures c.args.end.now) first _ (is_ended c.args.lines.now) (left c.args.lines.now (g.R.Read.remaining c.args.reader.now)) _ serves
     (held_same _ (contents c.next_line.new.writer) c.next_line.new.replies.items c.refuse_long.new.replies.items c.in_ok-next_line.ensures.held c.in_err-refuse_long-in-TooLong.ensures.err) (omega arith)
 
 pub returns-in_err-report-in-End-clause-no_memory : goal.returns-in_err-report-in-End-clause-no_memory
 returns-in_err-report-in-End-clause-no_memory g c = λ is first start settings input serves.
     let contents = g.W.Write.contents in
     let failures = g.S.StoreEnd.failure_count in
-    stops settings c.args.session.now input start (failures c.args.end.now) (failures c.args.end.now) first _ (is_ended c.args.lines.now) (left c.args.lines.now (g.R.Read.remaining c.args.reader.now)) _ serves
+    stops g.S.StoreEnd.is_honest settings c.args.session.now input start (failures c.args.end.now) (failures c.args.end.now) first _ (is_ended c.args.lines.now) (left c.args.lines.now (g.R.Read.remaining c.args.reader.now)) _ serves
     (held_same _ (contents c.next_line.new.writer) c.next_line.new.replies.items c.report.new.replies.items c.in_ok-next_line.ensures.held c.in_err-report-in-End.ensures.err) (omega arith)
 
 pub returns-in_ok-answer-in-Line-clause-served : goal.returns-in_ok-answer-in-Line-clause-served
@@ -45,10 +45,10 @@ returns-in_ok-answer-in-Line-clause-served g c = λ first start settings input s
     let after = c.answer.new.replies.items in
     let answered = c.in_ok-answer-in-Line.ensures in
     let session = c.args.session.now in
-    serves_line settings session c.answer.new.self input start (failures c.args.end.now) (failures c.answer.new.end) first (contents c.args.writer.now) (contents c.next_line.new.writer) c.args.replies.now.items before after line
+    serves_line g.S.StoreEnd.is_honest settings session c.answer.new.self input start (failures c.args.end.now) (failures c.answer.new.end) first (contents c.args.writer.now) (contents c.next_line.new.writer) c.args.replies.now.items before after line
     (is_ended c.args.lines.now) (is_ended c.next_line.new.lines) (left c.args.lines.now (remaining c.args.reader.now)) (left c.next_line.new.lines (remaining c.next_line.new.reader)) serves
     (rw c.in-Line.is at c.in_ok-next_line.ensures.line) c.in_ok-next_line.ensures.held
-    (λ old is_held. subst (λ l. Answers session.shard.settings l old c.answer.new.self (failures c.args.end.now) (failures c.answer.new.end) before after) same (answered.answered old is_held))
+    (λ old is_held. subst (λ l. Answers g.S.StoreEnd.is_honest session.shard.settings l old c.answer.new.self (failures c.args.end.now) (failures c.answer.new.end) before after) same (answered.answered old is_held))
     answered.settings
 
 pub returns-in_ok-refuse_long-in-TooLong-clause-served : goal.returns-in_ok-refuse_long-in-TooLong-clause-served
@@ -56,7 +56,7 @@ returns-in_ok-refuse_long-in-TooLong-clause-served g c = λ first start settings
     let contents = g.W.Write.contents in
     let remaining = g.R.Read.remaining in
     let failures = g.S.StoreEnd.failure_count c.args.end.now in
-    serves_long settings c.args.session.now c.args.session.now input start failures failures first (contents c.args.writer.now) (contents c.next_line.new.writer) c.args.replies.now.items c.next_line.new.replies.items c.refuse_long.new.replies.items c.next_line.new.line.items
+    serves_long g.S.StoreEnd.is_honest settings c.args.session.now c.args.session.now input start failures failures first (contents c.args.writer.now) (contents c.next_line.new.writer) c.args.replies.now.items c.next_line.new.replies.items c.refuse_long.new.replies.items c.next_line.new.line.items
     (is_ended c.args.lines.now) (is_ended c.next_line.new.lines) (left c.args.lines.now (remaining c.args.reader.now)) (left c.next_line.new.lines (remaining c.next_line.new.reader)) serves
     (rw c.in-TooLong.is at c.in_ok-next_line.ensures.line) c.in_ok-next_line.ensures.held c.in_ok-refuse_long-in-TooLong.ensures.text
 
@@ -65,6 +65,6 @@ returns-in_ok-report-in-End-clause-served g c = λ first start settings input se
     let contents = g.W.Write.contents in
     let remaining = g.R.Read.remaining in
     let failures = g.S.StoreEnd.failure_count c.args.end.now in
-    serves_end settings c.args.session.now c.args.session.now input start failures failures first (contents c.args.writer.now) (contents c.next_line.new.writer) c.args.replies.now.items c.next_line.new.replies.items c.report.new.replies.items c.next_line.new.line.items
+    serves_end g.S.StoreEnd.is_honest settings c.args.session.now c.args.session.now input start failures failures first (contents c.args.writer.now) (contents c.next_line.new.writer) c.args.replies.now.items c.next_line.new.replies.items c.report.new.replies.items c.next_line.new.line.items
     (is_ended c.args.lines.now) (is_ended c.next_line.new.lines) (left c.args.lines.now (remaining c.args.reader.now)) (left c.next_line.new.lines (remaining c.next_line.new.reader)) serves
     (rw c.in-End.is at c.in_ok-next_line.ensures.line) c.in_ok-next_line.ensures.held c.in_ok-report-in-End.ensures.text

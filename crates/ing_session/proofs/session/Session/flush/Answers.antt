@@ -13,7 +13,7 @@ returns-clause-obeyed g c = λ old is_held.
     let uploads = c.in_ok-uploads.uploads in
     let flush = flush_view c.args.flush in
     let mid = c.if-flush.self in
-    let obeyed = obeys_flush settings old c.work_off.new.self mid.shard.settings flush in
+    let obeyed = obeys_flush g.S.StoreEnd.is_honest settings old c.work_off.new.self mid.shard.settings flush in
     elim c.if-flush.branch [
       | then-flush+in_ok-sealed w ↦
           obeyed true (failures c.args.end.now) (failures c.work_off.new.end) uploads.failed c.if-flush.sealed uploads.stored

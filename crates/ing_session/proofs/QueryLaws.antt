@@ -1,0 +1,96 @@
+-- What a query comes to, from what its shard and its store gave.
+use Rattle.std.proofs.Common.{◌≡◌, ◌≢◌, ℕ, ◌≤◌, Bool, List, [], ◌∷◌, append-nil, zero-add, filter, map, arith, refl, subst, sym, ◌∙◌, None, Result, Ok, Err, inl, inr}
+use Rattle.std.specs.Prelude.{IfOk, IsErr, IsPermutation}
+use Rattle.std.specs.declared.alloc.AllocError.{AllocError}
+use Rattle.std.proofs.lemmas.List.Concat.{flat_map-cons}
+use Rattle.std.proofs.lemmas.List.Sorted.{IsPermutation-map, IsPermutation-sym, IsPermutation-trans}
+use Rattle.serde_json.specs.Data.{Data}
+use Rattle.ing_labels.specs.TextFaults.{IsSelectorFault, text_fault_place, text_refusal_of}
+use Rattle.ing_labels.specs.declared.text_fault.TextFault.{TextFault}
+use Rattle.ing_labels.specs.declared.text_fault.TextFault.TheVariants as texts
+use Rattle.ing_limits.specs.Settings.{StoreSettings}
+use Rattle.ing_parts.specs.declared.found.Found.{Found}
+use Rattle.ing_parts.specs.declared.snapshot.Snapshot.{Snapshot}
+use Rattle.ing_parts.specs.Parts.{HasRows, found_at, wanted, within}
+use Rattle.ing_query.specs.Answers.{IsAnswer, wanted_in, wanted_of}
+use Rattle.ing_query.specs.Fetched.{Counts, NotBad}
+use Rattle.ing_query.specs.declared.fault.QueryFault.{QueryFault}
+use Rattle.ing_query.specs.declared.fault.QueryFault.TheVariants.{NoMemory, StoreFault, BadObject}
+use Rattle.ing_rows.specs.Rows.{Row, StreamKey}
+use Rattle.ing_store.specs.declared.store_end.Receipt.{Ghosts}
+use Rattle.ing_session.specs.declared.reply.Reply.{Reply}
+use Rattle.ing_session.specs.declared.session.Session.{Session}
+use Rattle.ing_session.specs.Commands.{Query}
+use Rattle.ing_session.specs.Faults.{query_refusal}
+use Rattle.ing_session.specs.Flushing.{HaveCause}
+use Rattle.ing_session.specs.Held.{Held, IsHeld}
+use Rattle.ing_session.specs.Queries.{Answer, Refused, Failed, Damaged, QueryMayBe, Reads, IsFound, failed_of}
+use Rattle.ing_session.specs.QueryCommands.{QueryCommand}
+use Rattle.ing_session.specs.Replies.{fault_data}
+use Rattle.ing_session.specs.Runs.{Obeys}
+use Rattle.ing_session.specs.Session.{query_reply}
+use Rattle.ing_session.specs.Views.{reply_data}
+use Rattle.ing_session.proofs.Reordered.{filter_reordered}
+use Rattle.ing_session.proofs.RunsLaws.{no_failure}
+
+-- what is wanted of one snapshot
+pub one_wanted : {R : Type 0} (s : Snapshot R) → wanted_in (s ∷ []) ≡ wanted s
+one_wanted s = flat_map-cons wanted_of s [] ∙ append-nil (wanted_of s)
+
+-- the answer from a snapshot is that of the rows
+pub is_found : {R : Type 0} (query : QueryCommand) (p : StreamKey → Bool) (mine rows : List Row) (s : Snapshot R) (found : List Found) → IsPermutation mine rows
+    → HasRows (filter (λ r. p r.stream) mine) s → s.start ≡ query.start → s.end ≡ query.end → IsAnswer query.order query.limit (wanted s) found
+    → IsFound query (filter (λ r. p r.stream) rows) found
+is_found query p mine rows s found same has first last answer =
+    let q = λ (r : Row). p r.stream in
+    record {
+      all = has.all;
+      same =
+          IsPermutation-trans (map found_at (filter q rows)) (map found_at (filter q mine)) has.all
+          (IsPermutation-map found_at (filter q rows) (filter q mine) (filter_reordered q rows mine (IsPermutation-sym mine rows same))) has.same;
+      answer =
+          subst (λ n. IsAnswer query.order query.limit (within query.start n has.all) found) last
+          (subst (λ n. IsAnswer query.order query.limit (within n s.end has.all) found) first
+          (subst (λ l. IsAnswer query.order query.limit l found) has.is answer));
+    }
+
+-- a fault of a query lets the count of failures not fall
+pub risen : (before after : ℕ) (fault : QueryFault) → Counts before after fault → before ≤ after
+risen before after NoMemory counted = counted
+risen before after (StoreFault key) counted = counted.0
+risen before after (BadObject key) counted = omega (arith, counted)
+
+module _ {R : Type 0} {g : Ghosts R} (honest : Type 0) (settings : StoreSettings) (query : QueryCommand) (session : Session R g) where
+  -- a query that came to this is obeyed
+  pub obeys_query : (old : Held) (answer : Answer) (before after : ℕ) (reply : Data) → IsHeld session old → QueryMayBe honest query answer old.state.rows
+      → reply ≡ query_reply answer old → HaveCause before after (failed_of answer) → Obeys honest settings (Ok (Query query)) old session before after reply
+  obeys_query old answer before after reply holds may_be told causes =
+      record {
+        outcomes = [];
+        left = old.state;
+        answer = answer;
+        may_be = (refl, may_be);
+        told = told;
+        causes = subst (HaveCause before after) (sym (zero-add (failed_of answer))) causes;
+        holds = holds;
+      }
+
+  -- its text is refused
+  pub refused : (n : ℕ) (fault : TextFault) (r : Result Reply AllocError) → IsSelectorFault query.text fault → (fault ≡ texts.NoMemory → IsErr r)
+      → IfOk r (λ reply. reply_data reply ≡ fault_data (text_refusal_of fault) (text_fault_place fault))
+      → IfOk r (λ reply. (old : Held) → IsHeld session old → Obeys honest settings (Ok (Query query)) old session n n (reply_data reply))
+  refused n fault (Err e) is memory told = tt
+  refused n fault (Ok reply) is memory told = λ old holds.
+      let other : fault ≢ texts.NoMemory = λ none. (let no = memory none in absurd cc) in
+      obeys_query old (Refused fault) n n (reply_data reply) holds (is, other) told (no_failure n)
+
+  -- the store does not let it be answered
+  pub not_answered : (before after : ℕ) (fault : QueryFault) (r : Result Reply AllocError) → Reads query.text → (honest → NotBad fault) → Counts before after fault
+      → (fault ≡ NoMemory → IsErr r) → IfOk r (λ reply. reply_data reply ≡ fault_data (query_refusal fault) None)
+      → IfOk r (λ reply. (old : Held) → IsHeld session old → Obeys honest settings (Ok (Query query)) old session before after (reply_data reply))
+  not_answered before after fault (Err e) reads good counted memory told = tt
+  not_answered before after NoMemory (Ok reply) reads good counted memory told = let no = memory refl in absurd cc
+  not_answered before after (StoreFault key) (Ok reply) reads good counted memory told = λ old holds.
+      obeys_query old Failed before after (reply_data reply) holds reads told (counted.0, inr counted.1)
+  not_answered before after (BadObject key) (Ok reply) reads good counted memory told = λ old holds.
+      obeys_query old Damaged before after (reply_data reply) holds (reads, good) told (omega (arith, counted), inl refl)
