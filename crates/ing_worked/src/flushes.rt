@@ -30,13 +30,13 @@ const TWO: Gauge = Gauge {
     bytes: 35,
 };
 
-const LIMITS: LabelLimits = LabelLimits {
+pub(crate) const LIMITS: LabelLimits = LabelLimits {
     names: 15,
     name_bytes: 1024,
     value_bytes: 2048,
 };
 
-fn stamp(nanoseconds: u64) -> Result<Stamp, Fail> {
+pub(crate) fn stamp(nanoseconds: u64) -> Result<Stamp, Fail> {
     Ok(Stamp::of_nanoseconds(nanoseconds).ok_or("a stamp")?)
 }
 
@@ -67,17 +67,25 @@ impl Two {
 
 /// A shard, and a tenant whose entries it has.
 #[derive(Drop)]
-struct Owned<'a> {
-    shard: Shard<MemoryReceipt<'a>>,
-    tenant: Tenant,
+pub(crate) struct Owned<'a> {
+    pub shard: Shard<MemoryReceipt<'a>>,
+    pub tenant: Tenant,
+    /// The number of the stream whose chunks are claimed.
+    pub stream: u64,
 }
 
 impl<'a> Owned<'a> {
     /// A shard without entries.
-    fn fresh(alloc: Global, number: u32, tenant: &str, settings: &str) -> Result<Owned<'a>, Fail> {
+    pub fn fresh(
+        alloc: Global,
+        number: u32,
+        tenant: &str,
+        settings: &str,
+    ) -> Result<Owned<'a>, Fail> {
         Ok(Owned {
             shard: Shard::fresh(alloc, Settings::from_toml(alloc, settings)?, number),
             tenant: Tenant::of_text(alloc, tenant)?,
+            stream: 0,
         })
     }
 
@@ -96,7 +104,18 @@ impl<'a> Owned<'a> {
             entries,
             now,
         } = two;
-        let pushed = self.shard.push(alloc, &self.tenant, &labels, entries, now)?;
+        self.push_entries(alloc, &labels, entries, now)
+    }
+
+    /// The verdicts on entries of a stream.
+    pub fn push_entries(
+        &mut self,
+        alloc: Global,
+        labels: &Labels,
+        entries: Vec<Entry>,
+        now: Stamp,
+    ) -> Result<Vec<Verdict>, PushFault> {
+        let pushed = self.shard.push(alloc, &self.tenant, labels, entries, now)?;
         Ok(pushed.verdicts)
     }
 
@@ -105,33 +124,45 @@ impl<'a> Owned<'a> {
         (self.shard.gauges(&self.tenant), self.shard.totals())
     }
 
-    /// Claims the oldest chunk of the first stream that waits.
+    /// Claims the oldest chunk of the stream that waits.
     fn try_claim(&mut self, rt: &impl Abort, alloc: Global) -> Result<Option<Ticket>, AllocError> {
         let before = self.counts();
-        match self.shard.claim(alloc, StreamNo::new(0)) {
+        let stream = StreamNo::new(self.stream);
+        match self.shard.claim(alloc, stream) {
             Ok(claimed) => Ok(claimed),
             Err(AllocError) => {
                 assert_eq!(rt; self.counts(), before);
-                self.shard.claim(alloc, StreamNo::new(0))
+                self.shard.claim(alloc, stream)
             }
         }
     }
 
-    /// Claims a chunk of a stream whose name is not too long.
-    fn claim(&mut self, rt: &impl Abort, alloc: Global) -> Result<Ticket, Fail>
-        ensures { IfOk result (λ ticket. length (canonical_of ticket.claimed.labels) < 2 ^ 32) }
+    /// Claims a chunk of a stream whose name is not too long, if one waits.
+    pub fn claim_any(&mut self, rt: &impl Abort, alloc: Global) -> Result<Option<Ticket>, Fail>
+        ensures { IfOk result (λ o. IfSome o (λ ticket.
+            length (canonical_of ticket.claimed.labels) < 2 ^ 32)) }
     {
         let Some(ticket) = self.try_claim(rt, alloc)? else {
-            return Err("a chunk that waits".into());
+            return Ok(None);
         };
         if ticket.claimed().labels().name().len() > 0xffff_ffff {
             self.give_back(ticket)?;
             return Err("a short name".into());
         }
-        Ok(ticket)
+        Ok(Some(ticket))
     }
 
-    /// Whether no chunk of the first stream waits.
+    /// Claims a chunk of a stream whose name is not too long.
+    pub fn claim(&mut self, rt: &impl Abort, alloc: Global) -> Result<Ticket, Fail>
+        ensures { IfOk result (λ ticket. length (canonical_of ticket.claimed.labels) < 2 ^ 32) }
+    {
+        match self.claim_any(rt, alloc)? {
+            Some(ticket) => Ok(ticket),
+            None => Err("a chunk that waits".into()),
+        }
+    }
+
+    /// Whether no chunk of the stream waits.
     fn claims_none(&mut self, rt: &impl Abort, alloc: Global) -> bool {
         match self.try_claim(rt, alloc) {
             Ok(None) => true,
@@ -143,7 +174,7 @@ impl<'a> Owned<'a> {
         }
     }
 
-    fn give_back(&mut self, ticket: Ticket) -> Result<(), Fail> {
+    pub fn give_back(&mut self, ticket: Ticket) -> Result<(), Fail> {
         match self.shard.give_back(ticket) {
             Ok(()) => Ok(()),
             Err(_) => Err("a chunk in flight".into()),
@@ -151,7 +182,7 @@ impl<'a> Owned<'a> {
     }
 
     /// Uploads the chunk of a ticket, and lists it as stored. Gives what was counted in between.
-    fn store<R: Wait>(
+    pub fn store<R: Wait>(
         &mut self,
         alloc: Global,
         end: &mut MemoryEnd<'a, R>,
@@ -176,7 +207,7 @@ impl<'a> Owned<'a> {
 }
 
 /// Uploads the chunk of a ticket. Counts refused memory, which may leave an object that no name leads to.
-fn upload<S: StoreEnd>(
+pub(crate) fn upload<S: StoreEnd>(
     alloc: Global,
     end: &mut S,
     ticket: &Ticket,

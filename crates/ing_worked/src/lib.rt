@@ -3,11 +3,15 @@
 #![tactic(auto)]
 
 #[cfg(test)]
+mod drawn_queries;
+#[cfg(test)]
 mod flushes;
 #[cfg(test)]
 mod labels;
 #[cfg(test)]
 mod postings;
+#[cfg(test)]
+mod queries;
 #[cfg(test)]
 mod settings;
 #[cfg(test)]

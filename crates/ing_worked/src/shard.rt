@@ -266,12 +266,12 @@ fn each_chunk_that_waits_has_an_operation(rt: HostRuntime) -> Result<(), Fail> {
 
 /// Numbers by lot, the same in each run (xorshift of 64 bits).
 #[derive(Drop)]
-struct Lots {
-    state: u64,
+pub(crate) struct Lots {
+    pub state: u64,
 }
 
 impl Lots {
-    fn draw(&mut self) -> u64 {
+    pub fn draw(&mut self) -> u64 {
         let mut state = self.state;
         state ^= state << 13;
         state ^= state >> 7;
