@@ -2,9 +2,10 @@
 # bench/pushes.sh PROGRAM
 #
 # What pushes, flushes and queries cost: feeds PROGRAM (ingestd) inputs that it makes in a folder of its own, and prints three
-# tables. Every entry must be accepted, stored where it is flushed, and found where it is asked for, or it stops. Processor time is user and system together, by /usr/bin/time where it is there and else by the
-# shell. Both count in hundredths of a second, so inputs below a million entries are run five times together, and the figure
-# is a fifth of the time; it is the least of three such. Peak memory is known by /usr/bin/time alone.
+# tables. Every entry must be accepted, stored where it is flushed, and found where it is asked for, or it stops. Processor
+# time is user and system together, by /usr/bin/time where it is there and else by the shell. Both count in hundredths of a
+# second, so inputs below a million entries are run five times together, those with queries twice, and the figure is a fifth
+# or a half of the time; it is the least of three such. Peak memory is known by /usr/bin/time alone.
 set -eu
 LC_ALL=C
 export LC_ALL
@@ -128,10 +129,12 @@ flush_row() {
     }'
 }
 
-# query_row memory|store|both SELECTOR QUERIES LIMIT: so many queries of the newest entries, one like the other, over 200,000
-# entries of 200 streams with lines of 120 bytes, which stand in memory, are flushed, or are half flushed. What pushes and
-# flushes take alone is taken off.
+# query_row memory|store|both PICKED QUERIES LIMIT: so many queries of the newest entries, one like the other, that pick 1 of 200
+# streams or all of them. Each stream has 1,000 entries, with lines of 120 bytes, which stand in memory, are flushed, or are half
+# flushed. What pushes and flushes take alone is taken off.
 query_row() {
+  selector='{app=\\\"web\\\"}'
+  [ "$2" = 200 ] || selector='{pod=\\\"p7\\\"}'
   make_input 200000 200 100 120 in >"$folder/pushes"
   head -n 1000 "$folder/pushes" >"$folder/input"
   [ "$1" = memory ] || echo '{"cmd":"flush"}' >>"$folder/input"
@@ -140,22 +143,22 @@ query_row() {
   rm "$folder/pushes"
   least "$folder/input" '1 2'
   push_seconds=$least_seconds
-  awk -v queries="$3" -v selector="$2" -v limit="$4" 'BEGIN {
+  awk -v queries="$3" -v selector="$selector" -v limit="$4" 'BEGIN {
     for (i = 0; i < queries; i++) printf "{\"cmd\":\"query\",\"tenant\":\"t\",\"query\":\"%s\",\"limit\":%d}\n", selector, limit
   }' >>"$folder/input"
   least "$folder/input" '1 2'
   rm "$folder/input"
+  there=$(($2 * 1000))
+  [ "$there" -le "$4" ] || there=$4
   found=$(grep '^{"query"' "$folder/out" | grep -o '"stream"' | wc -l)
-  wanted=$(($3 * $4))
-  [ "$2" = '{app=\\\"web\\\"}' ] || [ "$4" -lt 1000 ] || wanted=$(($3 * 1000))
-  if [ "$found" != "$wanted" ]; then
-    echo "$found entries found of $wanted: $*" >&2
+  if [ "$found" != "$(($3 * there))" ]; then
+    echo "$found entries found of $(($3 * there)): $*" >&2
     exit 1
   fi
-  awk -v place="$1" -v selector="$2" -v queries="$3" -v limit="$4" -v seconds="$least_seconds" -v pushes="$push_seconds" 'BEGIN {
+  awk -v place="$1" -v picked="$2" -v queries="$3" -v limit="$4" -v seconds="$least_seconds" -v pushes="$push_seconds" 'BEGIN {
       time = seconds - pushes
       a_second = time > 0 ? sprintf("%.0f", queries / time) : "-"
-      printf "| %s | %s | %d | %s | %.2f |\n", place, selector ~ /app/ ? 200 : 1, limit, a_second, time * 1000 / queries
+      printf "| %s | %d | %d | %s | %.2f |\n", place, picked, limit, a_second, time * 1000 / queries
     }'
 }
 
@@ -191,7 +194,7 @@ echo '| Queries over | streams picked of 200 | limit | queries a second | millis
 echo '|---|---|---|---|---|'
 for place in memory store both; do
   for limit in 100 5000; do
-    query_row "$place" '{pod=\\\"p7\\\"}' 200 "$limit"
-    query_row "$place" '{app=\\\"web\\\"}' 20 "$limit"
+    query_row "$place" 1 200 "$limit"
+    query_row "$place" 200 20 "$limit"
   done
 done

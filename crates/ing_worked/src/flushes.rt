@@ -174,6 +174,7 @@ impl<'a> Owned<'a> {
         }
     }
 
+    /// Lets the chunk of a ticket wait again.
     pub fn give_back(&mut self, ticket: Ticket) -> Result<(), Fail> {
         match self.shard.give_back(ticket) {
             Ok(()) => Ok(()),

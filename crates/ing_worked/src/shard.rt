@@ -271,6 +271,7 @@ pub(crate) struct Lots {
 }
 
 impl Lots {
+    /// The next number.
     pub fn draw(&mut self) -> u64 {
         let mut state = self.state;
         state ^= state << 13;
