@@ -1,5 +1,5 @@
 //! A stored chunk, fetched and checked.
-ghost use Rattle.std.specs.Prelude.{◌≡◌, IfOk, Ok};
+ghost use Rattle.std.specs.Prelude.{◌≡◌, ◌⊎◌, IfOk, Ok, true};
 ghost use Rattle.sha2.specs.Sha256.{sha256};
 ghost use Rattle.ing_codec.specs.ChunkObjects.{ChunkObject};
 ghost use Rattle.ing_codec.specs.ChunkReading.{read_chunk};
@@ -11,22 +11,26 @@ use ing_parts::Listing;
 use ing_store::{Receipt, StoreEnd, StoreFault};
 use std::alloc::Global;
 
-/// The chunk that bytes spell, where they are of this key.
-fn checked(alloc: Global, bytes: &[u8], key: &[u8; 32]) -> Result<StoredChunk, QueryFault>
+/// The chunk that bytes spell.
+fn spelt(alloc: Global, bytes: &[u8], key: &[u8; 32]) -> Result<StoredChunk, QueryFault>
     ensures value { IfOk result (λ chunk. read_chunk bytes.now ≡ Ok chunk) }
-    ensures good { key.now ≡ sha256 bytes.now → (object : ChunkObject) →
-        read_chunk bytes.now ≡ Ok object → IsNotBad result }
+    ensures good { (object : ChunkObject) → read_chunk bytes.now ≡ Ok object → IsNotBad result }
     ensures key { HasKey (λ k. k ≡ key.now) result }
     ensures store { IsNotStore result }
 {
-    if chunk_key(bytes) != *key {
-        return Err(QueryFault::BadObject { key: *key });
-    }
     match decode_chunk(alloc, bytes) {
         Ok(chunk) => Ok(chunk),
         Err(CodecFault::NoMemory) => Err(QueryFault::NoMemory),
         Err(_) => Err(QueryFault::BadObject { key: *key }),
     }
+}
+
+/// Whether bytes that an end gave may be taken for those of this key: where it does not vouch for them, their digest tells.
+fn is_of_key<S: StoreEnd>(end: &S, bytes: &[u8], key: &[u8; 32]) -> bool
+    ensures yes { key.now ≡ sha256 bytes.now → result ≡ true }
+    ensures no { result ≡ true → (key.now ≡ sha256 bytes.now) ⊎ S.is_honest }
+{
+    end.vouches() || chunk_key(bytes) == *key
 }
 
 /// The bytes of a listed chunk.
@@ -67,5 +71,9 @@ pub(crate) fn fetch<S: StoreEnd>(
         × (S.failure_count end.new ≡ S.failure_count end.old) }
 {
     let bytes = got(alloc, listing, end)?;
-    checked(alloc, &bytes, listing.key())
+    let key = listing.key();
+    if !is_of_key(end, &bytes, key) {
+        return Err(QueryFault::BadObject { key: *key });
+    }
+    spelt(alloc, &bytes, key)
 }

@@ -76,6 +76,13 @@ impl<'a, R: Wait> StoreEnd for MemoryEnd<'a, R> {
         self.failures
     }
 
+    /// It does: an object that the store has is never changed.
+    fn vouches(&self) -> bool
+        ensures { result ≡ true }
+    {
+        true
+    }
+
     /// Stores an object. Where one of this name with these bytes is there, nothing is written again. `Failed`
     /// where the call fails, and `NoMemory` where memory ran out.
     fn put(

@@ -1,5 +1,5 @@
 //! What a worker has of a store.
-ghost use Rattle.std.specs.Prelude.{◌≡◌, ℕ, List, IfOk, IfSome};
+ghost use Rattle.std.specs.Prelude.{◌≡◌, ℕ, List, IfOk, IfSome, true};
 ghost use Rattle.ing_store.specs.StoreFaults.{IsCounted};
 
 use crate::fault::StoreFault;
@@ -34,6 +34,11 @@ pub trait StoreEnd {
     /// How often it has failed, up to 2^64-1. Takes no memory.
     fn failures(&self) -> u64
         ensures { result ≡ failure_count self.now };
+
+    /// Whether what `get` gives needs no second look: only an honest end says so. One whose bytes may change where they lie,
+    /// as on a disk, does not. Takes no memory.
+    fn vouches(&self) -> bool
+        ensures { result ≡ true → is_honest };
 
     /// Stores an object, and gives a receipt for it. A fault leaves open whether the object is stored.
     fn put(&mut self, alloc: Global, name: &str, bytes: &[u8]) -> Result<Self::Receipt, StoreFault>
