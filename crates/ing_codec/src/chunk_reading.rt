@@ -8,11 +8,10 @@ ghost use Rattle.ing_codec.specs.Seen.{HasSeen};
 
 use crate::fault::CodecFault;
 use crate::fields::Fields;
+use crate::lent_block::{LentBlock, LentEntry};
 use crate::part::Part;
-use ing_chunk::{Block, Numbered};
-use ing_rows::Entry;
+use crate::seen::Seen;
 use std::alloc::Global;
-use std::collections::BTreeSet;
 
 /// The fewest bytes of an entry.
 const ENTRY_BYTES: usize = 16;
@@ -27,15 +26,15 @@ const MAX_NUMBERS: u64 = 0x4000_0000_0000_0000;
 const COUNT_END: u64 = 0x1_0000_0000;
 
 /// Whether one entry stands before another: by stamp, then by number.
-fn comes_before(a: &Numbered, b: &Numbered) -> bool
+fn comes_before(a: &LentEntry<'_>, b: &LentEntry<'_>) -> bool
     ensures { result ≡ chunks.comes_before a.now b.now }
 {
-    let (first, second) = (a.entry.stamp.nanoseconds(), b.entry.stamp.nanoseconds());
-    first < second || first == second && a.number < b.number
+    let (first, second) = (a.stamp().nanoseconds(), b.stamp().nanoseconds());
+    first < second || first == second && a.number() < b.number()
 }
 
 /// Whether an entry is above the last of those before it.
-fn goes_on(before: &[Numbered], entry: &Numbered) -> bool
+fn goes_on(before: &[LentEntry<'_>], entry: &LentEntry<'_>) -> bool
     ensures { result ≡ spec.goes_on before.now entry.now }
 {
     match before.last() {
@@ -47,31 +46,27 @@ fn goes_on(before: &[Numbered], entry: &Numbered) -> bool
 /// One entry of a block, after those before it; their numbers are those seen.
 #[tactic(auto, unfolding(crate::specs::ChunkReading::read_entry))]
 fn entry<'a>(
-    alloc: Global,
     fields: Fields<'a>,
     part: Part,
-    seen: &mut BTreeSet<u64>,
-    before: &[Numbered],
-) -> Result<(Numbered, Fields<'a>), CodecFault>
+    seen: &mut Seen,
+    before: &[LentEntry<'a>],
+) -> Result<(LentEntry<'a>, Fields<'a>), CodecFault>
     requires fits { part.first + part.start + part.count ≤ 2 ^ 63 }
-    requires seen { HasSeen seen.old before.now }
+    requires seen { HasSeen part seen.old before.now }
     ensures value { Gives CodecFault.NoMemory (λ x. x) result (read_entry part before.now fields.entry) }
-    ensures seen { IfOk result (λ x. HasSeen seen.new (before.now ++ x.0 ∷ [])) }
+    ensures seen { IfOk result (λ x. HasSeen part seen.new (before.now ++ x.0 ∷ [])) }
 {
     let at = fields.at();
     let (offset, rest) = fields.u32()?;
     let number = part.first + u64::from(offset);
-    if !part.has(number) || !seen.insert(number)? {
+    if !part.has(number) || !seen.add(number)? {
         return Err(CodecFault::BadField { at });
     }
     let (stamp, rest) = rest.stamp()?;
-    let (line, rest) = rest.line(alloc)?;
-    let numbered = Numbered {
-        number,
-        entry: Entry { stamp, line },
-    };
-    if goes_on(before, &numbered) {
-        Ok((numbered, rest))
+    let (line, rest) = rest.line()?;
+    let lent = LentEntry::of(number, stamp, line);
+    if goes_on(before, &lent) {
+        Ok((lent, rest))
     } else {
         Err(CodecFault::OutOfOrder)
     }
@@ -82,18 +77,18 @@ fn entries<'a>(
     alloc: Global,
     fields: Fields<'a>,
     part: Part,
-) -> Result<(Vec<Numbered>, Fields<'a>), CodecFault>
+) -> Result<(Vec<LentEntry<'a>>, Fields<'a>), CodecFault>
     requires { part.first + part.start + part.count ≤ 2 ^ 63 }
     ensures { Gives CodecFault.NoMemory (λ x. (x.0.items, x.1)) result
         (read_entries part part.count [] fields.entry) }
 {
     let room = (fields.left() / ENTRY_BYTES).min(part.count as usize);
     let mut found = Vec::with_capacity(alloc, room)?;
-    let mut seen = BTreeSet::new(alloc);
+    let mut seen = Seen::new(alloc, part.first + part.start, room)?;
     let mut rest = fields;
     for _ in 0..part.count {
-        let (numbered, after) = entry(alloc, rest, part, &mut seen, found.as_slice())?;
-        found.push(numbered)?;
+        let (lent, after) = entry(rest, part, &mut seen, found.as_slice())?;
+        found.push(lent)?;
         rest = after;
     }
     Ok((found, rest))
@@ -111,12 +106,12 @@ fn is_count(first: u64, start: u64, count: u32) -> bool
 
 /// One block, after `start` entries of earlier ones.
 #[tactic(auto, unfolding(crate::specs::ChunkReading::read_block))]
-fn block(
+fn block<'a>(
     alloc: Global,
-    fields: Fields<'_>,
+    fields: Fields<'a>,
     first: u64,
     start: u64,
-) -> Result<(Block, Fields<'_>), CodecFault>
+) -> Result<(LentBlock<'a>, Fields<'a>), CodecFault>
     requires first { first ≤ 2 ^ 62 }
     requires start { start < 2 ^ 32 }
     ensures value { Gives CodecFault.NoMemory (λ x. x) result (read_block first start fields.entry) }
@@ -133,16 +128,16 @@ fn block(
         count,
     };
     let (found, after) = entries(alloc, rest, part)?;
-    Ok((Block::in_order(found), after))
+    Ok((LentBlock::in_order(found), after))
 }
 
 /// The blocks of a chunk.
-pub(crate) fn blocks(
+pub(crate) fn blocks<'a>(
     alloc: Global,
-    fields: Fields<'_>,
+    fields: Fields<'a>,
     first: u64,
     count: u32,
-) -> Result<(Vec<Block>, Fields<'_>), CodecFault>
+) -> Result<(Vec<LentBlock<'a>>, Fields<'a>), CodecFault>
     requires { first ≤ 2 ^ 62 }
     ensures { Gives CodecFault.NoMemory (λ x. (x.0.items, x.1)) result
         (read_blocks first count 0 [] fields.entry) }

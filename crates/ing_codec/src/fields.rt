@@ -12,7 +12,7 @@ ghost use Rattle.ing_codec.specs.ChunkReading.{read_block_count, ended};
 
 use crate::fault::CodecFault;
 use ing_labels::{Labels, TextFault, canonical_names_are_decided};
-use ing_rows::{Line, RowFault, Stamp, Tenant};
+use ing_rows::{RowFault, Stamp, Tenant};
 use std::alloc::Global;
 use std::marker::Model;
 
@@ -185,12 +185,12 @@ impl<'a> Fields<'a> {
         Ok((labels_of(alloc, bytes, at)?, after))
     }
 
-    /// A line: four bytes of length, at most 262144, and the text, UTF-8 (RFC 3629). `Truncated` where the
-    /// length or the text passes the end; `BadField` of the length where it is more, and of the text where
-    /// it is not UTF-8.
+    /// A line: four bytes of length, at most 262144, and the text, UTF-8 (RFC 3629), which stays where it is.
+    /// `Truncated` where the length or the text passes the end; `BadField` of the length where it is more,
+    /// and of the text where it is not UTF-8.
     #[tactic(auto, unfolding(crate::specs::Fields::read_line))]
-    pub fn line(self, alloc: Global) -> Result<(Line, Fields<'a>), CodecFault>
-        ensures { Gives CodecFault.NoMemory (λ x. x) result (read_line self.entry) }
+    pub fn line(self) -> Result<(&'a str, Fields<'a>), CodecFault>
+        ensures { Returns (λ x. (x.0.now, x.1)) result (read_line self.entry) }
     {
         let length_at = self.at;
         let (length, rest) = self.u32()?;
@@ -199,8 +199,7 @@ impl<'a> Fields<'a> {
         }
         let at = rest.at;
         let (bytes, after) = rest.bytes(length as usize)?;
-        let text = utf8_at(bytes, at)?;
-        Ok((Line::of_text(alloc, text)?, after))
+        Ok((utf8_at(bytes, at)?, after))
     }
 
     /// A stamp: a number of eight bytes, in nanoseconds. `Truncated` where fewer are left, `BadField` from

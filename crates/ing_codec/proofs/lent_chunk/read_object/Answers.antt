@@ -3,7 +3,7 @@ use Rattle.std.proofs.lemmas.Grind.{common_steps}
 use Rattle.ing_labels.specs.Canonical.{canonical_of}
 use Rattle.ing_codec.specs.ChunkReading.{chunk_object, read_chunk}
 use Rattle.ing_codec.proofs.ChunkLaws.{chunk_takes}
-use Rattle.ing_codec.proofs.stored_chunk.read_object.Goals as goal
+use Rattle.ing_codec.proofs.lent_chunk.read_object.Goals as goal
 
 pub invariant_of-result : goal.invariant_of-result
 unfolding read_chunk
