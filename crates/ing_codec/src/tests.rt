@@ -13,8 +13,7 @@ const CHUNK: &[u8; 69] =
 const ROW_FRONT: &[u8; 54] =
     b"INGR\x01\x01t\0\0\0\x07{a=\"1\"}\0\0\0\0\0\0\0\0\0\0\0\x02\0\0\0\0\0\0\0\x23\0\0\0\0\0\0\0\x03\0\0\0\0\0\0\0\x05";
 
-/// Tenant `acme`, 17 labels, and from number 7 on a block of 17 entries and one of 3. A node of a tree holds
-/// fewer than 17, so that each tree grows.
+/// Tenant `acme`, 17 labels, and from number 7 on a block of 17 entries and one of 3.
 const TWO_BLOCKS: &[u8; 545] = b"INGC\x01\x04acme\
     \0\0\0\x8d{application=\"a long\\nvalue\", b=\"1\", c=\"1\", d=\"1\", e=\"1\", f=\"1\", g=\"1\", h=\"1\", i=\"1\", j=\"1\", k=\"1\", l=\"1\", m=\"1\", n=\"1\", o=\"1\", p=\"1\", q=\"1\"}\
     \0\0\0\0\0\0\0\x07\0\0\0\x02\
