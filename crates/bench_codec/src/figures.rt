@@ -3,7 +3,7 @@ ghost use Rattle.std.specs.Prelude.{◌≡◌, ◌*◌, ◌/◌, max};
 
 use crate::sample::{entries_a_block, object};
 use anyhow::{Result, bail};
-use ing_codec::{StoredChunk, chunk_key, chunk_name, decode_chunk, encode_chunk};
+use ing_codec::{StoredChunk, chunk_key, chunk_name, decode_chunk, decode_lent, encode_chunk};
 use ing_rows::Line;
 use std::alloc::Global;
 use std::rt::Clock;
@@ -32,8 +32,10 @@ pub enum Show {
 enum Step {
     /// Its bytes are written.
     Encode,
-    /// It is read from its bytes.
+    /// It is read from its bytes, with copies of its lines.
     Decode,
+    /// It is read from its bytes, and its lines stay in them.
+    Lend,
     /// The digest of its bytes is taken.
     Digest,
 }
@@ -43,6 +45,7 @@ fn once(alloc: Global, step: Step, bytes: &[u8], chunk: &StoredChunk) -> Result<
     match step {
         Step::Encode => Ok(encode_chunk(alloc, &chunk.view())?.len() as u64),
         Step::Decode => Ok(decode_chunk(alloc, bytes)?.first()),
+        Step::Lend => Ok(decode_lent(alloc, bytes)?.first()),
         Step::Digest => Ok(u64::from(chunk_key(bytes)[0])),
     }
 }
@@ -145,6 +148,7 @@ fn times<R: AllocGlobal + Clock + Print>(rt: &R, bytes: &[u8], chunk: &StoredChu
     println!(rt; "{} bytes", bytes.len())?;
     figure(rt, "encode", Step::Encode, bytes, chunk)?;
     figure(rt, "decode", Step::Decode, bytes, chunk)?;
+    figure(rt, "decode, lines left", Step::Lend, bytes, chunk)?;
     figure(rt, "digest", Step::Digest, bytes, chunk)
 }
 

@@ -1,9 +1,9 @@
 -- Entries of a range of stamps: none where all stamps are below it or at its end and above.
-use Rattle.std.proofs.Common.{◌≡◌, refl, ℕ, ◌<◌, ◌≤◌, ◌⊎◌, inl, inr, List, [], ◌∷◌, ◌++◌, filter, cond, max, min, false, ap, sym, ◌∙◌, arith, append_assoc, append-nil}
+use Rattle.std.proofs.Common.{◌≡◌, refl, ℕ, ◌<◌, ◌≤◌, ◌⊎◌, inl, inr, List, [], ◌∷◌, ◌++◌, filter, cond, max, min, false, ap, sym, ◌∙◌, arith}
 use Rattle.std.proofs.lemmas.Bool.Decides.{nat_tests}
 use Rattle.ing_chunk.specs.declared.numbered.Numbered.{Numbered}
 use Rattle.std.proofs.lemmas.List.Elements.{filter-append}
-use Rattle.ing_chunk.specs.Chunks.{ChunkContents, entries_of, entries_of_all, in_blocks, is_between, greatest_of, least_of}
+use Rattle.ing_chunk.specs.Chunks.{ChunkContents, entries_of, in_blocks, is_between, greatest_of, least_of}
 
 is_below : (start end : ℕ) (e : Numbered) → e.entry.stamp < start → is_between start end e ≡ false
 is_below start end e h = grind (arith, nat_tests)
@@ -26,10 +26,6 @@ none_above start end (e ∷ es) h =
 pub outside : (start end : ℕ) (es : List Numbered) → (greatest_of es < start) ⊎ (end ≤ least_of es) → filter (is_between start end) es ≡ []
 outside start end es (inl h) = none_below start end es h
 outside start end es (inr h) = none_above start end es h
-
-pub entries_of_all-more : (cs : List ChunkContents) (c : ChunkContents) → entries_of_all (cs ++ c ∷ []) ≡ entries_of_all cs ++ entries_of c
-entries_of_all-more [] c = append-nil (entries_of c)
-entries_of_all-more (x ∷ cs) c = ap (λ l. entries_of x ++ l) (entries_of_all-more cs c) ∙ sym (append_assoc (entries_of x) (entries_of_all cs) (entries_of c))
 
 -- of the entries of a chunk
 none_of_both : (start end : ℕ) (c : ChunkContents) → filter (is_between start end) (in_blocks c.blocks) ≡ [] → filter (is_between start end) c.head ≡ [] → filter (is_between start end) (entries_of c) ≡ []

@@ -104,6 +104,8 @@ fn a_changed_byte_is_refused_or_kept(rt: HostRuntime) -> Result<(), Fail> {
         let old = bytes[at];
         for value in 0..=255u8 {
             bytes[at] = value;
+            let lent = decode_lent(rt.alloc(), &bytes).err();
+            assert_eq!(rt; lent, fault_of(rt.alloc(), &bytes));
             if let Ok(chunk) = decode_chunk(rt.alloc(), &bytes) {
                 let again = encode_chunk(rt.alloc(), &chunk.view())?;
                 assert!(rt; again.as_slice() == bytes.as_slice());
@@ -153,6 +155,34 @@ fn faults_are_the_first_ones(rt: HostRuntime) -> Result<(), Fail> {
     );
     assert_eq!(rt; fault_with(alloc, 45, 6), Some(CodecFault::OutOfOrder));
     Ok(())
+}
+
+#[test]
+fn lines_stay_in_the_bytes(rt: HostRuntime) -> Result<(), Fail> {
+    let chunk = decode_lent(rt.alloc(), TWO_BLOCKS).ok().ok_or("a chunk")?;
+    assert_eq!(rt; (chunk.tenant().as_str(), chunk.first()), ("acme", 7));
+    let last = chunk.blocks().last().ok_or("a block")?;
+    let lent = last.entries().last().ok_or("an entry")?;
+    assert_eq!(rt; (lent.number(), lent.stamp().nanoseconds()), (26, 9));
+    assert_eq!(rt; lent.line(), "a line of thirty bytes in all.");
+    Ok(())
+}
+
+/// A count of 2^32-1 entries: the first two have a number that the bytes have no room for, both the same one.
+#[test]
+fn a_number_twice_behind_a_damaged_count(rt: HostRuntime) {
+    let mut bytes = *TWO_BLOCKS;
+    for at in 167..171 {
+        bytes[at] = 0xff;
+    }
+    for at in [171, 188] {
+        bytes[at + 2] = 3;
+        bytes[at + 3] = 0xe8;
+    }
+    assert_eq!(rt;
+        fault_of(rt.alloc(), &bytes),
+        Some(CodecFault::BadField { at: 188 })
+    );
 }
 
 /// What bytes are decoded as. Where memory was wanted, the same call is made again.

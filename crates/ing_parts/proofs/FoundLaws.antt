@@ -2,7 +2,7 @@
 use Rattle.std.proofs.Common.{◌≡◌, refl, ℕ, ◌+◌, List, [], ◌∷◌, ◌++◌, length, map, ap, sym, subst, ◌∙◌, Option, Some, None}
 use Rattle.std.specs.Prelude.{IsPermutation}
 use Rattle.std.proofs.lemmas.List.{map-append}
-use Rattle.std.proofs.lemmas.List.Sorted.{IsPermutation-refl, IsPermutation-trans, IsPermutation-append, IsPermutation-append_comm}
+use Rattle.std.proofs.lemmas.List.Sorted.{IsPermutation-refl, IsPermutation-sym, IsPermutation-trans, IsPermutation-append, IsPermutation-append_comm}
 use Rattle.ing_rows.specs.declared.place.Place.{Place}
 use Rattle.ing_rows.specs.declared.place.Place.TheVariants.{Block, Head}
 use Rattle.ing_rows.specs.Rows.{StreamKey, Row}
@@ -10,8 +10,8 @@ use Rattle.ing_chunk.specs.declared.numbered.Numbered.{Numbered}
 use Rattle.ing_chunk.specs.Chunks.{ChunkContents, ChunksContents, block_rows, chunk_state, chunks_state, entries_growing, entries_in_memory, entries_of, entries_of_all, growing_state, head_rows, in_blocks, row_in, stream_state}
 use Rattle.ing_parts.specs.declared.found.Found.{Found}
 use Rattle.ing_parts.specs.declared.snapshot.Snapshot.{Snapshot}
-use Rattle.ing_parts.specs.Parts.{AddsRows, RowsAreFound, found_at, found_of}
-use Rattle.ing_parts.proofs.RangeLaws.{adds_both, adds_nothing}
+use Rattle.ing_parts.specs.Parts.{Adds, AddsRows, RowsAreFound, found_at, found_of}
+use Rattle.ing_parts.proofs.RangeLaws.{adds_alike, adds_both}
 
 in_block : (s : StreamKey) (first index : ℕ) (place : Place) (es : List Numbered) → map found_at (map (row_in s first index place) es) ≡ map (found_of s.name) es
 in_block s first index place [] = refl
@@ -65,12 +65,8 @@ rows_found = record { blocks = blocks_found; memory = memory_found }
 
 -- ---- rows that are added one after another
 
-pub rows_nothing : {R : Type 0} (s : Snapshot R) → AddsRows [] s s
-rows_nothing s = record { all = []; same = IsPermutation-refl []; adds = adds_nothing s }
-
 pub rows_both : {R : Type 0} (a b : List Row) (old mid new : Snapshot R) → AddsRows a old mid → AddsRows b mid new → AddsRows (a ++ b) old new
-rows_both a b old mid new h k = record {
-  all = h.all ++ k.all;
-  same = subst (λ (l : List Found). IsPermutation l (h.all ++ k.all)) (sym (map-append found_at a b)) (IsPermutation-append (map found_at a) h.all (map found_at b) k.all h.same k.same);
-  adds = adds_both h.all k.all old mid new h.adds k.adds;
-}
+rows_both a b old mid new h k = subst (λ (l : List Found). Adds l old new) (sym (map-append found_at a b)) (adds_both (map found_at a) (map found_at b) old mid new h k)
+
+pub rows_of : {R : Type 0} (all : List Found) (rows : List Row) (old new : Snapshot R) → IsPermutation (map found_at rows) all → Adds all old new → AddsRows rows old new
+rows_of all rows old new same h = adds_alike all (map found_at rows) old new (IsPermutation-sym (map found_at rows) all same) h

@@ -1,3 +1,8 @@
 pub mod FoundLaws
+mod Insertion
+mod KeptLaws
 mod ListingLaws
+mod OfferLaws
 pub mod RangeLaws
+mod Reordered
+mod StandLaws

@@ -1,13 +1,18 @@
 -- Entries of a range of stamps, as they are and as a query gives them.
-use Rattle.std.proofs.Common.{◌≡◌, refl, ℕ, List, [], ◌∷◌, ◌++◌, map, filter, cond, Bool, true, false, ap, sym, ◌∙◌, append-nil, append_assoc}
-use Rattle.std.proofs.lemmas.List.{flat_map_more}
+use Rattle.std.proofs.Common.{◌≡◌, refl, ℕ, List, [], ◌∷◌, ◌++◌, map, filter, cond, Bool, true, false, ap, sym, ◌∙◌, subst, append-nil, append_assoc}
+use Rattle.std.specs.Prelude.{IsPermutation}
+use Rattle.std.proofs.lemmas.List.{flat_map_more, map-append}
 use Rattle.std.proofs.lemmas.List.Elements.{filter-append}
+use Rattle.std.proofs.lemmas.List.Sorted.{IsPermutation-append_comm, IsPermutation-append_right}
 use Rattle.ing_chunk.specs.declared.numbered.Numbered.{Numbered}
-use Rattle.ing_chunk.specs.Chunks.{is_between}
+use Rattle.ing_chunk.specs.Chunks.{ChunkContents, entries_of, entries_of_all, is_between}
 use Rattle.ing_parts.specs.declared.part.Part.{Part}
 use Rattle.ing_parts.specs.declared.found.Found.{Found}
 use Rattle.ing_parts.specs.declared.snapshot.Snapshot.{Snapshot}
-use Rattle.ing_parts.specs.Parts.{Adds, found_of, found_in, found_among, wanted, within}
+use Rattle.ing_parts.specs.Answers.{Offers, StandFor}
+use Rattle.ing_parts.specs.Parts.{Adds, found_between, found_of, found_in, found_among, is_within, wanted, within}
+use Rattle.ing_parts.proofs.Reordered.{filter_reordered}
+use Rattle.ing_parts.proofs.StandLaws.{stand_alike, stand_beside, stand_still, stand_through}
 
 -- what is wanted of entries is what is found of those in the range
 within_step : (start end : ℕ) (name : List ℕ) (e : Numbered) (es : List Numbered) (b : Bool) → within start end (map (found_of name) es) ≡ map (found_of name) (filter (is_between start end) es)
@@ -18,24 +23,6 @@ within_step start end name e es false h = h
 pub within_of : (start end : ℕ) (name : List ℕ) (es : List Numbered) → within start end (map (found_of name) es) ≡ map (found_of name) (filter (is_between start end) es)
 within_of start end name [] = refl
 within_of start end name (e ∷ es) = within_step start end name e es (is_between start end e) (within_of start end name es)
-
--- those in the range are all in the range
-twice_step : (start end : ℕ) (e : Numbered) (es : List Numbered) (b : Bool) → is_between start end e ≡ b → filter (is_between start end) (filter (is_between start end) es) ≡ filter (is_between start end) es
-    → filter (is_between start end) (cond b (e ∷ filter (is_between start end) es) (filter (is_between start end) es)) ≡ cond b (e ∷ filter (is_between start end) es) (filter (is_between start end) es)
-twice_step start end e es true is h =
-    ap (λ b. cond b (e ∷ filter (is_between start end) (filter (is_between start end) es)) (filter (is_between start end) (filter (is_between start end) es))) is
-    ∙ ap (λ l. e ∷ l) h
-twice_step start end e es false is h = h
-
-twice : (start end : ℕ) (es : List Numbered) → filter (is_between start end) (filter (is_between start end) es) ≡ filter (is_between start end) es
-twice start end [] = refl
-twice start end (e ∷ es) = twice_step start end e es (is_between start end e) refl (twice start end es)
-
--- copies of those in the range have all that is wanted
-pub copied : (start end : ℕ) (name : List ℕ) (all some : List Numbered) → some ≡ filter (is_between start end) all → within start end (map (found_of name) some) ≡ within start end (map (found_of name) all)
-copied start end name all some is =
-    within_of start end name some ∙ ap (λ l. map (found_of name) (filter (is_between start end) l)) is
-    ∙ ap (map (found_of name)) (twice start end all) ∙ sym (within_of start end name all)
 
 -- nothing is wanted where no entry is in the range
 pub missed : (start end : ℕ) (name : List ℕ) (es : List Numbered) → filter (is_between start end) es ≡ [] → within start end (map (found_of name) es) ≡ []
@@ -56,30 +43,104 @@ adds_none name es s none = record {
   front = refl;
   start = refl;
   end = refl;
-  wanted = sym (append-nil (wanted s)) ∙ ap (λ l. wanted s ++ l) (sym (missed s.start s.end name es none));
+  order = refl;
+  limit = refl;
+  stand = subst (StandFor s.best.order s.best.limit (wanted s)) (sym (append-nil (wanted s)) ∙ ap (λ l. wanted s ++ l) (sym (missed s.start s.end name es none))) (stand_still s.best.order s.best.limit (wanted s));
 }
 
--- copies of what is in the range are all that is wanted
-pub adds_copied : {R : Type 0} (name : List ℕ) (all some : List Numbered) (old new : Snapshot R) → some ≡ filter (is_between old.start old.end) all → Adds (map (found_of name) some) old new → Adds (map (found_of name) all) old new
-adds_copied name all some old new is h = record {
-  front = h.front;
-  start = h.start;
-  end = h.end;
-  wanted = h.wanted ∙ ap (λ l. wanted old ++ l) (copied old.start old.end name all some is);
-}
+-- a part
+pub adds_part : {R : Type 0} (p : Part R) (old new : Snapshot R) → new.front ≡ old.front → new.start ≡ old.start → new.end ≡ old.end → new.best ≡ old.best → new.parts.items ≡ old.parts.items ++ p ∷ [] → Adds (found_in p) old new
+adds_part p old new front start end best parts =
+    let more : wanted new ≡ wanted old ++ within old.start old.end (found_in p) =
+    (λ i. (best i).held ++ within (start i) (end i) (found_among (parts i)))
+    ∙ ap (λ l. old.best.held ++ l) (within_more old.start old.end old.parts.items p)
+    ∙ sym (append_assoc old.best.held (within old.start old.end (found_among old.parts.items)) (within old.start old.end (found_in p))) in
+    record {
+      front = front;
+      start = start;
+      end = end;
+      order = ap (λ b. b.order) best;
+      limit = ap (λ b. b.limit) best;
+      stand = subst (StandFor old.best.order old.best.limit (wanted new)) more (stand_still old.best.order old.best.limit (wanted new));
+    }
+
+-- what is offered to those that it keeps
+pub adds_offered : {R : Type 0} (name : List ℕ) (es : List Numbered) (old new : Snapshot R) → new.front ≡ old.front → new.start ≡ old.start → new.end ≡ old.end → new.parts.items ≡ old.parts.items → Offers (found_between name old.start old.end es) old.best new.best → Adds (map (found_of name) es) old new
+adds_offered name es old new front start end parts h =
+    let o = old.best.order in
+    let n = old.best.limit in
+    let all = found_between name old.start old.end es in
+    let there = within old.start old.end (found_among old.parts.items) in
+    let kept : StandFor o n (new.best.held ++ there) ((old.best.held ++ all) ++ there) = stand_beside o n new.best.held (old.best.held ++ all) there h.stand in
+    let same : IsPermutation ((old.best.held ++ all) ++ there) ((old.best.held ++ there) ++ all) =
+    subst (λ l. IsPermutation l ((old.best.held ++ there) ++ all)) (sym (append_assoc old.best.held all there))
+    (subst (λ l. IsPermutation (old.best.held ++ (all ++ there)) l) (sym (append_assoc old.best.held there all))
+    (IsPermutation-append_right old.best.held (all ++ there) (there ++ all) (IsPermutation-append_comm all there))) in
+    let is : new.best.held ++ there ≡ wanted new = λ i. new.best.held ++ within (sym start i) (sym end i) (found_among (sym parts i)) in
+    record {
+      front = front;
+      start = start;
+      end = end;
+      order = h.order;
+      limit = h.limit;
+      stand = subst (λ l. StandFor o n l (wanted old ++ all)) is
+          (stand_through o n (new.best.held ++ there) ((old.best.held ++ all) ++ there) (wanted old ++ all) kept (stand_alike o n ((old.best.held ++ all) ++ there) ((old.best.held ++ there) ++ all) same));
+    }
 
 -- one addition after another
 pub adds_nothing : {R : Type 0} (s : Snapshot R) → Adds [] s s
-adds_nothing s = record { front = refl; start = refl; end = refl; wanted = sym (append-nil (wanted s)) }
+adds_nothing s = record {
+  front = refl;
+  start = refl;
+  end = refl;
+  order = refl;
+  limit = refl;
+  stand = subst (StandFor s.best.order s.best.limit (wanted s)) (sym (append-nil (wanted s))) (stand_still s.best.order s.best.limit (wanted s));
+}
 
 pub adds_both : {R : Type 0} (a b : List Found) (old mid new : Snapshot R) → Adds a old mid → Adds b mid new → Adds (a ++ b) old new
-adds_both a b old mid new h k = record {
-  front = k.front ∙ h.front;
-  start = k.start ∙ h.start;
-  end = k.end ∙ h.end;
-  wanted = k.wanted
-      ∙ ap (λ l. l ++ within mid.start mid.end b) h.wanted
-      ∙ (λ i. (wanted old ++ within old.start old.end a) ++ within (h.start i) (h.end i) b)
-      ∙ append_assoc (wanted old) (within old.start old.end a) (within old.start old.end b)
-      ∙ ap (λ l. wanted old ++ l) (sym (filter-append _ a b));
-}
+adds_both a b old mid new h k =
+    let o = old.best.order in
+    let n = old.best.limit in
+    let here = within old.start old.end a in
+    let there = within old.start old.end b in
+    let later : StandFor o n (wanted new) (wanted mid ++ there) =
+    subst (λ l. StandFor o n (wanted new) (wanted mid ++ l)) (λ i. within (h.start i) (h.end i) b)
+    (subst (λ m. StandFor o m (wanted new) (wanted mid ++ within mid.start mid.end b)) h.limit (subst (λ q. StandFor q mid.best.limit (wanted new) (wanted mid ++ within mid.start mid.end b)) h.order k.stand)) in
+    let sooner : StandFor o n (wanted mid ++ there) ((wanted old ++ here) ++ there) = stand_beside o n (wanted mid) (wanted old ++ here) there h.stand in
+    let all : (wanted old ++ here) ++ there ≡ wanted old ++ within old.start old.end (a ++ b) =
+    append_assoc (wanted old) here there ∙ ap (λ l. wanted old ++ l) (sym (filter-append _ a b)) in
+    record {
+      front = k.front ∙ h.front;
+      start = k.start ∙ h.start;
+      end = k.end ∙ h.end;
+      order = k.order ∙ h.order;
+      limit = k.limit ∙ h.limit;
+      stand = subst (StandFor o n (wanted new)) all (stand_through o n (wanted new) (wanted mid ++ there) ((wanted old ++ here) ++ there) later sooner);
+    }
+
+-- the same entries in another order
+pub adds_alike : {R : Type 0} (a b : List Found) (old new : Snapshot R) → IsPermutation a b → Adds a old new → Adds b old new
+adds_alike a b old new same h =
+    let o = old.best.order in
+    let n = old.best.limit in
+    let here = within old.start old.end a in
+    let there = within old.start old.end b in
+    record {
+      front = h.front;
+      start = h.start;
+      end = h.end;
+      order = h.order;
+      limit = h.limit;
+      stand = stand_through o n (wanted new) (wanted old ++ here) (wanted old ++ there) h.stand (stand_alike o n (wanted old ++ here) (wanted old ++ there) (IsPermutation-append_right (wanted old) here there (filter_reordered (is_within old.start old.end) a b same)));
+    }
+
+-- the entries of chunks, one chunk more
+pub entries_of_all-more : (cs : List ChunkContents) (c : ChunkContents) → entries_of_all (cs ++ c ∷ []) ≡ entries_of_all cs ++ entries_of c
+entries_of_all-more [] c = append-nil (entries_of c)
+entries_of_all-more (x ∷ cs) c = ap (λ l. entries_of x ++ l) (entries_of_all-more cs c) ∙ sym (append_assoc (entries_of x) (entries_of_all cs) (entries_of c))
+
+-- these entries behind those that were added before them
+pub adds_next : {R : Type 0} (name : List ℕ) (xs more all : List Numbered) (old mid new : Snapshot R) → all ≡ xs ++ more → Adds (map (found_of name) xs) old mid → Adds (map (found_of name) more) mid new → Adds (map (found_of name) all) old new
+adds_next name xs more all old mid new is h k =
+    subst (λ (l : List Found). Adds l old new) (sym (map-append (found_of name) xs more) ∙ sym (ap (map (found_of name)) is)) (adds_both (map (found_of name) xs) (map (found_of name) more) old mid new h k)

@@ -1,2 +1,4 @@
+pub mod Answers
+pub mod Kept
 pub mod Listings
 pub mod Parts

@@ -9,11 +9,11 @@ use Rattle.ing_parts.specs.declared.found.Found.{Found}
 use Rattle.ing_parts.specs.declared.part.Part.{Part}
 use Rattle.ing_parts.specs.declared.snapshot.Snapshot.{Snapshot}
 use Rattle.ing_parts.specs.declared.part.Source.{Source}
-use Rattle.ing_parts.specs.declared.part.Source.TheVariants.{Copied, Shared, Stored}
+use Rattle.ing_parts.specs.declared.part.Source.TheVariants.{Shared, Stored}
+use Rattle.ing_parts.specs.Answers.{StandFor}
 
 -- the entries of a place
 abbrev pub entries_in : {R : Type 0} → Source R → List Numbered
-entries_in (Copied entries) = entries.items
 entries_in (Shared chunk) = entries_of chunk.value
 entries_in (Stored listing) = in_blocks listing.blocks
 
@@ -41,28 +41,30 @@ is_within start end f = nat_le start f.entry.stamp && nat_lt f.entry.stamp end
 abbrev pub within : ℕ → ℕ → List Found → List Found
 within start end = filter (is_within start end)
 
--- the entries of a snapshot that are wanted
-abbrev pub wanted : {R : Type 0} → Snapshot R → List Found
-wanted s = within s.start s.end (found_among s.parts.items)
+-- of entries of the stream of this name those whose stamp is in the range
+abbrev pub found_between : List ℕ → ℕ → ℕ → List Numbered → List Found
+found_between name start end es = within start end (map (found_of name) es)
 
--- what is wanted of these entries is added to a snapshot
+-- the entries of a snapshot that are wanted: those that it keeps, and those of its parts whose stamp is in its range
+abbrev pub wanted : {R : Type 0} → Snapshot R → List Found
+wanted s = s.best.held ++ within s.start s.end (found_among s.parts.items)
+
+-- what is wanted of these entries is added to a snapshot, as far as it may be in an answer
 pub record Adds {R : Type 0} (all : List Found) (old new : Snapshot R) : Type 0 where
   pub front : new.front ≡ old.front
   pub start : new.start ≡ old.start
   pub end : new.end ≡ old.end
-  pub wanted : wanted new ≡ wanted old ++ within old.start old.end all
+  pub order : new.best.order ≡ old.best.order
+  pub limit : new.best.limit ≡ old.best.limit
+  pub stand : StandFor old.best.order old.best.limit (wanted new) (wanted old ++ within old.start old.end all)
 
--- what is wanted of these rows is added to a snapshot, in whatever order
-pub record AddsRows {R : Type 0} (rows : List Row) (old new : Snapshot R) : Type 0 where
-  pub all : List Found
-  pub same : IsPermutation (map found_at rows) all
-  pub adds : Adds all old new
+-- the same of these rows
+abbrev pub AddsRows : {R : Type 0} → List Row → Snapshot R → Snapshot R → Type 0
+AddsRows rows old new = Adds (map found_at rows) old new
 
--- what is wanted of a snapshot is what is in its range of these rows, in whatever order
-pub record HasRows {R : Type 0} (rows : List Row) (snapshot : Snapshot R) : Type 0 where
-  pub all : List Found
-  pub same : IsPermutation (map found_at rows) all
-  pub is : wanted snapshot ≡ within snapshot.start snapshot.end all
+-- what is wanted of a snapshot stands for what is in its range of these rows
+abbrev pub HasRows : {R : Type 0} → List Row → Snapshot R → Type 0
+HasRows rows s = StandFor s.best.order s.best.limit (wanted s) (within s.start s.end (map found_at rows))
 
 -- ---- rows of chunks
 

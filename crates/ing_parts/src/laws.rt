@@ -1,11 +1,61 @@
 //! What holds of all snapshots, for the crates above.
-ghost use Rattle.std.specs.Prelude.{◌++◌, [], List, IsPermutation, map};
+ghost use Rattle.std.specs.Prelude.{◌≡◌, ◌++◌, ◌∷◌, ℕ, [], Bool, List, All, IsPermutation, filter, map};
 ghost use Rattle.ing_rows.specs.Rows.{Row};
 ghost use Rattle.ing_parts.specs.declared.found.Found.{Found};
+ghost use Rattle.ing_parts.specs.declared.order.Order.{Order};
 ghost use Rattle.ing_parts.specs.declared.snapshot.Snapshot.{Snapshot};
-ghost use Rattle.ing_parts.specs.Parts.{Adds, AddsRows, RowsAreFound, found_at};
+ghost use Rattle.ing_parts.specs.Answers.{BestState, IsAnswer, IsFrom, Offers, PassesOver, StandFor};
+ghost use Rattle.ing_chunk.specs.declared.numbered.Numbered.{Numbered};
+ghost use Rattle.ing_parts.specs.Parts.{Adds, AddsRows, RowsAreFound, found_at, found_between};
 
 use ing_store::Receipt;
+
+/// What is offered after something else is offered together with it, in whatever order; nothing changes where none is offered, or
+/// none that changes an answer. What is kept of entries has the answer that all of them have, from none on.
+pub fn offers_join()
+    ensures none { (b : BestState) → Offers [] b b }
+    ensures both { (x y : List Found) (old mid new : BestState) →
+        Offers x old mid → Offers y mid new → Offers (x ++ y) old new }
+    ensures alike { (x y : List Found) (old new : BestState) →
+        IsPermutation x y → Offers x old new → Offers y old new }
+    ensures passed { (from : ℕ) (b : BestState) (all : List Found) →
+        PassesOver from b → All (λ f. IsFrom b.order from f.entry.stamp) all → Offers all b b }
+    ensures answered { (all answer : List Found) (old new : BestState) →
+        Offers all old new → IsAnswer old.order old.limit new.held answer →
+        IsAnswer old.order old.limit (old.held ++ all) answer }
+{}
+
+/// The same of entries of one stream in a range: of those behind others, and of those before them; and of one that nothing from its
+/// stamp on changes, in the range or out of it.
+pub fn offers_of_streams()
+    ensures next { (name : List ℕ) (start end : ℕ) (xs more all : List Numbered)
+        (old mid new : BestState) → all ≡ xs ++ more →
+        Offers (found_between name start end xs) old mid →
+        Offers (found_between name start end more) mid new →
+        Offers (found_between name start end all) old new }
+    ensures previous { (name : List ℕ) (start end : ℕ) (xs more all : List Numbered)
+        (old mid new : BestState) → all ≡ more ++ xs →
+        Offers (found_between name start end xs) old mid →
+        Offers (found_between name start end more) mid new →
+        Offers (found_between name start end all) old new }
+    ensures one { (name : List ℕ) (start end : ℕ) (e : Numbered) (b : BestState) →
+        PassesOver e.entry.stamp b → Offers (found_between name start end (e ∷ [])) b b }
+    ensures none { (name : List ℕ) (start end : ℕ) (b : BestState) →
+        Offers (found_between name start end []) b b }
+{}
+
+/// Entries stand for those of which they are a rearrangement, and for those for which others stand that they stand for; and
+/// so side by side with others.
+pub fn standing_joins()
+    ensures alike { (order : Order) (limit : ℕ) (some all : List Found) →
+        IsPermutation some all → StandFor order limit some all }
+    ensures through { (order : Order) (limit : ℕ) (some mid all : List Found) →
+        StandFor order limit some mid → StandFor order limit mid all → StandFor order limit some all }
+    ensures beside { (order : Order) (limit : ℕ) (some all others : List Found) →
+        StandFor order limit some all → StandFor order limit (some ++ others) (all ++ others) }
+    ensures answered { (order : Order) (limit : ℕ) (some all answer : List Found) →
+        StandFor order limit some all → IsAnswer order limit some answer → IsAnswer order limit all answer }
+{}
 
 /// What is added after something else is added together with it; and where nothing was added, nothing has changed.
 pub fn additions_join<R: Receipt>()
@@ -26,4 +76,10 @@ pub fn rows_join<R: Receipt>()
 /// What a query finds of the rows of chunks are their entries.
 pub fn rows_are_found()
     ensures { RowsAreFound }
+{}
+
+/// What a query finds of the rows that pass a test does not depend on their order.
+pub fn found_rows_have_no_order()
+    ensures { (test : Row → Bool) (rows others : List Row) → IsPermutation rows others →
+        IsPermutation (map found_at (filter test rows)) (map found_at (filter test others)) }
 {}

@@ -1,16 +1,25 @@
 //! What a query reads: where the entries of streams stand, in memory or in a store, and what is found there.
 #![tactic(auto)]
 
+mod best;
 mod found;
 mod laws;
 mod listing;
+mod offers;
+mod order;
 mod part;
 mod snapshot;
 mod stream_name;
 
+pub use best::Best;
 pub use found::Found;
-pub use laws::{additions_join, rows_are_found, rows_join};
+pub use laws::{
+    additions_join, found_rows_have_no_order, offers_join, offers_of_streams, rows_are_found,
+    rows_join, standing_joins,
+};
 pub use listing::Listing;
+pub use offers::offer_chunk;
+pub use order::{Order, Question};
 pub use part::{Part, Source};
 pub use snapshot::Snapshot;
 pub use stream_name::StreamName;

@@ -1,15 +1,13 @@
 //! Parts of streams.
 use crate::listing::Listing;
 use crate::stream_name::StreamName;
-use ing_chunk::{Chunk, Numbered};
+use ing_chunk::Chunk;
 use ing_store::Receipt;
 use std::sync::Arc;
 
-/// Where entries stand that a query may want.
+/// Where entries stand that a query may want, and that its snapshot shares.
 #[derive(Drop)]
 pub enum Source<R: Receipt> {
-    /// Copies of entries in memory.
-    Copied(Vec<Numbered>),
     /// A sealed chunk in memory, which its shard holds too.
     Shared(Arc<Chunk>),
     /// A chunk in a store.

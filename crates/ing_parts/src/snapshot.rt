@@ -1,12 +1,16 @@
 //! What is read off a shard at one moment.
 ghost use Rattle.std.specs.Prelude.{◌≡◌, [], OnOk, map};
-ghost use Rattle.ing_chunk.specs.Chunks.{entries_in_memory, entries_of, in_blocks};
+ghost use Rattle.ing_chunk.specs.Chunks.{entries_in_memory, entries_of, entries_of_all, in_blocks};
 ghost use Rattle.ing_parts.specs.Parts.{Adds, entries_in, found_of};
 
+use crate::best::Best;
+use crate::laws::additions_join;
 use crate::listing::Listing;
+use crate::offers::offer_chunk;
+use crate::order::Question;
 use crate::part::{Part, Source};
 use crate::stream_name::StreamName;
-use ing_chunk::{Chunk, Chunks, Numbered};
+use ing_chunk::{Chunk, Chunks};
 use ing_store::Receipt;
 use std::alloc::{AllocError, Global};
 use std::sync::Arc;
@@ -21,26 +25,31 @@ pub struct Snapshot<R: Receipt> {
     pub start: u64,
     /// What each stamp that is wanted is below, in nanoseconds.
     pub end: u64,
-    /// Where the entries stand that are wanted; others may stand there too.
+    /// Of the wanted entries that cannot be shared the best, as far as they may be in an answer.
+    pub best: Best,
+    /// Where the other entries stand that are wanted; more may stand there.
     pub parts: Vec<Part<R>>,
 }
 
 impl<R: Receipt> Snapshot<R> {
-    /// Of a shard that had accepted so many entries, without parts yet. Takes no memory.
-    pub fn new(alloc: Global, front: u64, start: u64, end: u64) -> Snapshot<R>
+    /// Of a shard that had accepted so many entries, for an answer to this question; without parts yet. Takes no memory.
+    pub fn new(alloc: Global, front: u64, question: Question) -> Snapshot<R>
         ensures front { result.front ≡ front }
-        ensures range { (result.start ≡ start) × (result.end ≡ end) }
+        ensures range { (result.start ≡ question.start) × (result.end ≡ question.end) }
+        ensures best { result.best
+            ≡ record { order = question.order; limit = question.limit; held = [] } }
         ensures parts { result.parts.items ≡ [] }
     {
         Snapshot {
             front,
-            start,
-            end,
+            start: question.start,
+            end: question.end,
+            best: Best::new(alloc, question.order, question.limit),
             parts: Vec::new(alloc),
         }
     }
 
-    /// Adds copies of the entries of a stream's chunks in memory that are wanted.
+    /// Keeps copies of the best of the entries of a stream's chunks in memory that are wanted.
     pub fn add_chunks(
         &mut self,
         alloc: Global,
@@ -50,12 +59,32 @@ impl<R: Receipt> Snapshot<R> {
         ensures { OnOk result
             (Adds (map (found_of name.now) (entries_in_memory chunks.now)) self.old self.new) }
     {
-        let entries = chunks.entries_between(alloc, self.start, self.end)?;
-        self.add_copies(name, entries)?;
+        additions_join::<R>();
+        self.add_all(alloc, name, chunks.waiting_chunks())?;
+        if let Some(chunk) = chunks.growing() {
+            self.add_chunk(alloc, name, chunk)?;
+        }
         Ok(())
     }
 
-    /// Adds copies of the entries of a chunk in memory that are wanted.
+    /// Keeps copies of the best of the entries of chunks in memory that are wanted.
+    fn add_all(
+        &mut self,
+        alloc: Global,
+        name: &StreamName,
+        chunks: &[Chunk],
+    ) -> Result<(), AllocError>
+        ensures { OnOk result
+            (Adds (map (found_of name.now) (entries_of_all chunks.now)) self.old self.new) }
+    {
+        additions_join::<R>();
+        for chunk in chunks {
+            self.add_chunk(alloc, name, chunk)?;
+        }
+        Ok(())
+    }
+
+    /// Keeps copies of the best of the entries of a chunk in memory that are wanted.
     pub fn add_chunk(
         &mut self,
         alloc: Global,
@@ -65,8 +94,9 @@ impl<R: Receipt> Snapshot<R> {
         ensures { OnOk result
             (Adds (map (found_of name.now) (entries_of chunk.now)) self.old self.new) }
     {
-        let entries = chunk.entries_between(alloc, self.start, self.end)?;
-        self.add_copies(name, entries)?;
+        let start = self.start;
+        let end = self.end;
+        offer_chunk(&mut self.best, alloc, name, chunk, start, end)?;
         Ok(())
     }
 
@@ -92,16 +122,6 @@ impl<R: Receipt> Snapshot<R> {
         }
         let listing = listing.share()?;
         self.add(name, Source::Stored(listing))
-    }
-
-    /// Adds copies of entries, where there are any.
-    fn add_copies(&mut self, name: &StreamName, entries: Vec<Numbered>) -> Result<(), AllocError>
-        ensures { OnOk result (Adds (map (found_of name.now) entries.items) self.old self.new) }
-    {
-        if entries.is_empty() {
-            return Ok(());
-        }
-        self.add(name, Source::Copied(entries))
     }
 
     /// Adds a part.

@@ -1,48 +1,27 @@
--- Entries that are offered one after another.
-use Rattle.std.proofs.Common.{suc, add-one, drop-cons, ◌≡◌, ℕ, ◌+◌, ◌<◌, true, false, ◌&&◌, cond, nat_le, nat_lt, List, [], ◌∷◌, ◌++◌, map, length, drop, get_or, refl, ap, sym, ◌∙◌, arith}
-use Rattle.std.proofs.lemmas.List.Elements.{filter-append}
+-- Entries that are offered one after another, and lists that are walked.
+use Rattle.std.proofs.Common.{◌≡◌, ℕ, ◌+◌, ◌<◌, List, [], ◌∷◌, ◌++◌, map, append_assoc, length, drop, get_or, suc, add-one, drop-cons, refl, ap, sym, ◌∙◌, subst, arith}
+use Rattle.std.specs.List.{flat_map}
+use Rattle.ing_parts.specs.declared.found.Found.{Found}
 use Rattle.std.proofs.lemmas.List.{map-append}
 use Rattle.ing_chunk.specs.declared.numbered.Numbered.{Numbered}
-use Rattle.ing_chunk.specs.Chunks.{in_blocks}
-use Rattle.ing_parts.specs.declared.found.Found.{Found}
-use Rattle.ing_parts.specs.Parts.{found_of, is_within, within}
-use Rattle.ing_query.specs.declared.order.Order.{Order}
-use Rattle.ing_query.specs.declared.order.Order.TheVariants.{Forward, Backward}
-use Rattle.ing_query.specs.Best.{BestState, IsFrom, PassesOver, found_between, offered, offered_all, offered_between}
-
-pub from_itself : (order : Order) (stamp : ℕ) → IsFrom order stamp stamp
-from_itself Forward stamp = omega arith
-from_itself Backward stamp = omega arith
-
-pub offered_append : (xs ys : List Found) (b : BestState) → offered_all (xs ++ ys) b ≡ offered_all ys (offered_all xs b)
-offered_append [] ys b = refl
-offered_append (x ∷ xs) ys b = offered_append xs ys (offered x b)
-
--- one is passed over
-pub passed_over : (b : BestState) (f : Found) → PassesOver f.entry.stamp b → b ≡ offered f b
-passed_over b f pass = sym (pass f (from_itself b.order f.entry.stamp))
-
--- one in the range, and one outside
-pub offered_in : (name : List ℕ) (start end : ℕ) (e : Numbered) (b : BestState) → (nat_le start e.entry.stamp && nat_lt e.entry.stamp end) ≡ true → offered_between name start end (e ∷ []) b ≡ offered (found_of name e) b
-offered_in name start end e b is = ap (λ t. offered_all (cond t (found_of name e ∷ []) []) b) is
-
-pub offered_out : (name : List ℕ) (start end : ℕ) (e : Numbered) (b : BestState) → (nat_le start e.entry.stamp && nat_lt e.entry.stamp end) ≡ false → offered_between name start end (e ∷ []) b ≡ b
-offered_out name start end e b is = ap (λ t. offered_all (cond t (found_of name e ∷ []) []) b) is
-
-pub offered_parts : (name : List ℕ) (start end : ℕ) (xs ys : List Numbered) (b : BestState) → offered_between name start end (xs ++ ys) b ≡ offered_between name start end ys (offered_between name start end xs b)
-offered_parts name start end xs ys b =
-    ap (λ l. offered_all l b) (ap (within start end) (map-append (found_of name) xs ys) ∙ filter-append (is_within start end) (map (found_of name) xs) (map (found_of name) ys))
-    ∙ offered_append (found_between name start end xs) (found_between name start end ys) b
-
--- a step of a loop
-pub offered_step : (name : List ℕ) (start end : ℕ) (e : Numbered) (rest left : List Numbered) (old new goal : BestState) → left ≡ e ∷ rest → new ≡ offered_between name start end (e ∷ []) old → offered_between name start end left old ≡ goal → offered_between name start end rest new ≡ goal
-offered_step name start end e rest left old new goal is step so_far =
-    ap (offered_between name start end rest) step ∙ sym (offered_parts name start end (e ∷ []) rest old) ∙ sym (ap (λ l. offered_between name start end l old) is) ∙ so_far
-
-pub block_step : (name : List ℕ) (start end : ℕ) (block : List Numbered) (rest left : List (List Numbered)) (old new goal : BestState) → left ≡ block ∷ rest → new ≡ offered_between name start end block old → offered_between name start end (in_blocks left) old ≡ goal → offered_between name start end (in_blocks rest) new ≡ goal
-block_step name start end block rest left old new goal is step so_far =
-    ap (offered_between name start end (in_blocks rest)) step ∙ sym (offered_parts name start end block (in_blocks rest) old) ∙ sym (ap (λ l. offered_between name start end (in_blocks l) old) is) ∙ so_far
+use Rattle.ing_parts.specs.Answers.{BestState, Offers}
+use Rattle.ing_parts.specs.Parts.{found_of}
 
 -- what is left from an index on
 pub left_from : {X : Type 0} (xs : List X) (i : ℕ) (x : X) → i < length xs → x ≡ get_or xs i x → drop i xs ≡ x ∷ drop (i + 1) xs
 left_from xs i x within is = rw (add-one) (drop-cons xs i x within ∙ ap (λ y. y ∷ drop (suc i) xs) (sym is))
+
+pub empty_is : {X : Type 0} (xs : List X) → length xs ≡ 0 → xs ≡ []
+empty_is [] h = refl
+empty_is (x ∷ xs) h = absurd (omega (arith, h))
+
+-- one entry offers these and goes ahead of the others that are left
+module _ (both : (x y : List Found) (old mid new : BestState) → Offers x old mid → Offers y mid new → Offers (x ++ y) old new) {X : Type 0} (m : X → List Found) where
+  pub offers_step : (x : X) (rest left : List X) (all : List Found) (old mid new last : BestState) → left ≡ x ∷ rest → Offers (m x) mid new → ((last : BestState) → Offers (flat_map m left) mid last → Offers all old last) → Offers (flat_map m rest) new last → Offers all old last
+  offers_step x rest left all old mid new last is one before h = before last (subst (λ l. Offers (flat_map m l) mid last) (sym is) (both (m x) (flat_map m rest) mid new last one h))
+
+-- entries that are copied one after another
+pub copy_step : (name : List ℕ) (block rest left : List Numbered) (old new goal : List Found) → left ≡ block ++ rest → new ≡ old ++ map (found_of name) block → old ++ map (found_of name) left ≡ goal → new ++ map (found_of name) rest ≡ goal
+copy_step name block rest left old new goal is step so_far =
+    ap (λ l. l ++ map (found_of name) rest) step ∙ append_assoc old (map (found_of name) block) (map (found_of name) rest)
+    ∙ ap (λ l. old ++ l) (sym (map-append (found_of name) block rest)) ∙ sym (ap (λ l. old ++ map (found_of name) l) is) ∙ so_far

@@ -3,7 +3,8 @@ use Rattle.std.proofs.Common.{◌≡◌, ℕ, ◌≤◌, ◌<◌, Bool, true, fa
 use Rattle.std.specs.Prelude.{Result, Err, IfErr}
 use Rattle.std.specs.Result.{IsErrAnd}
 use Rattle.std.specs.List.{Contains}
-use Rattle.std.proofs.lemmas.List.Elements.{Contains-append_left, Contains-append_right, Contains-push}
+use Rattle.std.specs.Prelude.{All}
+use Rattle.std.proofs.lemmas.List.Elements.{All-nil, All-cons, Contains-append_left, Contains-append_right, Contains-push}
 use Rattle.std.proofs.lemmas.Bool.{le-ltb, lt-leb}
 use Rattle.ing_chunk.specs.declared.numbered.Numbered.{Numbered}
 use Rattle.ing_chunk.specs.Chunks.{least_of, greatest_of}
@@ -11,12 +12,12 @@ use Rattle.ing_codec.specs.declared.extent.Extent.{Extent}
 use Rattle.ing_codec.specs.ChunkReading.{read_chunk}
 use Rattle.ing_codec.specs.Laws.{ChunksAreExact}
 use Rattle.ing_parts.specs.Listings.{IsListing, Listed, listed_of, blocks_in}
-use Rattle.ing_parts.specs.Parts.{found_of, is_within}
-use Rattle.ing_query.specs.declared.order.Order.{Order}
-use Rattle.ing_query.specs.declared.order.Order.TheVariants.{Forward, Backward}
+use Rattle.ing_parts.specs.Answers.{IsFrom}
+use Rattle.ing_parts.specs.Parts.{found_between, found_of, is_within}
+use Rattle.ing_parts.specs.declared.order.Order.{Order}
+use Rattle.ing_parts.specs.declared.order.Order.TheVariants.{Forward, Backward}
 use Rattle.ing_query.specs.declared.fault.QueryFault.{QueryFault}
 use Rattle.ing_query.specs.declared.fault.QueryFault.TheVariants.{NoMemory, StoreFault, BadObject}
-use Rattle.ing_query.specs.Best.{BestState, IsFrom, PassesOver, found_between, offered, offered_all, offered_between}
 use Rattle.ing_query.specs.Fetched.{IsSpelt, KeyIs}
 use Rattle.ing_query.specs.Gathered.{AreFrom}
 
@@ -44,14 +45,14 @@ first_from : (order : Order) (from : ℕ) (e : Numbered) (es : List Numbered) �
 first_from Forward from e es h = (omega arith, omega arith)
 first_from Backward from e es h = (omega arith, omega arith)
 
--- none of them is kept
-pub all_pass : (b : BestState) (from : ℕ) (name : List ℕ) (start end : ℕ) (es : List Numbered) → PassesOver from b → AreFrom b.order from es → b ≡ offered_between name start end es b
-all_pass b from name start end [] pass h = refl
-all_pass b from name start end (e ∷ es) pass h =
-    step (is_within start end (found_of name e)) (pass (found_of name e) (first_from b.order from e es h).0) (all_pass b from name start end es pass (first_from b.order from e es h).1) where
-      step : (t : Bool) → offered (found_of name e) b ≡ b → b ≡ offered_between name start end es b → b ≡ offered_all (cond t (found_of name e ∷ found_between name start end es) (found_between name start end es)) b
-      step true stays rest = rest ∙ ap (λ x. offered_between name start end es x) (sym stays)
-      step false stays rest = rest
+-- the stamps of those in the range
+pub all_from : (order : Order) (from : ℕ) (name : List ℕ) (start end : ℕ) (es : List Numbered) → AreFrom order from es → All (λ f. IsFrom order from f.entry.stamp) (found_between name start end es)
+all_from order from name start end [] h = All-nil (λ f. IsFrom order from f.entry.stamp)
+all_from order from name start end (e ∷ es) h =
+    step (is_within start end (found_of name e)) (first_from order from e es h).0 (all_from order from name start end es (first_from order from e es h).1) where
+      step : (t : Bool) → IsFrom order from e.entry.stamp → All (λ f. IsFrom order from f.entry.stamp) (found_between name start end es) → All (λ f. IsFrom order from f.entry.stamp) (cond t (found_of name e ∷ found_between name start end es) (found_between name start end es))
+      step true here rest = All-cons (λ f. IsFrom order from f.entry.stamp) (found_of name e) (found_between name start end es) here rest
+      step false here rest = rest
 
 pub holds : (b : Bool) → not b ≡ false → b ≡ true
 holds true h = refl

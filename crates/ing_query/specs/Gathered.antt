@@ -1,17 +1,17 @@
 -- What of the parts of streams stands in memory, and what is still to be read from a store (own).
-use Rattle.std.specs.Prelude.{◌≡◌, ℕ, ◌≤◌, List, [], ◌∷◌, map}
+use Rattle.std.specs.Prelude.{◌≡◌, ℕ, ◌≤◌, List, [], ◌∷◌, ◌++◌, map}
 use Rattle.std.specs.List.{flat_map}
 use Rattle.ing_chunk.specs.declared.numbered.Numbered.{Numbered}
 use Rattle.ing_chunk.specs.Chunks.{entries_of, in_blocks, least_of, greatest_of}
 use Rattle.ing_parts.specs.declared.found.Found.{Found}
+use Rattle.ing_parts.specs.Parts.{found_between}
 use Rattle.ing_parts.specs.declared.part.Part.{Part}
 use Rattle.ing_parts.specs.declared.snapshot.Snapshot.{Snapshot}
 use Rattle.ing_parts.specs.declared.part.Source.{Source}
-use Rattle.ing_parts.specs.declared.part.Source.TheVariants.{Copied, Shared, Stored}
-use Rattle.ing_query.specs.declared.order.Order.{Order}
-use Rattle.ing_query.specs.declared.order.Order.TheVariants.{Forward, Backward}
+use Rattle.ing_parts.specs.declared.part.Source.TheVariants.{Shared, Stored}
+use Rattle.ing_parts.specs.declared.order.Order.{Order}
+use Rattle.ing_parts.specs.declared.order.Order.TheVariants.{Forward, Backward}
 use Rattle.ing_query.specs.declared.waiting.Waiting.{Waiting}
-use Rattle.ing_query.specs.Best.{found_between}
 
 -- what is wanted of a part that waits
 abbrev pub wanted_there : {R : Type 0} → Waiting R → List Found
@@ -23,13 +23,11 @@ key_there w = w.listing.key
 
 -- what is wanted of a place in memory
 abbrev pub in_memory : {R : Type 0} → List ℕ → ℕ → ℕ → Source R → List Found
-in_memory name start end (Copied entries) = found_between name start end entries.items
 in_memory name start end (Shared chunk) = found_between name start end (entries_of chunk.value)
 in_memory name start end (Stored listing) = []
 
 -- what waits of a place in a store
 abbrev pub in_store : {R : Type 0} → List ℕ → ℕ → ℕ → Source R → List (Waiting R)
-in_store name start end (Copied entries) = []
 in_store name start end (Shared chunk) = []
 in_store name start end (Stored listing) =
     record { name = name; listing = listing; start = start; end = end } ∷ []
@@ -40,9 +38,9 @@ memory_in start end p = in_memory p.name start end p.source
 abbrev pub waiting_in : {R : Type 0} → ℕ → ℕ → Part R → List (Waiting R)
 waiting_in start end p = in_store p.name start end p.source
 
--- the same of a snapshot
+-- the same of a snapshot: what it keeps stands in memory too
 abbrev pub memory_of : {R : Type 0} → Snapshot R → List Found
-memory_of s = flat_map (memory_in s.start s.end) s.parts.items
+memory_of s = s.best.held ++ flat_map (memory_in s.start s.end) s.parts.items
 
 abbrev pub waiting_of : {R : Type 0} → Snapshot R → List (Waiting R)
 waiting_of s = flat_map (waiting_in s.start s.end) s.parts.items
@@ -58,6 +56,5 @@ AreFrom Backward from es = greatest_of es ≤ from
 
 -- the key of a place in a store
 abbrev pub IsKeyIn : {R : Type 0} → Source R → List ℕ → Type 0
-IsKeyIn (Copied entries) key = ⊥
 IsKeyIn (Shared chunk) key = ⊥
 IsKeyIn (Stored listing) key = key ≡ listing.key

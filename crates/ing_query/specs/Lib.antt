@@ -1,4 +1,3 @@
 pub mod Answers
-pub mod Best
 pub mod Fetched
 pub mod Gathered

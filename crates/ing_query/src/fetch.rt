@@ -6,19 +6,19 @@ ghost use Rattle.ing_codec.specs.ChunkReading.{read_chunk};
 ghost use Rattle.ing_query.specs.Fetched.{IsSpelt, IsCounted, HasKey, IsNotBad, IsNotStore};
 
 use crate::fault::QueryFault;
-use ing_codec::{CodecFault, StoredChunk, chunk_key, decode_chunk};
+use ing_codec::{CodecFault, LentChunk, chunk_key, decode_lent};
 use ing_parts::Listing;
 use ing_store::{Receipt, StoreEnd, StoreFault};
 use std::alloc::Global;
 
-/// The chunk that bytes spell.
-fn spelt(alloc: Global, bytes: &[u8], key: &[u8; 32]) -> Result<StoredChunk, QueryFault>
+/// The chunk that bytes spell, with its lines left in them.
+fn spelt<'a>(alloc: Global, bytes: &'a [u8], key: &[u8; 32]) -> Result<LentChunk<'a>, QueryFault>
     ensures value { IfOk result (λ chunk. read_chunk bytes.now ≡ Ok chunk) }
     ensures good { (object : ChunkObject) → read_chunk bytes.now ≡ Ok object → IsNotBad result }
     ensures key { HasKey (λ k. k ≡ key.now) result }
     ensures store { IsNotStore result }
 {
-    match decode_chunk(alloc, bytes) {
+    match decode_lent(alloc, bytes) {
         Ok(chunk) => Ok(chunk),
         Err(CodecFault::NoMemory) => Err(QueryFault::NoMemory),
         Err(_) => Err(QueryFault::BadObject { key: *key }),
@@ -55,15 +55,16 @@ fn got<S: StoreEnd>(
     }
 }
 
-/// A listed chunk. `StoreFault` only where the end has failed, and `BadObject` where the bytes are not those
-/// that are listed.
+/// The bytes of a listed chunk, which may be taken for it. `StoreFault` only where the end has failed, and `BadObject` where
+/// the bytes are not those that are listed.
 pub(crate) fn fetch<S: StoreEnd>(
     alloc: Global,
     listing: &Listing<S::Receipt>,
     end: &mut S,
-) -> Result<StoredChunk, QueryFault>
-    ensures answer { IsSpelt listing.now → S.is_honest →
-        IfOk result (λ chunk. chunk.blocks ≡ listing.now.blocks) }
+) -> Result<Vec<u8>, QueryFault>
+    ensures bytes { S.is_honest → IfOk result (λ bytes. bytes.items ≡ listing.now.bytes) }
+    // What is taken for it has its key, unless it comes from an end that is proved honest.
+    ensures own { IfOk result (λ bytes. (listing.now.key ≡ sha256 bytes.items) ⊎ S.is_honest) }
     ensures honest { IsSpelt listing.now → S.is_honest → IsNotBad result }
     ensures count { IsCounted (S.failure_count end.old) (S.failure_count end.new) result }
     ensures key { HasKey (λ k. k ≡ listing.now.key) result }
@@ -75,5 +76,20 @@ pub(crate) fn fetch<S: StoreEnd>(
     if !is_of_key(end, &bytes, key) {
         return Err(QueryFault::BadObject { key: *key });
     }
-    spelt(alloc, &bytes, key)
+    Ok(bytes)
+}
+
+/// The chunk that fetched bytes spell, with its lines left in them. `BadObject` where they are not those that are listed.
+pub(crate) fn read<'a, R: Receipt>(
+    alloc: Global,
+    listing: &Listing<R>,
+    bytes: &'a [u8],
+) -> Result<LentChunk<'a>, QueryFault>
+    ensures blocks { IsSpelt listing.now → bytes.now ≡ listing.now.bytes →
+        IfOk result (λ chunk. chunk.blocks ≡ listing.now.blocks) }
+    ensures good { IsSpelt listing.now → bytes.now ≡ listing.now.bytes → IsNotBad result }
+    ensures key { HasKey (λ k. k ≡ listing.now.key) result }
+    ensures store { IsNotStore result }
+{
+    spelt(alloc, bytes, listing.key())
 }

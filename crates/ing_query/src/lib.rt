@@ -1,17 +1,14 @@
 //! What a query gives: the first entries, in an order, of those that snapshots have in memory and in a store.
 #![tactic(auto)]
 
-mod best;
 mod fault;
 mod fetch;
 mod offers;
-mod order;
 mod part_reading;
 mod query;
 mod stored;
 mod waiting;
 
 pub use fault::QueryFault;
-pub use order::Order;
 pub use part_reading::read_part;
 pub use query::run_query;

@@ -1,133 +1,130 @@
-//! Entries of one stream, offered to the best.
-ghost use Rattle.std.specs.Prelude.{◌≡◌, ℕ, List, ◌∷◌, [], OnOk, true, false};
+//! Entries of one stream whose lines stay in bytes, offered to the best.
+ghost use Rattle.std.specs.Prelude.{◌≡◌, ℕ, List, ◌∷◌, [], IfOk, OnOk, true, false};
 ghost use Rattle.ing_chunk.specs.Chunks.{in_blocks, is_between};
-ghost use Rattle.ing_parts.specs.Parts.{found_of};
-ghost use Rattle.ing_query.specs.Best.{offered_between};
+ghost use Rattle.ing_parts.specs.Answers.{Offers};
+ghost use Rattle.ing_parts.specs.Parts.{found_between, found_of};
 
-use crate::best::Best;
-use ing_chunk::{Block, Numbered};
-use ing_parts::{Found, StreamName};
+use ing_codec::{LentBlock, LentEntry};
+use ing_parts::{Best, Found, Order, StreamName, offers_of_streams};
 use std::alloc::{AllocError, Global};
 
-/// Whether the stamp is at least the start and below the end.
-fn is_in_range(numbered: &Numbered, start: u64, end: u64) -> bool
-    ensures { result ≡ is_between start end numbered.now }
-{
-    let stamp = numbered.entry.stamp.nanoseconds();
-    start <= stamp && stamp < end
-}
-
-/// Whether an entry is to be offered: its stamp is in the range, and it may be kept.
-fn is_offered(best: &Best, numbered: &Numbered, start: u64, end: u64) -> bool
-    ensures offered { result ≡ true → is_between start end numbered.now ≡ true }
-    ensures passed { result ≡ false → (name : List ℕ) →
-        best.now ≡ offered_between name start end (numbered.now ∷ []) best.now }
-{
-    if !is_in_range(numbered, start, end) {
-        return false;
-    }
-    !best.passes_over(numbered.entry.stamp.nanoseconds())
-}
-
-/// Offers a copy of an entry whose stamp is in the range. It is made only where it may be kept.
-fn offer_copy(
-    best: &mut Best,
+/// What a query gives of an entry, with a copy of its line.
+pub(crate) fn lent_found(
     alloc: Global,
     name: &StreamName,
-    numbered: &Numbered,
-    start: u64,
-    end: u64,
-) -> Result<(), AllocError>
-    ensures { OnOk result
-        (best.new ≡ offered_between name.now start end (numbered.now ∷ []) best.old) }
+    lent: &LentEntry<'_>,
+) -> Result<Found, AllocError>
+    ensures { IfOk result (λ found. found ≡ found_of name.now lent.now) }
 {
-    if !is_offered(best, numbered, start, end) {
-        return Ok(());
-    }
-    best.offer(Found {
+    let numbered = lent.to_numbered(alloc)?;
+    Ok(Found {
         name: name.share()?,
         number: numbered.number,
-        entry: numbered.entry.try_clone(alloc)?,
+        entry: numbered.entry,
     })
 }
 
-/// Offers copies of those whose stamp is in the range.
-pub(crate) fn offer_entries(
-    best: &mut Best,
-    alloc: Global,
-    name: &StreamName,
-    entries: &[Numbered],
-    start: u64,
-    end: u64,
-) -> Result<(), AllocError>
-    ensures { OnOk result (best.new ≡ offered_between name.now start end entries.now best.old) }
+/// Whether an entry is to be offered: its stamp is in the range, and it may be kept.
+fn is_offered(best: &Best, lent: &LentEntry<'_>, start: u64, end: u64) -> bool
+    ensures offered { result ≡ true → is_between start end lent.now ≡ true }
+    ensures passed { result ≡ false → (name : List ℕ) →
+        Offers (found_between name start end (lent.now ∷ [])) best.now best.now }
 {
-    for numbered in entries {
-        offer_copy(best, alloc, name, numbered, start, end)?;
-    }
-    Ok(())
+    offers_of_streams();
+    let stamp = lent.stamp().nanoseconds();
+    start <= stamp && stamp < end && !best.bars(stamp)
 }
 
-/// Offers copies of the entries of blocks whose stamp is in the range.
-pub(crate) fn offer_blocks(
+/// Offers a copy of an entry whose stamp is in the range. It is made only where it may be kept.
+fn offer_one(
     best: &mut Best,
     alloc: Global,
     name: &StreamName,
-    blocks: &[Block],
+    lent: &LentEntry<'_>,
     start: u64,
     end: u64,
 ) -> Result<(), AllocError>
     ensures { OnOk result
-        (best.new ≡ offered_between name.now start end (in_blocks blocks.now) best.old) }
+        (Offers (found_between name.now start end (lent.now ∷ [])) best.old best.new) }
 {
-    for block in blocks {
-        offer_entries(best, alloc, name, block.entries(), start, end)?;
-    }
-    Ok(())
-}
-
-/// What a query gives of an entry.
-fn found(name: StreamName, numbered: Numbered) -> Found
-    ensures { result ≡ found_of name numbered }
-{
-    Found {
-        name,
-        number: numbered.number,
-        entry: numbered.entry,
-    }
-}
-
-/// Offers an entry whose stamp is in the range.
-fn offer_moved(
-    best: &mut Best,
-    name: &StreamName,
-    numbered: Numbered,
-    start: u64,
-    end: u64,
-) -> Result<(), AllocError>
-    ensures { OnOk result
-        (best.new ≡ offered_between name.now start end (numbered ∷ []) best.old) }
-{
-    if !is_offered(best, &numbered, start, end) {
+    if !is_offered(best, lent, start, end) {
         return Ok(());
     }
-    let name = name.share()?;
-    best.offer(found(name, numbered))
+    best.offer(lent_found(alloc, name, lent)?)?;
+    Ok(())
 }
 
-/// Offers those whose stamp is in the range.
-pub(crate) fn offer_all_moved(
+/// Offers copies of those whose stamp is in the range, the last one first.
+fn offer_from_last(
     best: &mut Best,
+    alloc: Global,
     name: &StreamName,
-    entries: Vec<Numbered>,
+    entries: &[LentEntry<'_>],
     start: u64,
     end: u64,
 ) -> Result<(), AllocError>
     ensures { OnOk result
-        (best.new ≡ offered_between name.now start end entries.items best.old) }
+        (Offers (found_between name.now start end entries.now) best.old best.new) }
 {
-    for numbered in entries {
-        offer_moved(best, name, numbered, start, end)?;
+    offers_of_streams();
+    for index in (0..entries.len()).rev() {
+        offer_one(best, alloc, name, &entries[index], start, end)?;
+    }
+    Ok(())
+}
+
+/// Offers copies of those whose stamp is in the range, the first one first.
+fn offer_from_first(
+    best: &mut Best,
+    alloc: Global,
+    name: &StreamName,
+    entries: &[LentEntry<'_>],
+    start: u64,
+    end: u64,
+) -> Result<(), AllocError>
+    ensures { OnOk result
+        (Offers (found_between name.now start end entries.now) best.old best.new) }
+{
+    offers_of_streams();
+    for lent in entries {
+        offer_one(best, alloc, name, lent, start, end)?;
+    }
+    Ok(())
+}
+
+/// Offers copies of those whose stamp is in the range, that which an answer has first before the others.
+fn offer_entries(
+    best: &mut Best,
+    alloc: Global,
+    name: &StreamName,
+    entries: &[LentEntry<'_>],
+    start: u64,
+    end: u64,
+) -> Result<(), AllocError>
+    ensures { OnOk result
+        (Offers (found_between name.now start end entries.now) best.old best.new) }
+{
+    match best.order() {
+        Order::Forward => offer_from_first(best, alloc, name, entries, start, end),
+        Order::Backward => offer_from_last(best, alloc, name, entries, start, end),
+    }
+}
+
+/// Offers copies of the entries of blocks whose stamp is in the range, the last block first.
+pub(crate) fn offer_lent(
+    best: &mut Best,
+    alloc: Global,
+    name: &StreamName,
+    blocks: &[LentBlock<'_>],
+    start: u64,
+    end: u64,
+) -> Result<(), AllocError>
+    ensures { OnOk result
+        (Offers (found_between name.now start end (in_blocks blocks.now)) best.old best.new) }
+{
+    offers_of_streams();
+    for index in (0..blocks.len()).rev() {
+        offer_entries(best, alloc, name, blocks[index].entries(), start, end)?;
     }
     Ok(())
 }

@@ -7,7 +7,7 @@ mod sealed_chunks;
 mod uploads;
 
 pub use sealed_chunks::{Claim, SealedChunks};
-pub use uploads::{Flushed, upload};
+pub use uploads::{Flushed, upload, upload_chunk, upload_row};
 
 #[cfg(test)]
 mod tests;

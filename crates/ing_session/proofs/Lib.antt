@@ -9,5 +9,4 @@ pub mod RunsLaws
 mod ObeyLaws
 mod StreamsLaws
 mod EndingsLaws
-mod Reordered
 pub mod QueryLaws

@@ -3,16 +3,18 @@ use Rattle.std.proofs.Common.{◌≡◌, ◌≢◌, ℕ, ◌≤◌, Bool, List, 
 use Rattle.std.specs.Prelude.{IfOk, IsErr, IsPermutation}
 use Rattle.std.specs.declared.alloc.AllocError.{AllocError}
 use Rattle.std.proofs.lemmas.List.Concat.{flat_map-cons}
-use Rattle.std.proofs.lemmas.List.Sorted.{IsPermutation-map, IsPermutation-sym, IsPermutation-trans}
+use Rattle.std.proofs.lemmas.List.Sorted.{IsPermutation-sym}
 use Rattle.serde_json.specs.Data.{Data}
 use Rattle.ing_labels.specs.TextFaults.{IsSelectorFault, text_fault_place, text_refusal_of}
 use Rattle.ing_labels.specs.declared.text_fault.TextFault.{TextFault}
 use Rattle.ing_labels.specs.declared.text_fault.TextFault.TheVariants as texts
 use Rattle.ing_limits.specs.Settings.{StoreSettings}
 use Rattle.ing_parts.specs.declared.found.Found.{Found}
+use Rattle.ing_parts.specs.declared.order.Order.{Order}
 use Rattle.ing_parts.specs.declared.snapshot.Snapshot.{Snapshot}
 use Rattle.ing_parts.specs.Parts.{HasRows, found_at, wanted, within}
-use Rattle.ing_query.specs.Answers.{IsAnswer, wanted_in, wanted_of}
+use Rattle.ing_parts.specs.Answers.{IsAnswer, StandFor}
+use Rattle.ing_query.specs.Answers.{wanted_in}
 use Rattle.ing_query.specs.Fetched.{Counts, NotBad}
 use Rattle.ing_query.specs.declared.fault.QueryFault.{QueryFault}
 use Rattle.ing_query.specs.declared.fault.QueryFault.TheVariants.{NoMemory, StoreFault, BadObject}
@@ -30,29 +32,31 @@ use Rattle.ing_session.specs.Replies.{fault_data}
 use Rattle.ing_session.specs.Runs.{Obeys}
 use Rattle.ing_session.specs.Session.{query_reply}
 use Rattle.ing_session.specs.Views.{reply_data}
-use Rattle.ing_session.proofs.Reordered.{filter_reordered}
 use Rattle.ing_session.proofs.RunsLaws.{no_failure}
 
 -- what is wanted of one snapshot
 pub one_wanted : {R : Type 0} (s : Snapshot R) → wanted_in (s ∷ []) ≡ wanted s
-one_wanted s = flat_map-cons wanted_of s [] ∙ append-nil (wanted_of s)
+one_wanted s = flat_map-cons wanted s [] ∙ append-nil (wanted s)
 
 -- the answer from a snapshot is that of the rows
-pub is_found : {R : Type 0} (query : QueryCommand) (p : StreamKey → Bool) (mine rows : List Row) (s : Snapshot R) (found : List Found) → IsPermutation mine rows
-    → HasRows (filter (λ r. p r.stream) mine) s → s.start ≡ query.start → s.end ≡ query.end → IsAnswer query.order query.limit (wanted s) found
-    → IsFound query (filter (λ r. p r.stream) rows) found
-is_found query p mine rows s found same has first last answer =
-    let q = λ (r : Row). p r.stream in
-    record {
-      all = has.all;
-      same =
-          IsPermutation-trans (map found_at (filter q rows)) (map found_at (filter q mine)) has.all
-          (IsPermutation-map found_at (filter q rows) (filter q mine) (filter_reordered q rows mine (IsPermutation-sym mine rows same))) has.same;
-      answer =
-          subst (λ n. IsAnswer query.order query.limit (within query.start n has.all) found) last
-          (subst (λ n. IsAnswer query.order query.limit (within n s.end has.all) found) first
-          (subst (λ l. IsAnswer query.order query.limit l found) has.is answer));
-    }
+module _ (no_order : (test : Row → Bool) (rows others : List Row) → IsPermutation rows others → IsPermutation (map found_at (filter test rows)) (map found_at (filter test others)))
+    (answered : (order : Order) (limit : ℕ) (some all answer : List Found) → StandFor order limit some all → IsAnswer order limit some answer → IsAnswer order limit all answer) where
+  pub is_found : {R : Type 0} (query : QueryCommand) (p : StreamKey → Bool) (mine rows : List Row) (s : Snapshot R) (found : List Found) → IsPermutation mine rows
+      → HasRows (filter (λ r. p r.stream) mine) s → s.start ≡ query.start → s.end ≡ query.end → s.best.order ≡ query.order → s.best.limit ≡ query.limit → IsAnswer query.order query.limit (wanted s) found
+      → IsFound query (filter (λ r. p r.stream) rows) found
+  is_found query p mine rows s found same has first last order limit answer =
+      let q = λ (r : Row). p r.stream in
+      let all = map found_at (filter q mine) in
+      let stand : StandFor query.order query.limit (wanted s) (within s.start s.end all) =
+      subst (λ o. StandFor o query.limit (wanted s) (within s.start s.end all)) order (subst (λ n. StandFor s.best.order n (wanted s) (within s.start s.end all)) limit has) in
+      record {
+        all = all;
+        same = no_order q rows mine (IsPermutation-sym mine rows same);
+        answer =
+            subst (λ n. IsAnswer query.order query.limit (within query.start n all) found) last
+            (subst (λ n. IsAnswer query.order query.limit (within n s.end all) found) first
+            (answered query.order query.limit (wanted s) (within s.start s.end all) found stand answer));
+      }
 
 -- a fault of a query lets the count of failures not fall
 pub risen : (before after : ℕ) (fault : QueryFault) → Counts before after fault → before ≤ after

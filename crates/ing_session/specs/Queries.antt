@@ -5,8 +5,8 @@ use Rattle.ing_labels.specs.TextFaults.{IsSelectorFault}
 use Rattle.ing_labels.specs.declared.text_fault.TextFault.{TextFault}
 use Rattle.ing_labels.specs.declared.text_fault.TextFault.TheVariants.{NoMemory}
 use Rattle.ing_parts.specs.declared.found.Found.{Found}
+use Rattle.ing_parts.specs.Answers.{IsAnswer}
 use Rattle.ing_parts.specs.Parts.{found_at, within}
-use Rattle.ing_query.specs.Answers.{IsAnswer}
 use Rattle.ing_rows.specs.Rows.{Row, StreamKey}
 use Rattle.ing_shard.specs.Picked.{Picks}
 use Rattle.ing_session.specs.QueryCommands.{QueryCommand}

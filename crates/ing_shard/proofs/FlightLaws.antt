@@ -53,7 +53,7 @@ free_first f Block gs h = (refl, h)
 free_first f (Flight g) gs h = flight_case f g gs (g == f) refl h
 free_first f (Stored key) gs h = (refl, h)
 
-free_among : (f : ℕ) (xs : List Slot) → length (filter (λ g. g == f) (flights_of xs)) ≡ 0
+pub free_among : (f : ℕ) (xs : List Slot) → length (filter (λ g. g == f) (flights_of xs)) ≡ 0
     → NoneInFlight f xs
 free_among f [] h = All-nil (λ (x : Slot). is_flight f x.place ≡ false)
 free_among f (x ∷ xs) h =
@@ -93,13 +93,51 @@ pub flies_here : (f i : ℕ) (chunk : ChunkContents) (st : Stream)
     → slice_get st.chunks.sealed i ≡ Some (slot_at (Flight f) chunk) → 0 < flights_in f st
 flies_here f i chunk st is = flies_among f i chunk st.chunks.sealed is
 
+-- the chunk of a flight is the only one in it
+alone_at : (f : ℕ) (place : Place) (gs : List ℕ) → is_flight f place ≡ true
+    → length (filter (λ g. g == f) (flight_at place ++ gs)) ≤ 1 → length (filter (λ g. g == f) gs) ≡ 0
+alone_at f Head gs flies most = absurd (cc)
+alone_at f Block gs flies most = absurd (cc)
+alone_at f (Flight g) gs flies most =
+    let one = ap {B = ℕ} (λ b. cond b 1 0) (eq-eqb g f (sym (eqb-true f g flies))) in
+    let more = chosen_more (g == f) g (filter (λ k. k == f) gs) in
+    omega (arith, most, one, more)
+alone_at f (Stored key) gs flies most = absurd (cc)
+
+pub first_alone : (f : ℕ) (x : Slot) (xs : List Slot) → is_flight f x.place ≡ true
+    → length (filter (λ g. g == f) (flights_of (x ∷ xs))) ≤ 1 → length (filter (λ g. g == f) (flights_of xs)) ≡ 0
+first_alone f x xs flies most = alone_at f x.place (flights_of xs) flies most
+
+other_case : (f g : ℕ) (fs : List ℕ) (b : Bool) → (g == f) ≡ b → length (cond b (g ∷ fs) fs) ≤ 1 → 0 < length fs
+    → ((f == g) ≡ false) × (length fs ≤ 1)
+other_case f g fs true is most some = absurd (omega (arith, most, some))
+other_case f g fs false is most some = (ne_eqb f g (λ same. eqb-false g f is (sym same)), most)
+
+other_at : (f : ℕ) (place : Place) (gs : List ℕ) → length (filter (λ g. g == f) (flight_at place ++ gs)) ≤ 1
+    → 0 < length (filter (λ g. g == f) gs) → (is_flight f place ≡ false) × (length (filter (λ g. g == f) gs) ≤ 1)
+other_at f Head gs most some = (refl, most)
+other_at f Block gs most some = (refl, most)
+other_at f (Flight g) gs most some = other_case f g (filter (λ k. k == f) gs) (g == f) refl most some
+other_at f (Stored key) gs most some = (refl, most)
+
+-- and one before it is in another
+pub first_other : (f : ℕ) (x : Slot) (xs : List Slot) (i : ℕ) (chunk : ChunkContents)
+    → length (filter (λ g. g == f) (flights_of (x ∷ xs))) ≤ 1 → slice_get xs i ≡ Some (slot_at (Flight f) chunk)
+    → (is_flight f x.place ≡ false) × (length (filter (λ g. g == f) (flights_of xs)) ≤ 1)
+first_other f x xs i chunk most is = other_at f x.place (flights_of xs) most (flies_among f i chunk xs is)
+
+-- no row of a chunk that grows or was never claimed is in a flight
+pub free_memory : (f : ℕ) (st : Stream) → NoneFlies f (stream_state (key_of st) st.chunks.memory)
+free_memory f st =
+    memory_all (key_of st) (λ r. is_flight f r.place ≡ false) st.chunks.memory (λ c. (λ b e. refl, λ b e. refl))
+
 -- and no row is in a flight in which none of its stream's chunks is
-free_part : (f : ℕ) (st : Stream) → flights_in f st ≡ 0 → NoneFlies f (part_of st)
+pub free_part : (f : ℕ) (st : Stream) → flights_in f st ≡ 0 → NoneFlies f (part_of st)
 free_part f st h =
     let s = key_of st in
     let Grounded : Row → Type 0 = λ r. is_flight f r.place ≡ false in
     All-append Grounded (stream_state s st.chunks.memory).rows (slots_state s st.chunks.sealed).rows
-    (memory_all s Grounded st.chunks.memory (λ c. (λ b e. refl, λ b e. refl)))
+    (free_memory f st)
     (slots_all s Grounded st.chunks.sealed
     (All-weaker (λ (x : Slot). is_flight f x.place ≡ false)
     (λ (x : Slot). (block : ℕ) (e : Numbered) → Grounded (row_in s x.first block x.place e))

@@ -2,6 +2,7 @@ mod Alike
 mod ChangeLaws
 mod CountLaws
 mod FlightLaws
+mod FlownRowsLaws
 mod FlushLaws
 mod HeldLaws
 mod JudgeLaws
@@ -14,6 +15,7 @@ mod ReadLaws
 mod SealLaws
 mod ShardLaws
 mod SnapshotLaws
+mod StayLaws
 mod StreamLaws
 mod SumLaws
 mod TakeLaws

@@ -17,7 +17,7 @@ use Rattle.ing_shard.specs.declared.sealing.Sealing.{Sealing}
 use Rattle.ing_shard.specs.declared.sealing.Sealing.TheVariants.{Due, Forced}
 use Rattle.ing_shard.specs.OneStream.{Stream}
 use Rattle.ing_shard.specs.Sealing.{AreSealed, AreSealedTo, IsSealed, SealsOne, count_sealed, is_sealing, op, ops_after, ops_from, sealed_among, sealed_of, why_by, why_of}
-use Rattle.ing_shard.specs.Streams.{key_of, part_of, whole, AreDistinct, IsKept}
+use Rattle.ing_shard.specs.Streams.{key_of, part_of, slots_of, whole, AreDistinct, IsKept}
 use Rattle.ing_shard.proofs.Alike.{same_refl, same_trans, beside_left, beside_right}
 use Rattle.ing_shard.proofs.CountLaws.{filter_eq, filter_false, reordered, sum_cons}
 use Rattle.ing_shard.proofs.Parts.{all_rows, all_marks}
@@ -98,7 +98,7 @@ whole_sealed parts counts sweeps reasons which rules (st ∷ sts) (new ∷ news)
 
 -- ---- what can be claimed
 
-none_pass : {X : Type 0} (p : X → Bool) (xs : List X) → All (λ x. p x ≡ false) xs → filter p xs ≡ []
+pub none_pass : {X : Type 0} (p : X → Bool) (xs : List X) → All (λ x. p x ≡ false) xs → filter p xs ≡ []
 none_pass p xs h = filter_eq p (λ x. false) xs h ∙ filter_false xs
 
 abbrev outside : StreamKey → ℕ → Row → Bool
@@ -266,3 +266,9 @@ keys_sealed which rules [] [] h = refl
 keys_sealed which rules [] (new ∷ news) h = absurd h
 keys_sealed which rules (st ∷ sts) [] h = absurd h
 keys_sealed which rules (st ∷ sts) (new ∷ news) h = λ i. record { tenant = h.0.tenant i; name = canonical_of (h.0.labels i) } ∷ keys_sealed which rules sts news h.1 i
+
+pub slots_sealed : (which : Sealing) (rules : List ℕ → Rules) (sts news : List Stream) → AreSealed which rules sts news → map slots_of news ≡ map slots_of sts
+slots_sealed which rules [] [] h = refl
+slots_sealed which rules [] (new ∷ news) h = absurd h
+slots_sealed which rules (st ∷ sts) [] h = absurd h
+slots_sealed which rules (st ∷ sts) (new ∷ news) h = λ i. h.0.claimed i ∷ slots_sealed which rules sts news h.1 i

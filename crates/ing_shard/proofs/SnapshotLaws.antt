@@ -1,11 +1,12 @@
 -- What is read off a shard for a query: the rows of the streams that are picked.
-use Rattle.std.proofs.Common.{◌≡◌, ℕ, ◌+◌, Bool, true, false, cond, List, [], ◌∷◌, ◌++◌, length, map, filter, Some, refl, ap, sym, ◌∙◌, append_assoc, length-append, arith, subst}
+use Rattle.std.proofs.Common.{◌≡◌, ℕ, zero, suc, ◌+◌, ◌≤◌, Bool, true, false, cond, List, [], ◌∷◌, ◌++◌, length, map, filter, None, Some, refl, ap, sym, ◌∙◌, append_assoc, length-append, arith, subst}
 use Rattle.std.specs.Prelude.{All, slice_get}
 use Rattle.std.specs.List.{enumerate_from}
 use Rattle.std.proofs.lemmas.List.Elements.{All-head, All-tail, filter-append}
 use Rattle.ing_rows.specs.Rows.{StreamKey, Row}
 use Rattle.ing_parts.specs.declared.snapshot.Snapshot.{Snapshot}
-use Rattle.ing_parts.specs.Parts.{AddsRows, HasRows, wanted, within}
+use Rattle.ing_parts.specs.Answers.{StandFor}
+use Rattle.ing_parts.specs.Parts.{AddsRows, HasRows, found_at, wanted, within}
 use Rattle.ing_shard.specs.OneStream.{Stream}
 use Rattle.ing_shard.specs.Picked.{numbers_of_picked}
 use Rattle.ing_shard.specs.Snapshots.{rows_at, rows_of}
@@ -63,10 +64,18 @@ rows_from picked front (st ∷ sts) =
 pub picked_rows : (picked : StreamKey → Bool) (sts : List Stream) → rows_at sts (numbers_of_picked picked (map key_of sts)) ≡ filter (λ r. picked r.stream) (whole sts).rows
 picked_rows picked sts = rows_from picked [] sts
 
--- what was added to a snapshot without parts is all that is wanted of it
+-- what was added to a snapshot of which nothing is wanted stands for all that is in its range
 pub has_rows : {R : Type 0} (rows : List Row) (old new : Snapshot R) → wanted old ≡ [] → AddsRows rows old new → HasRows rows new
-has_rows rows old new none h = record {
-  all = h.all;
-  same = h.same;
-  is = h.adds.wanted ∙ ap (λ l. l ++ within old.start old.end h.all) none ∙ (λ i. within (sym h.adds.start i) (sym h.adds.end i) h.all);
-}
+has_rows rows old new none h =
+    let all = map found_at rows in
+    let stand : StandFor old.best.order old.best.limit (wanted new) (within old.start old.end all) = subst (λ l. StandFor old.best.order old.best.limit (wanted new) (l ++ within old.start old.end all)) none h.stand in
+    let there : within old.start old.end all ≡ within new.start new.end all = λ i. within (sym h.start i) (sym h.end i) all in
+    subst (StandFor new.best.order new.best.limit (wanted new)) there
+    (subst (λ o. StandFor o new.best.limit (wanted new) (within old.start old.end all)) (sym h.order)
+    (subst (λ n. StandFor old.best.order n (wanted new) (within old.start old.end all)) (sym h.limit) stand))
+
+-- no stream stands behind the last
+pub no_stream : {X : Type 0} (xs : List X) (n : ℕ) → length xs ≤ n → slice_get xs n ≡ None
+no_stream [] n h = refl
+no_stream (x ∷ xs) zero h = absurd (omega arith)
+no_stream (x ∷ xs) (suc n) h = no_stream xs n (omega arith)

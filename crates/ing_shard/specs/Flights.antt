@@ -1,13 +1,13 @@
 -- Chunks that are claimed: where they stand, and what a flush does to a stream.
 -- What names no section of the Loki documentation is own.
-use Rattle.std.specs.Prelude.{◌≡◌, ℕ, ◌==◌, List, length, filter, sum_by, slice_get, is_some, if◌then◌else◌, Some}
+use Rattle.std.specs.Prelude.{◌≡◌, ◌≢◌, ℕ, ◌==◌, List, IsPermutation, length, filter, map, sum_by, slice_get, is_some, if◌then◌else◌, Some}
 use Rattle.slab.specs.Slab.{Slab, get}
 use Rattle.sha2.specs.Sha256.{sha256}
 use Rattle.ing_labels.specs.Labels.{LabelMap}
 use Rattle.ing_labels.specs.Canonical.{canonical_of}
 use Rattle.ing_rows.specs.declared.place.Place.TheVariants.{Flight}
-use Rattle.ing_rows.specs.Rows.{StreamKey}
-use Rattle.ing_chunk.specs.Chunks.{ChunkContents}
+use Rattle.ing_rows.specs.Rows.{StreamKey, Row, State, is_flight}
+use Rattle.ing_chunk.specs.Chunks.{ChunkContents, block_rows}
 use Rattle.ing_codec.specs.ChunkObjects.{ChunkObject, chunk_text}
 use Rattle.ing_codec.specs.ChunkReading.{chunk_object}
 use Rattle.ing_codec.specs.ObjectNames.{chunk_name, row_name}
@@ -55,18 +55,40 @@ pub record IsAt (f : Flown) (keys : List StreamKey) (sealed : List (List Slot)) 
 abbrev pub IsInFlight : Flown → Contents → Type 0
 IsInFlight f contents = (f.shard ≡ contents.number) × IsAt f contents.listed contents.sealed
 
--- What is listed of it is the chunk, under the key of its text; the receipts mean that text and the text of its index row,
--- each under its name.
-pub record IsUploaded (f : Flown) (listing : Listed) (row_bytes row_named : List ℕ) : Type 0 where
+-- the rows in its flight are those of its chunk
+abbrev pub FliesAs : Flown → State → Type 0
+FliesAs f st =
+    IsPermutation (filter (λ r. is_flight f.flight r.place) st.rows)
+    (map (λ (r : Row). record r { place = Flight f.flight }) (block_rows (key_in f) f.chunk.first 0 f.chunk.blocks))
+
+-- what is in flight stays in flight
+abbrev pub FlightsStay : Contents → Contents → Type 0
+FlightsStay old new = (f : Flown) → IsInFlight f old → IsInFlight f new
+
+-- the same but for the chunk of one flight
+abbrev pub OtherFlightsStay : ℕ → Contents → Contents → Type 0
+OtherFlightsStay flight old new = (f : Flown) → f.flight ≢ flight → IsInFlight f old → IsInFlight f new
+
+-- What is listed of it is the chunk, under the key of its text; the receipt means that text, under the chunk's name.
+pub record IsChunkUploaded (f : Flown) (listing : Listed) : Type 0 where
   pub first : listing.first ≡ f.chunk.first
   pub blocks : listing.blocks ≡ f.chunk.blocks
   pub key : listing.key ≡ sha256 (chunk_text (object_in f))
   pub bytes : listing.bytes ≡ chunk_text (object_in f)
   pub name : listing.name ≡ chunk_name listing.key
+
+-- A receipt means the text of its index row, which has the key of the chunk's text, under the row's name.
+pub record IsRowUploaded (f : Flown) (row_bytes row_named : List ℕ) : Type 0 where
   pub extent : Extent
   pub extends : IsExtentOf f.chunk extent
-  pub row : row_bytes ≡ row_text (row_object f.tenant (canonical_of f.labels) extent listing.key)
-  pub named : row_named ≡ row_name f.tenant (canonical_of f.labels) listing.key
+  pub row : row_bytes
+      ≡ row_text (row_object f.tenant (canonical_of f.labels) extent (sha256 (chunk_text (object_in f))))
+  pub named : row_named ≡ row_name f.tenant (canonical_of f.labels) (sha256 (chunk_text (object_in f)))
+
+-- both
+pub record IsUploaded (f : Flown) (listing : Listed) (row_bytes row_named : List ℕ) : Type 0 where
+  pub chunk : IsChunkUploaded f listing
+  pub row : IsRowUploaded f row_bytes row_named
 
 -- ---- numbers of flights
 

@@ -1,5 +1,5 @@
 -- What the streams of a shard stand for, and what is kept of each.
-use Rattle.std.specs.Prelude.{◌≡◌, ℕ, ◌+◌, ◌*◌, ◌≤◌, ◌<◌, ◌^◌, max, Bool, true, false, not, List, [], ◌∷◌, All, bytes_eq, filter, length, sum_by, nat_lt, slice_get, if◌then◌else◌, map, Option, Some, None}
+use Rattle.std.specs.Prelude.{◌≡◌, ◌≢◌, ℕ, ◌+◌, ◌*◌, ◌≤◌, ◌<◌, ◌^◌, max, Bool, true, false, not, List, [], ◌∷◌, All, bytes_eq, filter, length, sum_by, nat_lt, slice_get, if◌then◌else◌, map, Option, Some, None}
 use Rattle.std.specs.List.{enumerate_from, list_any}
 use Rattle.std.specs.Option.{option_map}
 use Rattle.ing_labels.specs.Canonical.{canonical_of}
@@ -17,7 +17,7 @@ use Rattle.ing_chunk.specs.Chunks.{ChunkContents}
 use Rattle.ing_sealed.specs.Slots.{Slot, slot_at}
 use Rattle.ing_stream.specs.Contents.{whole_state}
 use Rattle.ing_shard.specs.OneStream.{Stream}
-use Rattle.ing_shard.specs.Flights.{AreApart}
+use Rattle.ing_shard.specs.Flights.{AreApart, Flown, IsAt}
 use Rattle.ing_shard.specs.declared.tenants.TenantKept.{TenantKept}
 use Rattle.ing_shard.specs.declared.streams.Streams.{Streams}
 use Rattle.ing_shard.specs.declared.tenants.Tenants.{Tenants}
@@ -162,6 +162,18 @@ pub record AreHeld {R : Type 0} (streams : Streams R) : Type 0 where
   pub flights : AreApart streams.flights streams.list.items
 
 -- ---- flushes
+
+-- a claimed chunk is in flight in one of these streams
+abbrev pub FliesAmong : Flown → List Stream → Type 0
+FliesAmong f streams = IsAt f (map key_of streams) (map slots_of streams)
+
+-- what is in flight in one of them stays in flight
+abbrev pub StayAmong : List Stream → List Stream → Type 0
+StayAmong olds news = (f : Flown) → FliesAmong f olds → FliesAmong f news
+
+-- the same but for the chunk of one flight
+abbrev pub OthersStayAmong : ℕ → List Stream → List Stream → Type 0
+OthersStayAmong flight olds news = (f : Flown) → f.flight ≢ flight → FliesAmong f olds → FliesAmong f news
 
 -- what is kept beside the streams can be set right after a flush has changed a stream, which had this measure
 pub record CanSettle (tenants : Tenants) (total : ℕ) (now : Stream) (was : TenantKept) : Type 0 where

@@ -4,14 +4,15 @@ ghost use Rattle.ing_chunk.specs.Chunks.{IsWhole};
 ghost use Rattle.ing_labels.specs.Canonical.{canonical_of};
 ghost use Rattle.ing_refusals.specs.declared.refusal.Refusal.TheVariants as refusal;
 ghost use Rattle.ing_store.specs.StoreFaults.{IsCounted};
-ghost use Rattle.ing_shard.specs.Flights.{IsUploaded};
+ghost use Rattle.ing_shard.specs.Flights.{IsChunkUploaded, IsRowUploaded, IsUploaded};
 
 use ing_chunk::Chunk;
 use ing_labels::Labels;
+use ing_parts::Listing;
 use ing_postings::StreamNo;
 use ing_refusals::Refusal;
 use ing_rows::Tenant;
-use ing_sealed::{Flushed, upload};
+use ing_sealed::{Flushed, upload, upload_chunk, upload_row};
 use ing_store::{Receipt, StoreEnd, StoreFault};
 use std::alloc::Global;
 use std::marker::Model;
@@ -149,5 +150,42 @@ impl Ticket {
     {
         let claimed = &self.claimed;
         upload(alloc, end, &claimed.tenant, &claimed.labels, &claimed.chunk)
+    }
+
+    /// Puts the whole chunk into a store, without its index row, and gives what the shard lists of it. No canonical name may
+    /// have 2^32 bytes. `NoMemory` where memory ran out, and any other fault only where the end has failed; a fault leaves
+    /// open whether the chunk is stored. (Own.)
+    pub fn upload_chunk<S: StoreEnd>(
+        &self,
+        alloc: Global,
+        end: &mut S,
+    ) -> Result<Listing<S::Receipt>, StoreFault>
+        requires { length (canonical_of self.now.claimed.labels) < 2 ^ 32 }
+        ensures uploaded { IfOk result (λ listing. IsChunkUploaded self.now.claimed listing) }
+        ensures count { IsCounted (S.failure_count end.old) (S.failure_count end.new) result }
+        ensures sure { S.never_fails end.old → (S.never_fails end.new)
+            × (S.failure_count end.new ≡ S.failure_count end.old) }
+    {
+        let claimed = &self.claimed;
+        upload_chunk(alloc, end, &claimed.tenant, &claimed.labels, &claimed.chunk)
+    }
+
+    /// Puts the index row of the chunk into a store, whether the chunk stands there or not, and gives the receipt of the
+    /// row. The chunk is written out for its key. No canonical name may have 2^32 bytes. `NoMemory` where memory ran out, and
+    /// any other fault only where the end has failed; a fault leaves open whether the row is stored. (Own.)
+    pub fn upload_row<S: StoreEnd>(
+        &self,
+        alloc: Global,
+        end: &mut S,
+    ) -> Result<S::Receipt, StoreFault>
+        requires { length (canonical_of self.now.claimed.labels) < 2 ^ 32 }
+        ensures uploaded { IfOk result (λ row. IsRowUploaded self.now.claimed
+            (S.Receipt.bytes row) (S.Receipt.name row)) }
+        ensures count { IsCounted (S.failure_count end.old) (S.failure_count end.new) result }
+        ensures sure { S.never_fails end.old → (S.never_fails end.new)
+            × (S.failure_count end.new ≡ S.failure_count end.old) }
+    {
+        let claimed = &self.claimed;
+        upload_row(alloc, end, &claimed.tenant, &claimed.labels, &claimed.chunk)
     }
 }

@@ -8,33 +8,34 @@ ghost use Rattle.ing_shard.specs.Streams.{AreHeld, whole};
 
 use crate::streams::Streams;
 use ing_labels::Selector;
-use ing_parts::{Snapshot, rows_join};
+use ing_parts::{Question, Snapshot, rows_join};
 use ing_postings::StreamNo;
 use ing_rows::Tenant;
 use ing_store::Receipt;
 use std::alloc::{AllocError, Global};
 
 impl<R: Receipt> Streams<R> {
-    /// What a tenant's streams have that the selector picks, from the start on and before the end, in nanoseconds; so many
-    /// entries had been accepted.
+    /// What a tenant's streams have that the selector picks and that a question asks; so many entries had been accepted.
     pub fn snapshot(
         &self,
         alloc: Global,
         front: u64,
         tenant: &Tenant,
         selector: &Selector,
-        start: u64,
-        end: u64,
+        question: Question,
     ) -> Result<Snapshot<R>, AllocError>
         requires { AreHeld self.now }
         ensures front { IfOk result (λ s. s.front ≡ front) }
-        ensures range { IfOk result (λ s. (s.start ≡ start) × (s.end ≡ end)) }
+        ensures range { IfOk result (λ s.
+            (s.start ≡ question.start) × (s.end ≡ question.end)) }
+        ensures best { IfOk result (λ s.
+            (s.best.order ≡ question.order) × (s.best.limit ≡ question.limit)) }
         ensures rows { IfOk result (λ s. (picked : StreamKey → Bool) →
             Picks tenant.now selector.now picked →
             HasRows (filter (λ r. picked r.stream) (whole self.now.list.items).rows) s) }
     {
         let numbers = self.select(alloc, tenant, selector)?;
-        let mut snapshot = Snapshot::new(alloc, front, start, end);
+        let mut snapshot = Snapshot::new(alloc, front, question);
         self.add_streams(alloc, &mut snapshot, numbers.as_slice())?;
         Ok(snapshot)
     }

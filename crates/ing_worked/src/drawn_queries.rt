@@ -2,7 +2,8 @@
 use crate::flushes::{LIMITS, Owned, stamp, upload};
 use crate::shard::Lots;
 use ing_labels::{Labels, Selector};
-use ing_query::{Order, run_query};
+use ing_parts::Order;
+use ing_query::run_query;
 use ing_rows::{Entry, Line, Verdict};
 use ing_store::{Fuse, MemoryStore};
 use std::alloc::Global;
@@ -49,7 +50,7 @@ struct Question {
 }
 
 impl<'a> Drawn<'a> {
-    fn new(alloc: Global) -> Result<Drawn<'a>, Fail> {
+    fn new(alloc: Global, seed: u64) -> Result<Drawn<'a>, Fail> {
         let mut streams = Vec::new(alloc);
         for pairs in [
             [("a", "1"), ("b", "1")],
@@ -63,7 +64,9 @@ impl<'a> Drawn<'a> {
             one: Owned::fresh(alloc, 0, "t", SMALL)?,
             streams,
             kept: Vec::new(alloc),
-            lots: Lots { state: 20_261_123 },
+            lots: Lots {
+                state: (seed << 32) | 20_261_123,
+            },
             time: 100,
             stored: 0,
             found: 0,
@@ -145,15 +148,14 @@ impl<'a> Drawn<'a> {
     ) -> Result<Vec<Kept>, Fail> {
         let selector = Selector::parse(alloc, SELECTORS[question.selector % 5].0)?;
         let mut snapshots = Vec::new(alloc);
-        snapshots.push(
-            self.one.shard.snapshot(
-                alloc,
-                &self.one.tenant,
-                &selector,
-                question.start,
-                question.end,
-            )?,
-        )?;
+        let asked = ing_parts::Question {
+            start: question.start,
+            end: question.end,
+            order: question.order,
+            limit: question.limit,
+        };
+        let one = &self.one;
+        snapshots.push(one.shard.snapshot(alloc, &one.tenant, &selector, asked)?)?;
         let mut end = store.end(rt, Fuse::None);
         let found = run_query(alloc, snapshots, &mut end, question.order, question.limit)?;
         let mut answer = Vec::new(alloc);
@@ -184,20 +186,28 @@ impl<'a> Drawn<'a> {
     }
 }
 
-#[test]
-fn drawn_queries_are_filter_sort_and_cut(rt: HostRuntime) -> Result<(), Fail> {
-    let alloc = rt.alloc();
+/// Asks as many questions of a shard by lot, one after each change. Gives how many entries were found and how many chunks stored.
+fn ask<R: Wait + Abort>(rt: &R, alloc: Global, seed: u64, turns: u64) -> Result<(u64, u64), Fail> {
     let store = MemoryStore::new(alloc)?;
-    let mut drawn = Drawn::new(alloc)?;
-    for turn in 0..400u64 {
+    let mut drawn = Drawn::new(alloc, seed)?;
+    for turn in 0..turns {
         drawn.push(alloc)?;
-        drawn.flush(&rt, alloc, &store)?;
+        drawn.flush(rt, alloc, &store)?;
         let question = drawn.question();
-        let answer = drawn.answer(&rt, alloc, &store, question)?;
+        let answer = drawn.answer(rt, alloc, &store, question)?;
         let wanted = drawn.wanted(alloc, question)?;
-        assert!(rt; answer.as_slice() == wanted.as_slice(), "{turn}");
+        assert!(rt; answer.as_slice() == wanted.as_slice(), "{seed}, {turn}");
         drawn.found = drawn.found.saturating_add(answer.len() as u64);
     }
-    assert!(rt; drawn.found > 400 && drawn.stored > 40);
+    Ok((drawn.found, drawn.stored))
+}
+
+/// 25 shards are asked 400 questions each.
+#[test]
+fn drawn_queries_are_filter_sort_and_cut(rt: HostRuntime) -> Result<(), Fail> {
+    for seed in 1..26u64 {
+        let (found, stored) = ask(&rt, rt.alloc(), seed, 400)?;
+        assert!(rt; found > 400 && stored > 40, "{seed}");
+    }
     Ok(())
 }

@@ -1,7 +1,8 @@
 //! What queries find of a shard and a store in memory.
 use crate::flushes::{LIMITS, Owned, stamp, upload};
 use ing_labels::{Labels, Selector};
-use ing_query::{Order, QueryFault, run_query};
+use ing_parts::Order;
+use ing_query::{QueryFault, run_query};
 use ing_rows::{Entry, Line};
 use ing_store::{Fuse, MemoryEnd, MemoryStore};
 use std::alloc::Global;
@@ -103,13 +104,14 @@ impl<'a> Asked<'a> {
         selector: &Selector,
         question: Question<'_>,
     ) -> Result<String, QueryFault> {
-        let snapshot = self.one.shard.snapshot(
-            alloc,
-            &self.one.tenant,
-            selector,
-            question.start,
-            question.end,
-        )?;
+        let asked = ing_parts::Question {
+            start: question.start,
+            end: question.end,
+            order: question.order,
+            limit: question.limit,
+        };
+        let one = &self.one;
+        let snapshot = one.shard.snapshot(alloc, &one.tenant, selector, asked)?;
         let mut snapshots = Vec::new(alloc);
         snapshots.push(snapshot)?;
         let found = run_query(alloc, snapshots, end, question.order, question.limit)?;

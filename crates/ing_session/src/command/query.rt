@@ -6,7 +6,7 @@ ghost use Rattle.ing_session.specs.Views.{query_texts, query_view};
 
 use super::LineFault;
 use super::shape::{text_at, text_or};
-use ing_query::Order;
+use ing_parts::Order;
 use ing_rows::{Stamp, Tenant};
 use serde_json::Value;
 use std::alloc::Global;

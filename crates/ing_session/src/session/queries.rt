@@ -12,6 +12,7 @@ use super::faults::{query_fault, selector_fault};
 use crate::command::Query;
 use crate::reply::Reply;
 use ing_labels::Selector;
+use ing_parts::{Question, found_rows_have_no_order, standing_joins};
 use ing_query::run_query;
 use ing_store::{Receipt, StoreEnd};
 use std::alloc::AllocError;
@@ -47,13 +48,17 @@ impl<R: Receipt> Session<R> {
             old self.now (S.failure_count end.old) (S.failure_count end.new) (reply_data reply)) }
         ensures end { GoesOn S.never_fails S.failure_count end.old end.new }
     {
-        let snapshot = self.shard.snapshot(
-            self.alloc,
-            &query.tenant,
-            selector,
-            query.start,
-            query.end,
-        )?;
+        let question = Question {
+            start: query.start,
+            end: query.end,
+            order: query.order,
+            limit: query.limit,
+        };
+        let snapshot = self
+            .shard
+            .snapshot(self.alloc, &query.tenant, selector, question)?;
+        found_rows_have_no_order();
+        standing_joins();
         let front = snapshot.front;
         let snapshots = vec![in self.alloc; snapshot]?;
         match run_query(self.alloc, snapshots, end, query.order, query.limit) {

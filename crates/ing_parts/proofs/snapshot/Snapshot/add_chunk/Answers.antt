@@ -1,7 +1,7 @@
+use Rattle.std.proofs.Common.{refl}
 use Rattle.ing_chunk.specs.Chunks.{entries_of}
-use Rattle.ing_parts.proofs.RangeLaws.{adds_copied}
+use Rattle.ing_parts.proofs.RangeLaws.{adds_offered}
 use Rattle.ing_parts.proofs.snapshot.Snapshot.add_chunk.Goals as goal
 
 pub returns : goal.returns
-returns g c =
-    adds_copied c.args.name.now (entries_of c.args.chunk.now) c.in_ok-entries.entries.items c.args.self.now c.add_copies.new.self c.in_ok-entries.ensures c.in_ok-add_copies.ensures
+returns g c = adds_offered c.args.name.now (entries_of c.args.chunk.now) c.args.self.now _ refl refl refl refl c.in_ok-offer_chunk.ensures

@@ -1,5 +1,6 @@
 use Rattle.std.proofs.Common.{◌∙◌, [], ◌∷◌, ap, arith, inl, refl, subst}
-use Rattle.ing_query.specs.Answers.{IsAnswer, wanted_in}
+use Rattle.ing_parts.specs.Answers.{IsAnswer}
+use Rattle.ing_query.specs.Answers.{wanted_in}
 use Rattle.ing_session.specs.Queries.{Given}
 use Rattle.ing_session.specs.Replies.{query_data}
 use Rattle.ing_session.specs.Views.{query_view}
@@ -19,7 +20,7 @@ returns-in-Ok-clause-obeyed g c = λ spelt usable old is_held.
     (query_data found (snapshot.front ∷ [])) is_held (
       record { ms = c.args.selector.now; spelt = spelt; usable = usable },
       λ honest picked picks.
-          is_found query picked c.args.self.now.shard.state.rows old.state.rows snapshot found is_held.state.rows (read.rows picked picks) read.range.0 read.range.1
+          is_found c.found_rows_have_no_order.ensures c.standing_joins.ensures.answered query picked c.args.self.now.shard.state.rows old.state.rows snapshot found is_held.state.rows (read.rows picked picks) read.range.0 read.range.1 read.best.0 read.best.1
           (subst (λ l. IsAnswer query.order query.limit l found) (ap wanted_in c.in_ok-snapshots.ensures.items ∙ one_wanted snapshot) (c.in-Ok.ensures.answer honest)),
     )
     (ap (λ n. query_data found (n ∷ [])) (read.front old.state is_held.state))

@@ -9,11 +9,12 @@ use Rattle.ing_rows.specs.Rows.{IsSame}
 use Rattle.ing_rows.specs.Steps.{Claims, ClaimsNone}
 use Rattle.ing_shard.specs.Flights.{AreApart, flights_among}
 use Rattle.ing_shard.specs.declared.streams.Streams.{Streams}
-use Rattle.ing_shard.specs.Streams.{AreDistinct, key_of, part_of, whole}
+use Rattle.ing_shard.specs.Streams.{AreDistinct, StayAmong, key_of, part_of, whole}
 use Rattle.ing_shard.proofs.ChangeLaws.{kept_here}
 use Rattle.ing_shard.proofs.FlightLaws.{apart_claimed, apart_same, claims_whole, free_number, free_slots, none_whole, same_whole}
 use Rattle.ing_shard.proofs.FlushLaws.{around_here, free_here, key_here, listed_here, now_here, same_name, can_settle, settled, settled_keys, settled_whole}
 use Rattle.ing_shard.proofs.TenantLaws.{always_on_err}
+use Rattle.ing_shard.proofs.StayLaws.{other_number, stay_changed}
 use Rattle.ing_shard.proofs.streams.Streams.fly.Goals as goal
 
 if_none : {X : Type 0} (o : Option X) (P : Type 0) → ((x : X) → o ≡ Some x → ⊥) → IfNone o P → P
@@ -128,3 +129,32 @@ returns-clause-flies g c =
           (subst (λ o. IfSome o (λ x. Claims (key_of st) x.chunk.value.first f (part_of st) (part_of now))) c.in-Some.is done.claims));
       stands = subst (λ o. IfSome o (λ x. slice_get now.chunks.sealed x.index ≡ Some (slot_at (Flight f) x.chunk.value))) c.in-Some.is done.claimed;
     }
+
+pub returns-in_err-claim-clause-stay : goal.returns-in_err-claim-clause-stay
+returns-in_err-claim-clause-stay g c =
+    let split = around_here c.args.self.now.list.items _ c.args.number c.index_mut-stream.result.now c.args.self.now.list.ok.0 c.requires.listed c.index_mut-stream.ensures.value in
+    let st = c.index_mut-stream.result.now in
+    let now = c.claim-claimed.new.self in
+    settled_whole c.args.self.now c.args.number st now c.measure-before.result c.requires.held split c.claim-claimed.ensures.stays c.measure-before.ensures.measure StayAmong
+    (stay_changed split.front st now split.back (same_name st now c.claim-claimed.ensures.stays) c.claim-claimed.ensures.stay)
+
+pub returns-in_default-clause-stay : goal.returns-in_default-clause-stay
+returns-in_default-clause-stay g c =
+    let split = around_here c.args.self.now.list.items _ c.args.number c.index_mut-stream.result.now c.args.self.now.list.ok.0 c.requires.listed c.index_mut-stream.ensures.value in
+    let st = c.index_mut-stream.result.now in
+    let now = c.claim-claimed.new.self in
+    settled_whole c.args.self.now c.args.number st now c.measure-before.result c.requires.held split c.claim-claimed.ensures.stays c.measure-before.ensures.measure StayAmong
+    (stay_changed split.front st now split.back (same_name st now c.claim-claimed.ensures.stays) c.claim-claimed.ensures.stay)
+
+pub returns-clause-stay : goal.returns-clause-stay
+returns-clause-stay g c =
+    let split = around_here c.args.self.now.list.items _ c.args.number c.index_mut-stream.result.now c.args.self.now.list.ok.0 c.requires.listed c.index_mut-stream.ensures.value in
+    let st = c.index_mut-stream.result.now in
+    let now = c.claim-claimed.new.self in
+    settled_whole c.args.self.now c.args.number st now c.measure-before.result c.requires.held split c.claim-claimed.ensures.stays c.measure-before.ensures.measure StayAmong
+    (stay_changed split.front st now split.back (same_name st now c.claim-claimed.ensures.stays) c.claim-claimed.ensures.stay)
+
+pub returns-clause-apart : goal.returns-clause-apart
+returns-clause-apart g c =
+    let old = c.args.self.now in
+    other_number c.vacant_key-flight.result old.list.items (free_number c.vacant_key-flight.result old.flights old.list.items c.requires.held.flights c.vacant_key-flight.ensures.vacant)

@@ -1,0 +1,93 @@
+-- Entries that are offered one after another.
+use Rattle.std.proofs.Common.{◌≡◌, Bool, true, false, not, cond, filter, ℕ, ◌+◌, ◌<◌, List, [], ◌∷◌, ◌++◌, map, length, drop, take, get_or, suc, add-one, drop-cons, append_assoc, append-nil, refl, ap, sym, ◌∙◌, subst, arith}
+use Rattle.std.specs.Prelude.{All, IsPermutation}
+use Rattle.std.proofs.lemmas.List.{map-append, take_more}
+use Rattle.std.proofs.lemmas.List.Elements.{All-head, All-tail, filter-append}
+use Rattle.std.proofs.lemmas.List.Sorted.{IsPermutation-append_comm, IsPermutation-append_right}
+use Rattle.ing_chunk.specs.declared.numbered.Numbered.{Numbered}
+use Rattle.ing_parts.specs.declared.found.Found.{Found}
+use Rattle.ing_chunk.specs.Chunks.{is_between}
+use Rattle.ing_parts.specs.declared.order.Order.{Order}
+use Rattle.ing_parts.specs.declared.order.Order.TheVariants.{Forward, Backward}
+use Rattle.ing_parts.specs.Answers.{BestState, IsAnswer, IsFrom, Offers, PassesOver, StandFor}
+use Rattle.ing_parts.specs.Parts.{found_between, found_of, is_within, within}
+use Rattle.ing_parts.proofs.RangeLaws.{missed}
+use Rattle.ing_parts.proofs.StandLaws.{stand_alike, stand_answered, stand_beside, stand_still, stand_through}
+
+from_itself : (order : Order) (stamp : ℕ) → IsFrom order stamp stamp
+from_itself Forward stamp = omega arith
+from_itself Backward stamp = omega arith
+
+pub offers_none : (b : BestState) → Offers [] b b
+offers_none b = record { order = refl; limit = refl; stand = subst (StandFor b.order b.limit b.held) (sym (append-nil b.held)) (stand_still b.order b.limit b.held) }
+
+pub offers_both : (x y : List Found) (old mid new : BestState) → Offers x old mid → Offers y mid new → Offers (x ++ y) old new
+offers_both x y old mid new h k = record {
+  order = k.order ∙ h.order;
+  limit = k.limit ∙ h.limit;
+  stand =
+      let later : StandFor old.order old.limit new.held (mid.held ++ y) = subst (λ o. StandFor o old.limit new.held (mid.held ++ y)) h.order (subst (λ n. StandFor mid.order n new.held (mid.held ++ y)) h.limit k.stand) in
+      let sooner : StandFor old.order old.limit (mid.held ++ y) ((old.held ++ x) ++ y) = stand_beside old.order old.limit mid.held (old.held ++ x) y h.stand in
+      subst (StandFor old.order old.limit new.held) (append_assoc old.held x y) (stand_through old.order old.limit new.held (mid.held ++ y) ((old.held ++ x) ++ y) later sooner);
+}
+
+pub offers_alike : (x y : List Found) (old new : BestState) → IsPermutation x y → Offers x old new → Offers y old new
+offers_alike x y old new same h = record {
+  order = h.order;
+  limit = h.limit;
+  stand = stand_through old.order old.limit new.held (old.held ++ x) (old.held ++ y) h.stand (stand_alike old.order old.limit (old.held ++ x) (old.held ++ y) (IsPermutation-append_right old.held x y same));
+}
+
+pub offers_passed : (from : ℕ) (b : BestState) (all : List Found) → PassesOver from b → All (λ f. IsFrom b.order from f.entry.stamp) all → Offers all b b
+offers_passed from b [] pass h = offers_none b
+offers_passed from b (f ∷ all) pass h =
+    offers_both (f ∷ []) all b b b (pass f (All-head (λ f. IsFrom b.order from f.entry.stamp) f all h)) (offers_passed from b all pass (All-tail (λ f. IsFrom b.order from f.entry.stamp) f all h))
+
+pub offers_answered : (all answer : List Found) (old new : BestState) → Offers all old new → IsAnswer old.order old.limit new.held answer → IsAnswer old.order old.limit (old.held ++ all) answer
+offers_answered all answer old new h a = stand_answered old.order old.limit new.held (old.held ++ all) answer h.stand a
+
+-- ---- entries of one stream, in a range
+
+pub between_parts : (name : List ℕ) (start end : ℕ) (xs ys : List Numbered) → found_between name start end (xs ++ ys) ≡ found_between name start end xs ++ found_between name start end ys
+between_parts name start end xs ys = ap (within start end) (map-append (found_of name) xs ys) ∙ filter-append (is_within start end) (map (found_of name) xs) (map (found_of name) ys)
+
+-- what is left from an index on
+pub left_from : {X : Type 0} (xs : List X) (i : ℕ) (x : X) → i < length xs → x ≡ get_or xs i x → drop i xs ≡ x ∷ drop (i + 1) xs
+left_from xs i x within is = rw (add-one) (drop-cons xs i x within ∙ ap (λ y. y ∷ drop (suc i) xs) (sym is))
+
+-- up to an index and one more
+pub up_to : {X : Type 0} (xs : List X) (i : ℕ) (x : X) → i < length xs → x ≡ get_or xs i x → take (i + 1) xs ≡ take i xs ++ x ∷ []
+up_to xs i x within is = take_more xs i x within ∙ ap (λ y. take i xs ++ y ∷ []) (sym is)
+
+-- these behind those that were offered before them
+pub offers_next : (name : List ℕ) (start end : ℕ) (xs more all : List Numbered) (old mid new : BestState) → all ≡ xs ++ more → Offers (found_between name start end xs) old mid → Offers (found_between name start end more) mid new → Offers (found_between name start end all) old new
+offers_next name start end xs more all old mid new is h k =
+    subst (λ l. Offers l old new) (sym (between_parts name start end xs more) ∙ sym (ap (found_between name start end) is)) (offers_both (found_between name start end xs) (found_between name start end more) old mid new h k)
+
+-- and these before them
+pub offers_previous : (name : List ℕ) (start end : ℕ) (xs more all : List Numbered) (old mid new : BestState) → all ≡ more ++ xs → Offers (found_between name start end xs) old mid → Offers (found_between name start end more) mid new → Offers (found_between name start end all) old new
+offers_previous name start end xs more all old mid new is h k =
+    let x = found_between name start end xs in
+    let y = found_between name start end more in
+    subst (λ l. Offers l old new) (sym (between_parts name start end more xs) ∙ sym (ap (found_between name start end) is)) (offers_alike (x ++ y) (y ++ x) old new (IsPermutation-append_comm x y) (offers_both x y old mid new h k))
+
+-- one that nothing from its stamp on changes, or that is not in the range
+pub passed_or_out : (b : BestState) (f : Found) (t : Bool) → PassesOver f.entry.stamp b → Offers (cond t (f ∷ []) []) b b
+passed_or_out b f true pass = pass f (from_itself b.order f.entry.stamp)
+passed_or_out b f false pass = offers_none b
+
+pub holds : (b : Bool) → not b ≡ false → b ≡ true
+holds true h = refl
+holds false h = absurd (cc)
+
+-- none of them is in the range
+pub offers_missed : (name : List ℕ) (start end : ℕ) (es : List Numbered) (b : BestState) → filter (is_between start end) es ≡ [] → Offers (found_between name start end es) b b
+offers_missed name start end es b none = subst (λ l. Offers l b b) (sym (missed start end name es none)) (offers_none b)
+
+-- one goes ahead of the others that are left
+pub offers_step : (x : Found) (rest left all : List Found) (old mid new last : BestState) → left ≡ x ∷ rest → Offers (x ∷ []) mid new → ((last : BestState) → Offers left mid last → Offers all old last) → Offers rest new last → Offers all old last
+offers_step x rest left all old mid new last is one before h = before last (subst (λ l. Offers l mid last) (sym is) (offers_both (x ∷ []) rest mid new last one h))
+
+pub empty_is : {X : Type 0} (xs : List X) → length xs ≡ 0 → xs ≡ []
+empty_is [] h = refl
+empty_is (x ∷ xs) h = absurd (omega (arith, h))

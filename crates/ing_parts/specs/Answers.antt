@@ -1,0 +1,61 @@
+-- The first entries in an order, and which may be left out (Loki documentation: HTTP API, query range: limit and direction;
+-- the order of entries of equal stamps is own).
+use Rattle.std.specs.Prelude.{◌≡◌, ℕ, ◌<◌, ◌≤◌, Bool, List, [], ◌∷◌, ◌++◌, take, IsPermutation}
+use Rattle.std.specs.List.Sorted.{IsSortedBy}
+use Rattle.std.specs.Ordering.{is_lt, nat_cmp, ordering_then}
+use Rattle.std.specs.Cmp.Lexicographic.{slice_cmp}
+use Rattle.ing_parts.specs.declared.found.Found.{Found}
+use Rattle.ing_parts.specs.declared.order.Order.{Order}
+use Rattle.ing_parts.specs.declared.order.Order.TheVariants.{Forward, Backward}
+
+-- by stamp, then by name in byte order, then by number
+abbrev pub comes_first : Found → Found → Bool
+comes_first f g =
+    let by_number = nat_cmp f.number g.number in
+    let by_name = slice_cmp nat_cmp f.name g.name in
+    is_lt (ordering_then (nat_cmp f.entry.stamp g.entry.stamp) (ordering_then by_name by_number))
+
+-- the answer has the one before the other
+abbrev pub precedes : Order → Found → Found → Bool
+precedes Forward f g = comes_first f g
+precedes Backward f g = comes_first g f
+
+-- of all of them the first ones in the order, so many at most
+pub record IsAnswer (order : Order) (limit : ℕ) (all answer : List Found) : Type 0 where
+  pub sorted : List Found
+  pub same : IsPermutation all sorted
+  pub in_order : IsSortedBy (precedes order) sorted
+  pub cut : answer ≡ take limit sorted
+
+-- some of them stand for all: together with whatever others they have an answer that all have with these
+abbrev pub StandFor : Order → ℕ → List Found → List Found → Type 0
+StandFor order limit some all =
+    (others answer : List Found) → IsAnswer order limit (some ++ others) answer → IsAnswer order limit (all ++ others) answer
+
+-- a stamp comes behind another in the order
+abbrev pub IsPast : Order → ℕ → ℕ → Type 0
+IsPast Forward bar stamp = bar < stamp
+IsPast Backward bar stamp = stamp < bar
+
+-- a stamp is this one or comes behind it in the order
+abbrev pub IsFrom : Order → ℕ → ℕ → Type 0
+IsFrom Forward from stamp = from ≤ stamp
+IsFrom Backward from stamp = stamp ≤ from
+
+-- ---- what is kept of the entries that were offered
+
+-- the order, how many an answer may have, and what is kept
+pub record BestState : Type 0 where
+  pub order : Order
+  pub limit : ℕ
+  pub held : List Found
+
+-- these are offered: what is kept then stands for what was kept before and these
+pub record Offers (all : List Found) (old new : BestState) : Type 0 where
+  pub order : new.order ≡ old.order
+  pub limit : new.limit ≡ old.limit
+  pub stand : StandFor old.order old.limit new.held (old.held ++ all)
+
+-- none from this stamp on changes an answer
+abbrev pub PassesOver : ℕ → BestState → Type 0
+PassesOver from b = (f : Found) → IsFrom b.order from f.entry.stamp → Offers (f ∷ []) b b

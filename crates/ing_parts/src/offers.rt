@@ -1,0 +1,138 @@
+//! Entries of one stream in memory, offered to the best.
+ghost use Rattle.std.specs.Prelude.{◌≡◌, ℕ, List, ◌∷◌, [], OnOk, true, false};
+ghost use Rattle.ing_chunk.specs.Chunks.{entries_of, in_blocks, is_between};
+ghost use Rattle.ing_parts.specs.Answers.{Offers};
+ghost use Rattle.ing_parts.specs.Parts.{found_between};
+
+use crate::best::Best;
+use crate::found::Found;
+use crate::order::Order;
+use crate::stream_name::StreamName;
+use ing_chunk::{Block, Chunk, Numbered};
+use std::alloc::{AllocError, Global};
+
+/// Whether an entry is to be offered: its stamp is in the range, and it may be kept.
+fn is_offered(best: &Best, numbered: &Numbered, start: u64, end: u64) -> bool
+    ensures offered { result ≡ true → is_between start end numbered.now ≡ true }
+    ensures passed { result ≡ false → (name : List ℕ) →
+        Offers (found_between name start end (numbered.now ∷ [])) best.now best.now }
+{
+    let stamp = numbered.entry.stamp.nanoseconds();
+    start <= stamp && stamp < end && !best.bars(stamp)
+}
+
+/// Offers a copy of an entry whose stamp is in the range. It is made only where it may be kept.
+fn offer_one(
+    best: &mut Best,
+    alloc: Global,
+    name: &StreamName,
+    numbered: &Numbered,
+    start: u64,
+    end: u64,
+) -> Result<(), AllocError>
+    ensures { OnOk result
+        (Offers (found_between name.now start end (numbered.now ∷ [])) best.old best.new) }
+{
+    if !is_offered(best, numbered, start, end) {
+        return Ok(());
+    }
+    best.offer(Found {
+        name: name.share()?,
+        number: numbered.number,
+        entry: numbered.entry.try_clone(alloc)?,
+    })
+}
+
+/// Offers copies of those whose stamp is in the range, the last one first.
+fn offer_from_last(
+    best: &mut Best,
+    alloc: Global,
+    name: &StreamName,
+    entries: &[Numbered],
+    start: u64,
+    end: u64,
+) -> Result<(), AllocError>
+    ensures { OnOk result
+        (Offers (found_between name.now start end entries.now) best.old best.new) }
+{
+    for index in (0..entries.len()).rev() {
+        offer_one(best, alloc, name, &entries[index], start, end)?;
+    }
+    Ok(())
+}
+
+/// Offers copies of those whose stamp is in the range, the first one first.
+fn offer_from_first(
+    best: &mut Best,
+    alloc: Global,
+    name: &StreamName,
+    entries: &[Numbered],
+    start: u64,
+    end: u64,
+) -> Result<(), AllocError>
+    ensures { OnOk result
+        (Offers (found_between name.now start end entries.now) best.old best.new) }
+{
+    for numbered in entries {
+        offer_one(best, alloc, name, numbered, start, end)?;
+    }
+    Ok(())
+}
+
+/// Offers copies of those whose stamp is in the range. They begin where an answer begins, so that the fewer are copied the
+/// better the entries stand in order of stamp.
+fn offer_entries(
+    best: &mut Best,
+    alloc: Global,
+    name: &StreamName,
+    entries: &[Numbered],
+    start: u64,
+    end: u64,
+) -> Result<(), AllocError>
+    ensures { OnOk result
+        (Offers (found_between name.now start end entries.now) best.old best.new) }
+{
+    match best.order() {
+        Order::Forward => offer_from_first(best, alloc, name, entries, start, end),
+        Order::Backward => offer_from_last(best, alloc, name, entries, start, end),
+    }
+}
+
+/// Offers copies of the entries of blocks whose stamp is in the range, the last block first.
+fn offer_blocks(
+    best: &mut Best,
+    alloc: Global,
+    name: &StreamName,
+    blocks: &[Block],
+    start: u64,
+    end: u64,
+) -> Result<(), AllocError>
+    ensures { OnOk result
+        (Offers (found_between name.now start end (in_blocks blocks.now)) best.old best.new) }
+{
+    for index in (0..blocks.len()).rev() {
+        offer_entries(best, alloc, name, blocks[index].entries(), start, end)?;
+    }
+    Ok(())
+}
+
+/// Offers copies of the entries of a chunk whose stamp is at least the start and below the end, in nanoseconds. A chunk that has
+/// none by its span is not looked through. `AllocError` where memory ran out.
+pub fn offer_chunk(
+    best: &mut Best,
+    alloc: Global,
+    name: &StreamName,
+    chunk: &Chunk,
+    start: u64,
+    end: u64,
+) -> Result<(), AllocError>
+    ensures { OnOk result
+        (Offers (found_between name.now start end (entries_of chunk.now)) best.old best.new) }
+{
+    if chunk.misses(start, end) {
+        return Ok(());
+    }
+    offer_entries(best, alloc, name, chunk.head(), start, end)?;
+    offer_blocks(best, alloc, name, chunk.blocks(), start, end)?;
+    Ok(())
+}

@@ -1,0 +1,22 @@
+use Rattle.std.proofs.Common.{sym, ap, ◌∙◌}
+use Rattle.sha2.specs.Sha256.{sha256}
+use Rattle.ing_codec.specs.ChunkReading.{read_chunk}
+use Rattle.ing_parts.specs.Listings.{first_in, blocks_in, extent_of}
+use Rattle.ing_sealed.proofs.ExtentLaws.{extent_is}
+use Rattle.ing_sealed.proofs.uploads.upload_chunk.Goals as goal
+
+pub of-requires : goal.of-requires
+of-requires g c = record {
+  object = c.of_chunk.result;
+  is = c.in_ok-uploaded.ensures.object;
+  spelt = c.in_ok-uploaded.ensures.bytes;
+  extends = extent_is c.args.chunk.now c.of_chunk-extent.result c.requires.whole c.of_chunk-extent.ensures.value ∙ ap (λ o. extent_of o.first o.blocks) (sym c.of_chunk.ensures);
+  keyed = c.in_ok-uploaded.ensures.key ∙ ap sha256 (sym c.in_ok-uploaded.ensures.bytes);
+}
+
+pub returns-clause-chunk : goal.returns-clause-chunk
+returns-clause-chunk g c =
+    let read = ap read_chunk c.in_ok-uploaded.ensures.bytes ∙ c.chunks_are_exact.ensures.each c.of_chunk.result c.in_ok-uploaded.ensures.object in (
+      ap (λ l. l.first) c.in_ok-listing.ensures ∙ ap first_in read ∙ ap (λ o. o.first) c.of_chunk.ensures,
+      ap (λ l. l.blocks) c.in_ok-listing.ensures ∙ ap blocks_in read ∙ ap (λ o. o.blocks) c.of_chunk.ensures,
+    )

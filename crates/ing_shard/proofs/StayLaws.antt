@@ -1,0 +1,126 @@
+-- What is in flight stays in flight where one stream changes and where one more is listed; a free number is no chunk's.
+use Rattle.std.proofs.Common.{◌≡◌, ◌≢◌, ℕ, zero, suc, ◌<◌, List, [], ◌∷◌, ◌++◌, map, Ok, Err, Result, Some, refl, ap, ◌∙◌, subst, arith}
+use Rattle.std.specs.Prelude.{OnErr, OnOk, slice_get}
+use Rattle.std.proofs.lemmas.Option.{same_Some}
+use Rattle.ing_rows.specs.declared.place.Place.TheVariants.{Flight}
+use Rattle.ing_rows.specs.Rows.{StreamKey}
+use Rattle.ing_chunk.specs.Chunks.{ChunkContents}
+use Rattle.ing_sealed.specs.Slots.{Slot, slot_at}
+use Rattle.ing_stream.specs.Contents.{OthersStayInFlight, StayInFlight}
+use Rattle.ing_shard.specs.OneStream.{Stream}
+use Rattle.ing_shard.specs.Flights.{Flown, flights_among, flights_in, key_in}
+use Rattle.ing_shard.specs.Streams.{FliesAmong, OthersStayAmong, StayAmong, key_of, slots_of}
+use Rattle.ing_shard.proofs.CountLaws.{sum_cons}
+use Rattle.ing_shard.proofs.FlightLaws.{flies_here}
+use Rattle.ing_shard.proofs.PositionLaws.{keys_same}
+
+-- ---- the same chunks, and one more stream
+
+pub stay_same : (olds news : List Stream) → map key_of news ≡ map key_of olds → map slots_of news ≡ map slots_of olds → StayAmong olds news
+stay_same olds news keys sealed f at =
+    record {
+      stream = ap (λ l. slice_get l f.stream) keys ∙ at.stream;
+      slots = at.slots;
+      listed = ap (λ l. slice_get l f.stream) sealed ∙ at.listed;
+      stands = at.stands;
+    }
+
+read_front : {X : Type 0} (xs ys : List X) (i : ℕ) (y : X) → slice_get xs i ≡ Some y → slice_get (xs ++ ys) i ≡ Some y
+read_front [] ys i y is = absurd (cc)
+read_front (x ∷ xs) ys zero y is = is
+read_front (x ∷ xs) ys (suc i) y is = read_front xs ys i y is
+
+pub stay_more : (olds news : List Stream) (s : StreamKey) → map key_of news ≡ map key_of olds ++ s ∷ []
+    → map slots_of news ≡ map slots_of olds ++ [] ∷ [] → StayAmong olds news
+stay_more olds news s keys sealed f at =
+    record {
+      stream = ap (λ l. slice_get l f.stream) keys ∙ read_front (map key_of olds) (s ∷ []) f.stream (key_in f) at.stream;
+      slots = at.slots;
+      listed = ap (λ l. slice_get l f.stream) sealed ∙ read_front (map slots_of olds) ([] ∷ []) f.stream at.slots at.listed;
+      stands = at.stands;
+    }
+
+-- where one is listed, or nothing is
+pub stay_begun : {T E : Type 0} (r : Result T E) (olds news : List Stream) (s : StreamKey)
+    → OnOk r (map key_of news ≡ map key_of olds ++ s ∷ []) → OnOk r (map slots_of news ≡ map slots_of olds ++ [] ∷ [])
+    → OnErr r (news ≡ olds) → StayAmong olds news
+stay_begun (Ok x) olds news s keys sealed err = stay_more olds news s keys sealed
+stay_begun (Err e) olds news s keys sealed err = stay_same olds news (ap (map key_of) err) (ap (map slots_of) err)
+
+pub slots_same : (front : List Stream) (st now : Stream) (back : List Stream) → now.chunks.sealed ≡ st.chunks.sealed
+    → map slots_of (front ++ now ∷ back) ≡ map slots_of (front ++ st ∷ back)
+slots_same [] st now back same = ap (λ xs. xs ∷ map slots_of back) same
+slots_same (o ∷ front) st now back same = ap (λ l. slots_of o ∷ l) (slots_same front st now back same)
+
+pub slots_more : (sts : List Stream) (new : Stream) → new.chunks.sealed ≡ [] → map slots_of (sts ++ new ∷ []) ≡ map slots_of sts ++ [] ∷ []
+slots_more [] new none = ap (λ xs. xs ∷ []) none
+slots_more (o ∷ sts) new none = ap (λ l. slots_of o ∷ l) (slots_more sts new none)
+
+-- ---- one stream changes
+
+-- what has become of the sealed chunks of a stream
+record Read (Q : List Slot → List Slot → Type 0) (xs : List Slot) (n : ℕ) (sts : List Stream) : Type 0 where
+  slots : List Slot
+  listed : slice_get (map slots_of sts) n ≡ Some slots
+  stay : Q xs slots
+
+read_changed : (Q : List Slot → List Slot → Type 0) → ((xs : List Slot) → Q xs xs)
+    → (front : List Stream) (st now : Stream) (back : List Stream) (n : ℕ) (xs : List Slot)
+    → Q st.chunks.sealed now.chunks.sealed → slice_get (map slots_of (front ++ st ∷ back)) n ≡ Some xs
+    → Read Q xs n (front ++ now ∷ back)
+read_changed Q same [] st now back zero xs stay is =
+    record {
+      slots = slots_of now;
+      listed = refl;
+      stay = subst (λ l. Q l (slots_of now)) (same_Some (slots_of st) xs is) stay;
+    }
+read_changed Q same [] st now back (suc n) xs stay is = record { slots = xs; listed = is; stay = same xs }
+read_changed Q same (o ∷ front) st now back zero xs stay is = record { slots = xs; listed = is; stay = same xs }
+read_changed Q same (o ∷ front) st now back (suc n) xs stay is =
+    let read = read_changed Q same front st now back n xs stay is in
+    record { slots = read.slots; listed = read.listed; stay = read.stay }
+
+pub stay_changed : (front : List Stream) (st now : Stream) (back : List Stream) → key_of now ≡ key_of st
+    → StayInFlight st.chunks.sealed now.chunks.sealed → StayAmong (front ++ st ∷ back) (front ++ now ∷ back)
+stay_changed front st now back key stay f at =
+    let read = read_changed StayInFlight (λ xs i g chunk is. is) front st now back f.stream at.slots stay at.listed in
+    record {
+      stream = ap (λ l. slice_get l f.stream) (keys_same front st now back key) ∙ at.stream;
+      slots = read.slots;
+      listed = read.listed;
+      stands = read.stay f.index f.flight f.chunk at.stands;
+    }
+
+pub others_changed : (flight : ℕ) (front : List Stream) (st now : Stream) (back : List Stream) → key_of now ≡ key_of st
+    → OthersStayInFlight flight st.chunks.sealed now.chunks.sealed
+    → OthersStayAmong flight (front ++ st ∷ back) (front ++ now ∷ back)
+others_changed flight front st now back key stay f other at =
+    let read =
+    read_changed (OthersStayInFlight flight) (λ xs i g chunk away is. is) front st now back f.stream at.slots stay at.listed in
+    record {
+      stream = ap (λ l. slice_get l f.stream) (keys_same front st now back key) ∙ at.stream;
+      slots = read.slots;
+      listed = read.listed;
+      stands = read.stay f.index f.flight f.chunk other at.stands;
+    }
+
+-- ---- numbers of flights
+
+pub counted_among : (f i : ℕ) (chunk : ChunkContents) (xs : List Slot) → slice_get xs i ≡ Some (slot_at (Flight f) chunk)
+    → (sts : List Stream) (n : ℕ) → slice_get (map slots_of sts) n ≡ Some xs → 0 < flights_among f sts
+counted_among f i chunk xs stands [] n is = absurd (cc)
+counted_among f i chunk xs stands (st ∷ sts) zero is =
+    let here = flies_here f i chunk st (ap (λ l. slice_get l i) (same_Some (slots_of st) xs is) ∙ stands) in
+    let sum = sum_cons (flights_in f) st sts in
+    omega (arith, here, sum)
+counted_among f i chunk xs stands (st ∷ sts) (suc n) is =
+    let later = counted_among f i chunk xs stands sts n is in
+    let sum = sum_cons (flights_in f) st sts in
+    omega (arith, later, sum)
+
+-- no chunk in flight has a number that is free
+pub other_number : (flight : ℕ) (sts : List Stream) → flights_among flight sts ≡ 0
+    → (f : Flown) → FliesAmong f sts → f.flight ≢ flight
+other_number flight sts none f at same =
+    let some = subst (λ k. 0 < flights_among k sts) same (counted_among f.flight f.index f.chunk at.slots at.stands sts f.stream at.listed) in
+    omega (arith, none, some)
