@@ -167,7 +167,11 @@ fn lines_stay_in_the_bytes(rt: HostRuntime) -> Result<(), Fail> {
 
 /// Whether the last entry of its last block is that of `TWO_BLOCKS`.
 fn ends_with_the_long_line(chunk: &LentChunk<'_>) -> bool {
-    match chunk.blocks().last().and_then(|block| block.entries().last()) {
+    match chunk
+        .blocks()
+        .last()
+        .and_then(|block| block.entries().last())
+    {
         Some(last) => {
             last.number() == 26
                 && last.stamp().nanoseconds() == 9
