@@ -1,0 +1,5 @@
+mod KeptLaws
+mod QueryLaws
+mod RunLaws
+mod TicketLaws
+mod WorldLaws
