@@ -16,3 +16,5 @@ mod queries;
 mod settings;
 #[cfg(test)]
 mod shard;
+#[cfg(test)]
+mod worlds;
