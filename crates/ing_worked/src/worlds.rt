@@ -95,10 +95,12 @@ fn event_of(alloc: Global, act: Act) -> Result<WorldEvent, Fail> {
         Act::Push(time) => WorldEvent::Push {
             tenant: Tenant::of_text(alloc, "t")?,
             labels: Labels::of_pairs(alloc, &[("a", "1")], &LIMITS)?,
-            entries: vec![in alloc; Entry {
-                stamp: stamp(time)?,
-                line: Line::of_text(alloc, "x")?,
-            }]?,
+            entries: vec![in alloc;
+                Entry {
+                    stamp: stamp(time)?,
+                    line: Line::of_text(alloc, "x")?,
+                },
+            ]?,
             now: stamp(time)?,
         },
         Act::SealAll => WorldEvent::SealAll,
@@ -219,6 +221,9 @@ fn drawn_worlds_find_what_was_pushed(rt: HostRuntime) -> Result<(), Fail> {
             }
         }
     }
-    assert!(rt; finished > 20 && given_back > 100, "{finished}, {given_back}");
+    assert!(rt;
+        finished > 20 && given_back > 100,
+        "{finished}, {given_back}"
+    );
     Ok(())
 }
