@@ -1,10 +1,11 @@
 # run: the program on standard input, with SETTINGS=FILE by that settings file.   build: the program, with all that it calls proved.
 # test: the whole gate, from nothing, after a look that the documents show their cases.   check: proves what has changed, while editing.
-# bench: figures of time, to be read (bench/README.md).
-.PHONY: run build check test bench documents
+# bench: figures of time, to be read (bench/README.md).   worlds: 10,000 lists of events by lot, beside a slow program.
+.PHONY: run build check test bench worlds documents
 program = crates/ingestd/out/ingestd
 postings_figures = crates/bench_postings/out/bench_postings
 codec_figures = crates/bench_codec/out/bench_codec
+worlds_by_lot = crates/ing_worlds/out/ing_worlds
 sources = crates.txt $(shell find crates -name out -prune -o \( -name '*.rt' -o -name '*.antt' \) -print)
 
 run: $(program)
@@ -50,4 +51,11 @@ $(postings_figures): $(sources)
 
 $(codec_figures): $(sources)
 	@cd crates/bench_codec && rt run -- counts 120 >&2
+	@touch $@
+
+worlds: $(worlds_by_lot)
+	@$(worlds_by_lot) 10000
+
+$(worlds_by_lot): $(sources)
+	@cd crates/ing_worlds && rt run -- 1 >&2
 	@touch $@

@@ -1,0 +1,110 @@
+//! Lists of events by lot.
+use crate::act::{Act, Logged};
+use anyhow::Result;
+use ing_parts::{Order, Question};
+use ing_world::{Object, Outcome};
+use std::alloc::Global;
+
+/// Numbers by lot, the same in each run (xorshift of 64 bits), and the time.
+#[derive(Drop)]
+struct Lots {
+    state: u64,
+    now: u64,
+}
+
+impl Lots {
+    /// A number below this one, which is not 0.
+    fn below(&mut self, count: u64) -> u64 {
+        let mut state = self.state;
+        state ^= state << 13;
+        state ^= state >> 7;
+        state ^= state << 17;
+        self.state = state;
+        state.checked_rem(count).unwrap_or(0)
+    }
+
+    /// An entry, at most 29 nanoseconds old.
+    fn logged(&mut self) -> Logged {
+        let behind = match self.below(2) {
+            0 => 0,
+            _ => self.below(30),
+        };
+        Logged {
+            stamp: self.now.saturating_sub(behind),
+            line: self.below(4) as usize,
+        }
+    }
+
+    fn push(&mut self) -> Act {
+        Act::Push {
+            stream: self.below(3) as usize,
+            now: self.now,
+            entries: [self.logged(), self.logged(), self.logged()],
+            count: match self.below(8) {
+                0 => 0,
+                1..=3 => 1,
+                4..=6 => 2,
+                _ => 3,
+            },
+        }
+    }
+
+    fn put(&mut self) -> Act {
+        let ticket = self.below(8) as usize;
+        let object = match self.below(2) {
+            0 => Object::Chunk,
+            _ => Object::Row,
+        };
+        let outcome = match self.below(6) {
+            0 => Outcome::Failed,
+            1 => Outcome::StoredYetFailed,
+            _ => Outcome::Stored,
+        };
+        Act::Put(ticket, object, outcome)
+    }
+
+    fn query(&mut self) -> Act {
+        let start = self.now.saturating_sub(self.below(60));
+        let question = Question {
+            start,
+            end: start.saturating_add(self.below(60)),
+            order: match self.below(2) {
+                0 => Order::Forward,
+                _ => Order::Backward,
+            },
+            limit: self.below(12) as usize,
+        };
+        Act::Query {
+            selector: self.below(4) as usize,
+            question,
+        }
+    }
+
+    fn act(&mut self) -> Act {
+        self.now = self.now.saturating_add(self.below(4));
+        match self.below(24) {
+            0..=7 => self.push(),
+            8 => Act::Sweep(self.now),
+            9 => Act::SealAll,
+            10..=12 => Act::Claim(self.below(4)),
+            13..=18 => self.put(),
+            19 | 20 => Act::Finish(self.below(8) as usize),
+            21 => Act::GiveBack(self.below(8) as usize),
+            _ => self.query(),
+        }
+    }
+}
+
+/// The list of this number: up to 200 events.
+pub fn drawn(alloc: Global, list: u32) -> Result<Vec<Act>> {
+    let mut lots = Lots {
+        state: 0x2026_1124_9e37_79b9 ^ (u64::from(list) << 20),
+        now: 100,
+    };
+    let count = lots.below(201);
+    let mut acts = Vec::new(alloc);
+    for _ in 0..count {
+        acts.push(lots.act())?;
+    }
+    Ok(acts)
+}
