@@ -9,6 +9,7 @@ mod JudgeLaws
 mod ListedLaws
 mod LiveLaws
 mod Parts
+mod PickLaws
 mod PositionLaws
 mod PushLaws
 mod ReadLaws
