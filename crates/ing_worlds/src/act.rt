@@ -41,7 +41,7 @@ pub const SELECTORS: [(&str, [bool; 3]); 4] = [
 ];
 
 /// The lines that are pushed.
-const LINES: [&str; 4] = ["", "a", "abc", "abcdefghijkl"];
+pub const LINES: [&str; 4] = ["", "a", "abc", "abcdefghijkl"];
 
 /// An entry: its stamp in nanoseconds, and which of the lines it has.
 #[derive(Clone, Copy, Debug)]

@@ -5,11 +5,12 @@ use ing_parts::{Order, Question};
 use ing_world::{Object, Outcome};
 use std::alloc::Global;
 
-/// Numbers by lot, the same in each run (xorshift of 64 bits), and the time.
+/// Numbers by lot, the same in each run (xorshift of 64 bits), the time, and how many claims there were.
 #[derive(Drop)]
 struct Lots {
     state: u64,
     now: u64,
+    claims: u64,
 }
 
 impl Lots {
@@ -49,22 +50,44 @@ impl Lots {
         }
     }
 
+    fn claim(&mut self) -> Act {
+        self.claims = self.claims.saturating_add(1);
+        Act::Claim(self.below(4))
+    }
+
+    /// One of the tickets, if a third of the claims gave one, or the next.
+    fn ticket(&mut self) -> usize {
+        self.below((self.claims / 3).saturating_add(1)) as usize
+    }
+
+    fn outcome(&mut self) -> Outcome {
+        match self.below(6) {
+            0 => Outcome::Failed,
+            1 => Outcome::StoredYetFailed,
+            _ => Outcome::Stored,
+        }
+    }
+
     fn put(&mut self) -> Act {
-        let ticket = self.below(8) as usize;
         let object = match self.below(2) {
             0 => Object::Chunk,
             _ => Object::Row,
         };
-        let outcome = match self.below(6) {
-            0 => Outcome::Failed,
-            1 => Outcome::StoredYetFailed,
-            _ => Outcome::Stored,
-        };
-        Act::Put(ticket, object, outcome)
+        Act::Put(self.ticket(), object, self.outcome())
+    }
+
+    /// All that lists a chunk as stored, unless a put fails or there is no such ticket.
+    fn flush(&mut self) -> [Act; 3] {
+        let ticket = self.ticket();
+        [
+            Act::Put(ticket, Object::Chunk, self.outcome()),
+            Act::Put(ticket, Object::Row, self.outcome()),
+            Act::Finish(ticket),
+        ]
     }
 
     fn query(&mut self) -> Act {
-        let start = self.now.saturating_sub(self.below(60));
+        let start = self.now.saturating_sub(self.below(120));
         let question = Question {
             start,
             end: start.saturating_add(self.below(60)),
@@ -86,10 +109,10 @@ impl Lots {
             0..=7 => self.push(),
             8 => Act::Sweep(self.now),
             9 => Act::SealAll,
-            10..=12 => Act::Claim(self.below(4)),
+            10..=12 => self.claim(),
             13..=18 => self.put(),
-            19 | 20 => Act::Finish(self.below(8) as usize),
-            21 => Act::GiveBack(self.below(8) as usize),
+            19 | 20 => Act::Finish(self.ticket()),
+            21 => Act::GiveBack(self.ticket()),
             _ => self.query(),
         }
     }
@@ -100,11 +123,19 @@ pub fn drawn(alloc: Global, list: u32) -> Result<Vec<Act>> {
     let mut lots = Lots {
         state: 0x2026_1124_9e37_79b9 ^ (u64::from(list) << 20),
         now: 100,
+        claims: 0,
     };
-    let count = lots.below(201);
+    let count = lots.below(199) as usize;
     let mut acts = Vec::new(alloc);
     for _ in 0..count {
-        acts.push(lots.act())?;
+        if acts.len() >= count {
+            break;
+        }
+        if lots.below(6) == 0 {
+            acts.extend(lots.flush())?;
+        } else {
+            acts.push(lots.act())?;
+        }
     }
     Ok(acts)
 }

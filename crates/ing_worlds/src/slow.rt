@@ -10,8 +10,9 @@ use ing_rows::{Gauge, Gauges, Rules, Tenant, Verdict};
 use ing_world::{Object, Outcome};
 use std::alloc::Global;
 
-/// An entry that was accepted, or found: its stamp, its stream and its number. They are ordered as an answer is.
-pub type Kept = (u64, usize, u64);
+/// An entry that was accepted, or found: its stamp, its stream, its number, and which of the lines it has. They are ordered as an
+/// answer is.
+pub type Kept = (u64, usize, u64, usize);
 
 /// Where a chunk is.
 #[derive(Clone, Copy, Debug, PartialEq, Eq)]
@@ -139,7 +140,7 @@ impl Slow {
         if number == 0 {
             self.listed.push(stream)?;
         }
-        self.kept.push((one.stamp, stream, number))?;
+        self.kept.push((one.stamp, stream, number, one.line))?;
         let size = size_of(one);
         for chunk in &mut self.chunks {
             if chunk.stream == stream && !chunk.is_sealed {
