@@ -17,9 +17,13 @@ use ing_store::StoreEnd;
 use std::alloc::Global;
 use std::io::{Read, Write};
 
+/// How many bytes of replies are enough to be written out, though a further line is at hand.
+const ENOUGH: usize = 65_536;
+
 /// Reads commands line by line, answers each in a line, and writes a report at the end of input; flushes put into the store
-/// by `end`. Replies may be held back while a whole further line is at hand; they are written out before anything is read,
-/// and before the run ends.
+/// by `end`. Replies are held back while they have fewer than 64 KiB together and a whole further line is at hand: so the
+/// memory that they take does not grow with the lines that are read ahead. They are written out before anything is read, and
+/// before the run ends.
 ///
 /// `InputFault` where a read failed or the input took more than 2^40 reads, `NoMemory` where memory ran out: then what was
 /// answered before is written, and no report. `OutputFault` where a write failed. (Own.)
@@ -150,7 +154,8 @@ fn serve<R: Read, W: Write, S: StoreEnd>(
     }
 }
 
-/// The next line. Where it is not at hand whole, the replies that are held back are written out before it is read.
+/// The next line. Where it is not at hand whole, or they are enough, the replies that are held back are written out before it
+/// is taken.
 fn next_line<R: Read, W: Write>(
     reader: &mut R,
     writer: &mut W,
@@ -170,11 +175,16 @@ fn next_line<R: Read, W: Write>(
     ensures fault { IsErrOf result Ending.InputFault → (is_ended lines.old ≡ false)
         × (read : List ℕ) × HasNoFeed read
         × Consumes (left lines.old (R.remaining reader.old)) (R.remaining reader.new) read }
+    // What is still held back is less than enough.
+    ensures few { OnOk result (vec_len replies.new < ENOUGH) }
     ensures short { OnOk result (vec_len line.new ≤ MAX_LINE) }
     ensures progress { IfOk result (λ next. next ≢ NextLine.End →
         progress lines.old < progress lines.new) }
     ensures ending { IfErr result (λ e. IsTrue (is_of_run e)) }
 {
+    if replies.len() >= ENOUGH {
+        write_out(writer, replies)?;
+    }
     if lines.is_ended() {
         line.clear();
         return Ok(NextLine::End);
