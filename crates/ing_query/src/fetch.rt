@@ -1,5 +1,6 @@
 //! A stored chunk, fetched and checked.
 ghost use Rattle.std.specs.Prelude.{◌≡◌, ◌⊎◌, IfOk, Ok, true};
+ghost use Rattle.std.specs.Cow.{cow_slice_items};
 ghost use Rattle.sha2.specs.Sha256.{sha256};
 ghost use Rattle.ing_codec.specs.ChunkObjects.{ChunkObject};
 ghost use Rattle.ing_codec.specs.ChunkReading.{read_chunk};
@@ -10,6 +11,7 @@ use ing_codec::{CodecFault, LentChunk, chunk_key, decode_lent};
 use ing_parts::Listing;
 use ing_store::{Receipt, StoreEnd, StoreFault};
 use std::alloc::Global;
+use std::borrow::CowSlice;
 
 /// The chunk that bytes spell, with its lines left in them.
 fn spelt<'a>(alloc: Global, bytes: &'a [u8], key: &[u8; 32]) -> Result<LentChunk<'a>, QueryFault>
@@ -34,12 +36,13 @@ fn is_of_key<S: StoreEnd>(end: &S, bytes: &[u8], key: &[u8; 32]) -> bool
 }
 
 /// The bytes of a listed chunk.
-fn got<S: StoreEnd>(
+fn got<'r, S: StoreEnd>(
     alloc: Global,
-    listing: &Listing<S::Receipt>,
+    listing: &'r Listing<S::Receipt>,
     end: &mut S,
-) -> Result<Vec<u8>, QueryFault>
-    ensures bytes { S.is_honest → IfOk result (λ bytes. bytes.items ≡ listing.now.bytes) }
+) -> Result<CowSlice<'r, u8, Global>, QueryFault>
+    ensures bytes { S.is_honest →
+        IfOk result (λ bytes. cow_slice_items bytes ≡ listing.now.bytes) }
     ensures count { IsCounted (S.failure_count end.old) (S.failure_count end.new) result }
     ensures good { IsNotBad result }
     ensures key { HasKey (λ k. k ≡ listing.now.key) result }
@@ -57,14 +60,16 @@ fn got<S: StoreEnd>(
 
 /// The bytes of a listed chunk, which may be taken for it. `StoreFault` only where the end has failed, and `BadObject` where
 /// the bytes are not those that are listed.
-pub(crate) fn fetch<S: StoreEnd>(
+pub(crate) fn fetch<'r, S: StoreEnd>(
     alloc: Global,
-    listing: &Listing<S::Receipt>,
+    listing: &'r Listing<S::Receipt>,
     end: &mut S,
-) -> Result<Vec<u8>, QueryFault>
-    ensures bytes { S.is_honest → IfOk result (λ bytes. bytes.items ≡ listing.now.bytes) }
+) -> Result<CowSlice<'r, u8, Global>, QueryFault>
+    ensures bytes { S.is_honest →
+        IfOk result (λ bytes. cow_slice_items bytes ≡ listing.now.bytes) }
     // What is taken for it has its key, unless it comes from an end that is proved honest.
-    ensures own { IfOk result (λ bytes. (listing.now.key ≡ sha256 bytes.items) ⊎ S.is_honest) }
+    ensures own { IfOk result (λ bytes.
+        (listing.now.key ≡ sha256 (cow_slice_items bytes)) ⊎ S.is_honest) }
     ensures honest { IsSpelt listing.now → S.is_honest → IsNotBad result }
     ensures count { IsCounted (S.failure_count end.old) (S.failure_count end.new) result }
     ensures key { HasKey (λ k. k ≡ listing.now.key) result }
@@ -73,7 +78,7 @@ pub(crate) fn fetch<S: StoreEnd>(
 {
     let bytes = got(alloc, listing, end)?;
     let key = listing.key();
-    if !is_of_key(end, &bytes, key) {
+    if !is_of_key(end, bytes.as_slice(), key) {
         return Err(QueryFault::BadObject { key: *key });
     }
     Ok(bytes)

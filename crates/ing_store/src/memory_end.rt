@@ -1,5 +1,6 @@
 //! An end of a store in memory.
 ghost use Rattle.std.specs.Prelude.{◌≡◌, ◌≢◌, ◌↔◌, IfOk, IfErr, IsErr, IfSome, true, Err};
+ghost use Rattle.std.specs.Cow.{cow_slice_items};
 ghost use Rattle.ing_store.specs.MemoryEnds.{called, is_failing, new_end};
 ghost use Rattle.ing_store.specs.StoreFaults.{IsCounted};
 ghost use Rattle.ing_store.specs.StoredObjects.{stored_object};
@@ -10,6 +11,7 @@ use crate::memory_object::MemoryReceipt;
 use crate::memory_store::MemoryStore;
 use crate::store_end::StoreEnd;
 use std::alloc::Global;
+use std::borrow::CowSlice;
 use std::marker::Model;
 use std::sync::Wait;
 
@@ -111,20 +113,24 @@ impl<'a, R: Wait> StoreEnd for MemoryEnd<'a, R> {
         Ok(MemoryReceipt { object })
     }
 
-    /// The bytes of an object. `Failed` where the call fails, and `NoMemory` where memory ran out.
-    fn get(&mut self, alloc: Global, receipt: &MemoryReceipt<'a>) -> Result<Vec<u8>, StoreFault>
-        ensures bytes { IfOk result (λ v. v.items ≡ receipt.now.object.now.bytes) }
+    /// The bytes of an object, lent. `Failed` where the call fails. Takes no memory.
+    fn get<'r>(
+        &mut self,
+        alloc: Global,
+        receipt: &'r MemoryReceipt<'a>,
+    ) -> Result<CowSlice<'r, u8, Global>, StoreFault>
+        ensures bytes { IfOk result (λ v. cow_slice_items v ≡ receipt.now.object.now.bytes) }
         ensures count { IsCounted self.old.failures self.new.failures result }
         ensures sure { self.old.fuse ≡ Fuse.None → (self.new.fuse ≡ Fuse.None)
             × (self.new.failures ≡ self.old.failures) }
-        ensures fails { (is_failing self.old ≡ true) ↔ (result ≡ Err StoreFault.Failed) }
-        ensures undamaged { result ≢ Err StoreFault.Damaged }
+        ensures fails { (is_failing self.old ≡ true) ↔ IsErr result }
+        ensures fault { IfErr result (λ fault. fault ≡ StoreFault.Failed) }
         ensures called { self.new ≡ called self.old }
     {
         if self.fails() {
             return Err(StoreFault::Failed);
         }
-        Ok(receipt.object.bytes().to_vec(alloc)?)
+        Ok(CowSlice::Borrowed(receipt.object.bytes()))
     }
 
     /// The object of this name that was written last. `None` claims nothing. `Failed` where the call fails.

@@ -1,9 +1,11 @@
 //! What a worker has of a store.
 ghost use Rattle.std.specs.Prelude.{◌≡◌, ℕ, List, IfOk, IfSome, true};
+ghost use Rattle.std.specs.Cow.{cow_slice_items};
 ghost use Rattle.ing_store.specs.StoreFaults.{IsCounted};
 
 use crate::fault::StoreFault;
 use std::alloc::Global;
+use std::borrow::CowSlice;
 
 /// What a store end gives for an object, and takes to give its bytes again. It means a name and bytes (own).
 pub trait Receipt: Drop {
@@ -51,9 +53,14 @@ pub trait StoreEnd {
         ensures sure { never_fails self.old → (never_fails self.new)
             × (failure_count self.new ≡ failure_count self.old) };
 
-    /// The bytes of an object.
-    fn get(&mut self, alloc: Global, receipt: &Self::Receipt) -> Result<Vec<u8>, StoreFault>
-        ensures bytes { is_honest → IfOk result (λ v. v.items ≡ Self.Receipt.bytes receipt.now) }
+    /// The bytes of an object, lent where they lie in memory already.
+    fn get<'r>(
+        &mut self,
+        alloc: Global,
+        receipt: &'r Self::Receipt,
+    ) -> Result<CowSlice<'r, u8, Global>, StoreFault>
+        ensures bytes { is_honest →
+            IfOk result (λ v. cow_slice_items v ≡ Self.Receipt.bytes receipt.now) }
         ensures count { IsCounted (failure_count self.old) (failure_count self.new) result }
         ensures sure { never_fails self.old → (never_fails self.new)
             × (failure_count self.new ≡ failure_count self.old) };
