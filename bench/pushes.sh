@@ -1,7 +1,7 @@
 #!/bin/sh
 # bench/pushes.sh PROGRAM
 #
-# What pushes, flushes and queries cost: feeds PROGRAM (ingestd) inputs that it makes in a folder of its own, and prints three
+# What pushes, flushes and queries cost: feeds PROGRAM (ingestd) inputs that it makes in a folder of its own, and prints four
 # tables. Every entry must be accepted, stored where it is flushed, and found where it is asked for, or it stops. Processor
 # time is user and system together, by /usr/bin/time where it is there and else by the shell. Both count in hundredths of a
 # second, so inputs below a million entries are run five times together, those with queries twice, and the figure is a fifth
@@ -162,6 +162,47 @@ query_row() {
     }'
 }
 
+# time_of streams|chunks SIZE: sets `query_seconds`, of 10,000 queries of the newest 100 entries of one stream. It is one of
+# SIZE streams of 100 entries, which are flushed, or has SIZE stored chunks of 100 entries, of which all but the newest lie
+# before the range. What pushes and flushes take alone is taken off.
+time_of() {
+  if [ "$1" = streams ]; then
+    make_input "$(($2 * 100))" "$2" 100 120 in >"$folder/input"
+    echo '{"cmd":"flush"}' >>"$folder/input"
+    start=0
+  else
+    make_input "$(($2 * 100))" 1 100 120 in | awk '{ print; print "{\"cmd\":\"flush\"}" }' >"$folder/input"
+    start=$((1000000000 + $2 * 100 - 100))000000
+  fi
+  least "$folder/input" '1 2'
+  push_seconds=$least_seconds
+  pod=0
+  [ "$1" = chunks ] || pod=7
+  awk -v pod="$pod" -v start="$start" 'BEGIN {
+    for (i = 0; i < 10000; i++)
+      printf "{\"cmd\":\"query\",\"tenant\":\"t\",\"query\":\"{pod=\\\"p%d\\\"}\",\"start\":\"%s\"}\n", pod, start
+  }' >>"$folder/input"
+  least "$folder/input" '1 2'
+  rm "$folder/input"
+  found=$(grep '^{"query"' "$folder/out" | grep -o '"stream"' | wc -l)
+  if [ "$found" != 1000000 ]; then
+    echo "$found entries found of 1000000: $*" >&2
+    exit 1
+  fi
+  query_seconds=$(awk -v seconds="$least_seconds" -v pushes="$push_seconds" 'BEGIN { print seconds - pushes }')
+}
+
+# grown_row streams|chunks SIZE: what a query takes where there are so many, and 16 times as many.
+grown_row() {
+  time_of "$1" "$2"
+  small_seconds=$query_seconds
+  time_of "$1" "$(($2 * 16))"
+  awk -v what="$1" -v size="$2" -v small="$small_seconds" -v large="$query_seconds" 'BEGIN {
+    exponent = small > 0 && large > 0 ? sprintf("%.2f", log(large / small) / log(16)) : "-"
+    printf "| %s | %d | %d | %.3f | %.3f | %s |\n", what, size, size * 16, small / 10, large / 10, exponent
+  }'
+}
+
 echo '| Entries | streams | entries a push | bytes a line | stamps in or out of order | entries a second | microseconds an entry | of these read and refused | peak memory by held bytes |'
 echo '|---|---|---|---|---|---|---|---|---|'
 for order in in out; do
@@ -198,3 +239,9 @@ for place in memory store both; do
     query_row "$place" 200 20 "$limit"
   done
 done
+
+echo
+echo '| What grows, none of it in the answer | from | to | milliseconds a query | with 16 times as many | exponent |'
+echo '|---|---|---|---|---|---|'
+grown_row streams 200
+grown_row chunks 64

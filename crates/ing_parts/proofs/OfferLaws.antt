@@ -1,16 +1,16 @@
 -- Entries that are offered one after another.
 use Rattle.std.proofs.Common.{◌≡◌, Bool, true, false, not, cond, filter, ℕ, ◌+◌, ◌<◌, List, [], ◌∷◌, ◌++◌, map, length, drop, take, get_or, suc, add-one, drop-cons, append_assoc, append-nil, refl, ap, sym, ◌∙◌, subst, arith}
-use Rattle.std.specs.Prelude.{All, IsPermutation}
+use Rattle.std.specs.Prelude.{All, IsPermutation, Option, None, Some, ◌==◌, max, min, unwrap_or}
 use Rattle.std.proofs.lemmas.List.{map-append, take_more}
-use Rattle.std.proofs.lemmas.List.Elements.{All-head, All-tail, filter-append}
+use Rattle.std.proofs.lemmas.List.Elements.{All-nil, All-cons, All-head, All-tail, filter-append}
 use Rattle.std.proofs.lemmas.List.Sorted.{IsPermutation-append_comm, IsPermutation-append_right}
 use Rattle.ing_chunk.specs.declared.numbered.Numbered.{Numbered}
 use Rattle.ing_parts.specs.declared.found.Found.{Found}
-use Rattle.ing_chunk.specs.Chunks.{is_between}
+use Rattle.ing_chunk.specs.Chunks.{ChunkContents, count_in, entries_of, greatest_of, in_blocks, is_between, least_of, span_of}
 use Rattle.ing_parts.specs.declared.order.Order.{Order}
 use Rattle.ing_parts.specs.declared.order.Order.TheVariants.{Forward, Backward}
 use Rattle.ing_parts.specs.Answers.{BestState, IsAnswer, IsFrom, Offers, PassesOver, StandFor}
-use Rattle.ing_parts.specs.Parts.{found_between, found_of, is_within, within}
+use Rattle.ing_parts.specs.Parts.{AreFrom, found_between, found_of, is_within, within}
 use Rattle.ing_parts.proofs.RangeLaws.{missed}
 use Rattle.ing_parts.proofs.StandLaws.{stand_alike, stand_answered, stand_beside, stand_still, stand_through}
 
@@ -59,6 +59,11 @@ left_from xs i x within is = rw (add-one) (drop-cons xs i x within ∙ ap (λ y.
 pub up_to : {X : Type 0} (xs : List X) (i : ℕ) (x : X) → i < length xs → x ≡ get_or xs i x → take (i + 1) xs ≡ take i xs ++ x ∷ []
 up_to xs i x within is = take_more xs i x within ∙ ap (λ y. take i xs ++ y ∷ []) (sym is)
 
+-- the entries of blocks, one block more
+pub in_blocks_more : (bs : List (List Numbered)) (b : List Numbered) → in_blocks (bs ++ b ∷ []) ≡ in_blocks bs ++ b
+in_blocks_more [] b = append-nil b
+in_blocks_more (c ∷ bs) b = ap (λ l. c ++ l) (in_blocks_more bs b) ∙ sym (append_assoc c (in_blocks bs) b)
+
 -- these behind those that were offered before them
 pub offers_next : (name : List ℕ) (start end : ℕ) (xs more all : List Numbered) (old mid new : BestState) → all ≡ xs ++ more → Offers (found_between name start end xs) old mid → Offers (found_between name start end more) mid new → Offers (found_between name start end all) old new
 offers_next name start end xs more all old mid new is h k =
@@ -75,6 +80,44 @@ offers_previous name start end xs more all old mid new is h k =
 pub passed_or_out : (b : BestState) (f : Found) (t : Bool) → PassesOver f.entry.stamp b → Offers (cond t (f ∷ []) []) b b
 passed_or_out b f true pass = pass f (from_itself b.order f.entry.stamp)
 passed_or_out b f false pass = offers_none b
+
+-- ---- entries that come from a stamp on
+
+first_from : (order : Order) (from : ℕ) (e : Numbered) (es : List Numbered) → AreFrom order from (e ∷ es) → IsFrom order from e.entry.stamp × AreFrom order from es
+first_from Forward from e es h = (omega arith, omega arith)
+first_from Backward from e es h = (omega arith, omega arith)
+
+-- the stamps of those in the range
+all_from : (order : Order) (from : ℕ) (name : List ℕ) (start end : ℕ) (es : List Numbered) → AreFrom order from es → All (λ f. IsFrom order from f.entry.stamp) (found_between name start end es)
+all_from order from name start end [] h = All-nil (λ f. IsFrom order from f.entry.stamp)
+all_from order from name start end (e ∷ es) h =
+    step (is_within start end (found_of name e)) (first_from order from e es h).0 (all_from order from name start end es (first_from order from e es h).1) where
+      step : (t : Bool) → IsFrom order from e.entry.stamp → All (λ f. IsFrom order from f.entry.stamp) (found_between name start end es) → All (λ f. IsFrom order from f.entry.stamp) (cond t (found_of name e ∷ found_between name start end es) (found_between name start end es))
+      step true here rest = All-cons (λ f. IsFrom order from f.entry.stamp) (found_of name e) (found_between name start end es) here rest
+      step false here rest = rest
+
+-- nothing from there on changes anything
+pub offers_from : (name : List ℕ) (start end from : ℕ) (es : List Numbered) (b : BestState) → PassesOver from b → AreFrom b.order from es → Offers (found_between name start end es) b b
+offers_from name start end from es b pass h = offers_passed from b (found_between name start end es) pass (all_from b.order from name start end es h)
+
+-- nor where that is so of its blocks and its head
+pub offers_passed_chunk : (name : List ℕ) (start end from : ℕ) (c : ChunkContents) (b : BestState) → PassesOver from b → AreFrom b.order from (in_blocks c.blocks) → AreFrom b.order from c.head → Offers (found_between name start end (entries_of c)) b b
+offers_passed_chunk name start end from c b pass blocks head =
+    offers_next name start end (in_blocks c.blocks) c.head (entries_of c) b b b refl
+    (offers_from name start end from (in_blocks c.blocks) b pass blocks) (offers_from name start end from c.head b pass head)
+
+-- by the span of a chunk
+pub from_least : (l g : ℕ) (c : ChunkContents) → span_of c ≡ Some (l, g) → AreFrom Forward l (in_blocks c.blocks) × AreFrom Forward l c.head
+from_least l g c is = by_count (count_in c == 0) is where
+  by_count : (t : Bool) → cond {A = Option (ℕ × ℕ)} t None (Some (min (least_of c.head) (least_of (in_blocks c.blocks)), max (greatest_of c.head) (greatest_of (in_blocks c.blocks)))) ≡ Some (l, g) → AreFrom Forward l (in_blocks c.blocks) × AreFrom Forward l c.head
+  by_count true is = absurd (cc)
+  by_count false is = let least : min (least_of c.head) (least_of (in_blocks c.blocks)) ≡ l = ap (λ o. (unwrap_or {T = ℕ × ℕ} o (l, g)).0) is in (omega (arith, least), omega (arith, least))
+
+pub from_greatest : (l g : ℕ) (c : ChunkContents) → span_of c ≡ Some (l, g) → AreFrom Backward g (in_blocks c.blocks) × AreFrom Backward g c.head
+from_greatest l g c is = by_count (count_in c == 0) is where
+  by_count : (t : Bool) → cond {A = Option (ℕ × ℕ)} t None (Some (min (least_of c.head) (least_of (in_blocks c.blocks)), max (greatest_of c.head) (greatest_of (in_blocks c.blocks)))) ≡ Some (l, g) → AreFrom Backward g (in_blocks c.blocks) × AreFrom Backward g c.head
+  by_count true is = absurd (cc)
+  by_count false is = let greatest : max (greatest_of c.head) (greatest_of (in_blocks c.blocks)) ≡ g = ap (λ o. (unwrap_or {T = ℕ × ℕ} o (l, g)).1) is in (omega (arith, greatest), omega (arith, greatest))
 
 pub holds : (b : Bool) → not b ≡ false → b ≡ true
 holds true h = refl

@@ -144,3 +144,10 @@ entries_of_all-more (x ∷ cs) c = ap (λ l. entries_of x ++ l) (entries_of_all-
 pub adds_next : {R : Type 0} (name : List ℕ) (xs more all : List Numbered) (old mid new : Snapshot R) → all ≡ xs ++ more → Adds (map (found_of name) xs) old mid → Adds (map (found_of name) more) mid new → Adds (map (found_of name) all) old new
 adds_next name xs more all old mid new is h k =
     subst (λ (l : List Found). Adds l old new) (sym (map-append (found_of name) xs more) ∙ sym (ap (map (found_of name)) is)) (adds_both (map (found_of name) xs) (map (found_of name) more) old mid new h k)
+
+-- and these before them
+pub adds_previous : {R : Type 0} (name : List ℕ) (xs more all : List Numbered) (old mid new : Snapshot R) → all ≡ more ++ xs → Adds (map (found_of name) xs) old mid → Adds (map (found_of name) more) mid new → Adds (map (found_of name) all) old new
+adds_previous name xs more all old mid new is h k =
+    let x = map (found_of name) xs in
+    let y = map (found_of name) more in
+    subst (λ (l : List Found). Adds l old new) (sym (map-append (found_of name) more xs) ∙ sym (ap (map (found_of name)) is)) (adds_alike (x ++ y) (y ++ x) old new (IsPermutation-append_comm x y) (adds_both x y old mid new h k))

@@ -1,15 +1,17 @@
 -- Where entries of streams stand that a query may want, and what a query gives of them.
 -- What names no section of the Loki documentation is own.
-use Rattle.std.specs.Prelude.{◌≡◌, ◌++◌, ℕ, Bool, ◌&&◌, nat_le, nat_lt, List, map, filter, IsPermutation}
+use Rattle.std.specs.Prelude.{◌≡◌, ◌++◌, ℕ, ◌≤◌, Bool, ◌&&◌, nat_le, nat_lt, List, map, filter, IsPermutation}
 use Rattle.std.specs.List.{flat_map}
 use Rattle.ing_rows.specs.Rows.{StreamKey, Row}
 use Rattle.ing_chunk.specs.declared.numbered.Numbered.{Numbered}
-use Rattle.ing_chunk.specs.Chunks.{ChunksContents, block_rows, entries_in_memory, entries_of, in_blocks, stream_state}
+use Rattle.ing_chunk.specs.Chunks.{ChunksContents, block_rows, entries_in_memory, entries_of, greatest_of, in_blocks, least_of, stream_state}
 use Rattle.ing_parts.specs.declared.found.Found.{Found}
 use Rattle.ing_parts.specs.declared.part.Part.{Part}
 use Rattle.ing_parts.specs.declared.snapshot.Snapshot.{Snapshot}
 use Rattle.ing_parts.specs.declared.part.Source.{Source}
 use Rattle.ing_parts.specs.declared.part.Source.TheVariants.{Shared, Stored}
+use Rattle.ing_parts.specs.declared.order.Order.{Order}
+use Rattle.ing_parts.specs.declared.order.Order.TheVariants.{Forward, Backward}
 use Rattle.ing_parts.specs.Answers.{StandFor}
 
 -- the entries of a place
@@ -44,6 +46,11 @@ within start end = filter (is_within start end)
 -- of entries of the stream of this name those whose stamp is in the range
 abbrev pub found_between : List ℕ → ℕ → ℕ → List Numbered → List Found
 found_between name start end es = within start end (map (found_of name) es)
+
+-- the stamp of each of these entries is this one or comes after it in the order
+abbrev pub AreFrom : Order → ℕ → List Numbered → Type 0
+AreFrom Forward from es = from ≤ least_of es
+AreFrom Backward from es = greatest_of es ≤ from
 
 -- the entries of a snapshot that are wanted: those that it keeps, and those of its parts whose stamp is in its range
 abbrev pub wanted : {R : Type 0} → Snapshot R → List Found

@@ -6,7 +6,7 @@ ghost use Rattle.ing_parts.specs.declared.order.Order.{Order};
 ghost use Rattle.ing_parts.specs.declared.snapshot.Snapshot.{Snapshot};
 ghost use Rattle.ing_parts.specs.Answers.{BestState, IsAnswer, IsFrom, Offers, PassesOver, StandFor};
 ghost use Rattle.ing_chunk.specs.declared.numbered.Numbered.{Numbered};
-ghost use Rattle.ing_parts.specs.Parts.{Adds, AddsRows, RowsAreFound, found_at, found_between};
+ghost use Rattle.ing_parts.specs.Parts.{Adds, AddsRows, AreFrom, RowsAreFound, found_at, found_between};
 
 use ing_store::Receipt;
 
@@ -25,8 +25,8 @@ pub fn offers_join()
         IsAnswer old.order old.limit (old.held ++ all) answer }
 {}
 
-/// The same of entries of one stream in a range: of those behind others, and of those before them; and of one that nothing from its
-/// stamp on changes, in the range or out of it.
+/// The same of entries of one stream in a range: of those behind others, and of those before them; and of those that come from a
+/// stamp on from which none changes anything, in the range or out of it.
 pub fn offers_of_streams()
     ensures next { (name : List ℕ) (start end : ℕ) (xs more all : List Numbered)
         (old mid new : BestState) → all ≡ xs ++ more →
@@ -40,6 +40,9 @@ pub fn offers_of_streams()
         Offers (found_between name start end all) old new }
     ensures one { (name : List ℕ) (start end : ℕ) (e : Numbered) (b : BestState) →
         PassesOver e.entry.stamp b → Offers (found_between name start end (e ∷ [])) b b }
+    ensures from { (name : List ℕ) (start end from : ℕ) (es : List Numbered) (b : BestState) →
+        PassesOver from b → AreFrom b.order from es →
+        Offers (found_between name start end es) b b }
     ensures none { (name : List ℕ) (start end : ℕ) (b : BestState) →
         Offers (found_between name start end []) b b }
 {}

@@ -98,8 +98,26 @@ fn offer_entries(
     }
 }
 
+/// Offers copies of the entries of blocks whose stamp is in the range, the first block first.
+fn offer_blocks_from_first(
+    best: &mut Best,
+    alloc: Global,
+    name: &StreamName,
+    blocks: &[Block],
+    start: u64,
+    end: u64,
+) -> Result<(), AllocError>
+    ensures { OnOk result
+        (Offers (found_between name.now start end (in_blocks blocks.now)) best.old best.new) }
+{
+    for block in blocks {
+        offer_entries(best, alloc, name, block.entries(), start, end)?;
+    }
+    Ok(())
+}
+
 /// Offers copies of the entries of blocks whose stamp is in the range, the last block first.
-fn offer_blocks(
+fn offer_blocks_from_last(
     best: &mut Best,
     alloc: Global,
     name: &StreamName,
@@ -116,8 +134,23 @@ fn offer_blocks(
     Ok(())
 }
 
+/// Whether the span of a chunk shows that none of its entries may be kept.
+fn passes_over(best: &Best, chunk: &Chunk) -> bool
+    ensures { result ≡ true → (name : List ℕ) (start end : ℕ) →
+        Offers (found_between name start end (entries_of chunk.now)) best.now best.now }
+{
+    let Some((least, greatest)) = chunk.span() else {
+        return false;
+    };
+    match best.order() {
+        Order::Forward => best.bars(least),
+        Order::Backward => best.bars(greatest),
+    }
+}
+
 /// Offers copies of the entries of a chunk whose stamp is at least the start and below the end, in nanoseconds. A chunk that has
-/// none by its span is not looked through. `AllocError` where memory ran out.
+/// none by its span, or none that may be kept, is not looked through. Its head is newer than its blocks, most often, and so
+/// comes first where the newest are wanted. `AllocError` where memory ran out.
 pub fn offer_chunk(
     best: &mut Best,
     alloc: Global,
@@ -129,10 +162,19 @@ pub fn offer_chunk(
     ensures { OnOk result
         (Offers (found_between name.now start end (entries_of chunk.now)) best.old best.new) }
 {
-    if chunk.misses(start, end) {
+    if chunk.misses(start, end) || passes_over(best, chunk) {
         return Ok(());
     }
-    offer_entries(best, alloc, name, chunk.head(), start, end)?;
-    offer_blocks(best, alloc, name, chunk.blocks(), start, end)?;
+    let head = chunk.head();
+    match best.order() {
+        Order::Forward => {
+            offer_blocks_from_first(best, alloc, name, chunk.blocks(), start, end)?;
+            offer_entries(best, alloc, name, head, start, end)?;
+        }
+        Order::Backward => {
+            offer_entries(best, alloc, name, head, start, end)?;
+            offer_blocks_from_last(best, alloc, name, chunk.blocks(), start, end)?;
+        }
+    }
     Ok(())
 }

@@ -1,13 +1,13 @@
 //! What is read off a shard at one moment.
 ghost use Rattle.std.specs.Prelude.{◌≡◌, [], OnOk, map};
-ghost use Rattle.ing_chunk.specs.Chunks.{entries_in_memory, entries_of, entries_of_all, in_blocks};
+ghost use Rattle.ing_chunk.specs.Chunks.{entries_growing, entries_in_memory, entries_of, entries_of_all, in_blocks};
 ghost use Rattle.ing_parts.specs.Parts.{Adds, entries_in, found_of};
 
 use crate::best::Best;
 use crate::laws::additions_join;
 use crate::listing::Listing;
 use crate::offers::offer_chunk;
-use crate::order::Question;
+use crate::order::{Order, Question};
 use crate::part::{Part, Source};
 use crate::stream_name::StreamName;
 use ing_chunk::{Chunk, Chunks};
@@ -49,7 +49,7 @@ impl<R: Receipt> Snapshot<R> {
         }
     }
 
-    /// Keeps copies of the best of the entries of a stream's chunks in memory that are wanted.
+    /// Keeps copies of the best of the entries of a stream's chunks in memory that are wanted. They begin where an answer begins.
     pub fn add_chunks(
         &mut self,
         alloc: Global,
@@ -59,16 +59,21 @@ impl<R: Receipt> Snapshot<R> {
         ensures { OnOk result
             (Adds (map (found_of name.now) (entries_in_memory chunks.now)) self.old self.new) }
     {
-        additions_join::<R>();
-        self.add_all(alloc, name, chunks.waiting_chunks())?;
-        if let Some(chunk) = chunks.growing() {
-            self.add_chunk(alloc, name, chunk)?;
+        match self.best.order() {
+            Order::Forward => {
+                self.add_from_first(alloc, name, chunks.waiting_chunks())?;
+                self.add_growing(alloc, name, chunks)?;
+            }
+            Order::Backward => {
+                self.add_growing(alloc, name, chunks)?;
+                self.add_from_last(alloc, name, chunks.waiting_chunks())?;
+            }
         }
         Ok(())
     }
 
-    /// Keeps copies of the best of the entries of chunks in memory that are wanted.
-    fn add_all(
+    /// Keeps copies of the best of the entries of chunks in memory that are wanted, those of the first chunk first.
+    fn add_from_first(
         &mut self,
         alloc: Global,
         name: &StreamName,
@@ -79,6 +84,40 @@ impl<R: Receipt> Snapshot<R> {
     {
         additions_join::<R>();
         for chunk in chunks {
+            self.add_chunk(alloc, name, chunk)?;
+        }
+        Ok(())
+    }
+
+    /// Keeps copies of the best of the entries of chunks in memory that are wanted, those of the last chunk first.
+    fn add_from_last(
+        &mut self,
+        alloc: Global,
+        name: &StreamName,
+        chunks: &[Chunk],
+    ) -> Result<(), AllocError>
+        ensures { OnOk result
+            (Adds (map (found_of name.now) (entries_of_all chunks.now)) self.old self.new) }
+    {
+        additions_join::<R>();
+        for index in (0..chunks.len()).rev() {
+            self.add_chunk(alloc, name, &chunks[index])?;
+        }
+        Ok(())
+    }
+
+    /// Keeps copies of the best of the entries of a growing chunk that are wanted, where there is one.
+    fn add_growing(
+        &mut self,
+        alloc: Global,
+        name: &StreamName,
+        chunks: &Chunks,
+    ) -> Result<(), AllocError>
+        ensures { OnOk result
+            (Adds (map (found_of name.now) (entries_growing chunks.now.growing)) self.old self.new) }
+    {
+        additions_join::<R>();
+        if let Some(chunk) = chunks.growing() {
             self.add_chunk(alloc, name, chunk)?;
         }
         Ok(())

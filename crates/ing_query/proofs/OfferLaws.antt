@@ -1,15 +1,25 @@
 -- Entries that are offered one after another, and lists that are walked.
-use Rattle.std.proofs.Common.{◌≡◌, ℕ, ◌+◌, ◌<◌, List, [], ◌∷◌, ◌++◌, map, append_assoc, length, drop, get_or, suc, add-one, drop-cons, refl, ap, sym, ◌∙◌, subst, arith}
+use Rattle.std.proofs.Common.{◌≡◌, ℕ, ◌+◌, ◌<◌, List, [], ◌∷◌, ◌++◌, map, append_assoc, append-nil, length, drop, take, get_or, suc, add-one, drop-cons, refl, ap, sym, ◌∙◌, subst, arith}
 use Rattle.std.specs.List.{flat_map}
 use Rattle.ing_parts.specs.declared.found.Found.{Found}
-use Rattle.std.proofs.lemmas.List.{map-append}
+use Rattle.std.proofs.lemmas.List.{map-append, take_more}
 use Rattle.ing_chunk.specs.declared.numbered.Numbered.{Numbered}
+use Rattle.ing_chunk.specs.Chunks.{in_blocks}
 use Rattle.ing_parts.specs.Answers.{BestState, Offers}
 use Rattle.ing_parts.specs.Parts.{found_of}
 
 -- what is left from an index on
 pub left_from : {X : Type 0} (xs : List X) (i : ℕ) (x : X) → i < length xs → x ≡ get_or xs i x → drop i xs ≡ x ∷ drop (i + 1) xs
 left_from xs i x within is = rw (add-one) (drop-cons xs i x within ∙ ap (λ y. y ∷ drop (suc i) xs) (sym is))
+
+-- up to an index and one more
+pub up_to : {X : Type 0} (xs : List X) (i : ℕ) (x : X) → i < length xs → x ≡ get_or xs i x → take (i + 1) xs ≡ take i xs ++ x ∷ []
+up_to xs i x within is = take_more xs i x within ∙ ap (λ y. take i xs ++ y ∷ []) (sym is)
+
+-- the entries of blocks, one block more
+pub in_blocks_more : (bs : List (List Numbered)) (b : List Numbered) → in_blocks (bs ++ b ∷ []) ≡ in_blocks bs ++ b
+in_blocks_more [] b = append-nil b
+in_blocks_more (c ∷ bs) b = ap (λ l. c ++ l) (in_blocks_more bs b) ∙ sym (append_assoc c (in_blocks bs) b)
 
 pub empty_is : {X : Type 0} (xs : List X) → length xs ≡ 0 → xs ≡ []
 empty_is [] h = refl

@@ -12,14 +12,10 @@ use Rattle.ing_codec.specs.declared.extent.Extent.{Extent}
 use Rattle.ing_codec.specs.ChunkReading.{read_chunk}
 use Rattle.ing_codec.specs.Laws.{ChunksAreExact}
 use Rattle.ing_parts.specs.Listings.{IsListing, Listed, listed_of, blocks_in}
-use Rattle.ing_parts.specs.Answers.{IsFrom}
 use Rattle.ing_parts.specs.Parts.{found_between, found_of, is_within}
-use Rattle.ing_parts.specs.declared.order.Order.{Order}
-use Rattle.ing_parts.specs.declared.order.Order.TheVariants.{Forward, Backward}
 use Rattle.ing_query.specs.declared.fault.QueryFault.{QueryFault}
 use Rattle.ing_query.specs.declared.fault.QueryFault.TheVariants.{NoMemory, StoreFault, BadObject}
 use Rattle.ing_query.specs.Fetched.{IsSpelt, KeyIs}
-use Rattle.ing_query.specs.Gathered.{AreFrom}
 
 outside : (a b : Bool) → b ≡ false → (a && b) ≡ false
 outside true b h = h
@@ -40,19 +36,6 @@ none_early name start end (e ∷ es) h =
     let early : nat_le start e.entry.stamp ≡ false = lt-leb start e.entry.stamp (omega arith) in
     ap (λ b. cond (b && nat_lt e.entry.stamp end) (found_of name e ∷ found_between name start end es) (found_between name start end es)) early
     ∙ none_early name start end es (omega arith)
-
-first_from : (order : Order) (from : ℕ) (e : Numbered) (es : List Numbered) → AreFrom order from (e ∷ es) → IsFrom order from e.entry.stamp × AreFrom order from es
-first_from Forward from e es h = (omega arith, omega arith)
-first_from Backward from e es h = (omega arith, omega arith)
-
--- the stamps of those in the range
-pub all_from : (order : Order) (from : ℕ) (name : List ℕ) (start end : ℕ) (es : List Numbered) → AreFrom order from es → All (λ f. IsFrom order from f.entry.stamp) (found_between name start end es)
-all_from order from name start end [] h = All-nil (λ f. IsFrom order from f.entry.stamp)
-all_from order from name start end (e ∷ es) h =
-    step (is_within start end (found_of name e)) (first_from order from e es h).0 (all_from order from name start end es (first_from order from e es h).1) where
-      step : (t : Bool) → IsFrom order from e.entry.stamp → All (λ f. IsFrom order from f.entry.stamp) (found_between name start end es) → All (λ f. IsFrom order from f.entry.stamp) (cond t (found_of name e ∷ found_between name start end es) (found_between name start end es))
-      step true here rest = All-cons (λ f. IsFrom order from f.entry.stamp) (found_of name e) (found_between name start end es) here rest
-      step false here rest = rest
 
 pub holds : (b : Bool) → not b ≡ false → b ≡ true
 holds true h = refl

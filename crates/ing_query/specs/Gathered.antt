@@ -1,16 +1,13 @@
 -- What of the parts of streams stands in memory, and what is still to be read from a store (own).
-use Rattle.std.specs.Prelude.{◌≡◌, ℕ, ◌≤◌, List, [], ◌∷◌, ◌++◌, map}
+use Rattle.std.specs.Prelude.{◌≡◌, ℕ, List, [], ◌∷◌, ◌++◌, map}
 use Rattle.std.specs.List.{flat_map}
-use Rattle.ing_chunk.specs.declared.numbered.Numbered.{Numbered}
-use Rattle.ing_chunk.specs.Chunks.{entries_of, in_blocks, least_of, greatest_of}
+use Rattle.ing_chunk.specs.Chunks.{entries_of, in_blocks}
 use Rattle.ing_parts.specs.declared.found.Found.{Found}
 use Rattle.ing_parts.specs.Parts.{found_between}
 use Rattle.ing_parts.specs.declared.part.Part.{Part}
 use Rattle.ing_parts.specs.declared.snapshot.Snapshot.{Snapshot}
 use Rattle.ing_parts.specs.declared.part.Source.{Source}
 use Rattle.ing_parts.specs.declared.part.Source.TheVariants.{Shared, Stored}
-use Rattle.ing_parts.specs.declared.order.Order.{Order}
-use Rattle.ing_parts.specs.declared.order.Order.TheVariants.{Forward, Backward}
 use Rattle.ing_query.specs.declared.waiting.Waiting.{Waiting}
 
 -- what is wanted of a part that waits
@@ -48,11 +45,6 @@ waiting_of s = flat_map (waiting_in s.start s.end) s.parts.items
 -- the keys of the stored parts of snapshots
 abbrev pub keys_in : {R : Type 0} → List (Snapshot R) → List (List ℕ)
 keys_in snapshots = map key_there (flat_map waiting_of snapshots)
-
--- the stamp of each of these entries is this one or comes after it in the order
-abbrev pub AreFrom : Order → ℕ → List Numbered → Type 0
-AreFrom Forward from es = from ≤ least_of es
-AreFrom Backward from es = greatest_of es ≤ from
 
 -- the key of a place in a store
 abbrev pub IsKeyIn : {R : Type 0} → Source R → List ℕ → Type 0

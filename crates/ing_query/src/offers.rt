@@ -110,8 +110,27 @@ fn offer_entries(
     }
 }
 
+/// Offers copies of the entries of blocks whose stamp is in the range, the first block first.
+fn offer_blocks_from_first(
+    best: &mut Best,
+    alloc: Global,
+    name: &StreamName,
+    blocks: &[LentBlock<'_>],
+    start: u64,
+    end: u64,
+) -> Result<(), AllocError>
+    ensures { OnOk result
+        (Offers (found_between name.now start end (in_blocks blocks.now)) best.old best.new) }
+{
+    offers_of_streams();
+    for block in blocks {
+        offer_entries(best, alloc, name, block.entries(), start, end)?;
+    }
+    Ok(())
+}
+
 /// Offers copies of the entries of blocks whose stamp is in the range, the last block first.
-pub(crate) fn offer_lent(
+fn offer_blocks_from_last(
     best: &mut Best,
     alloc: Global,
     name: &StreamName,
@@ -127,4 +146,22 @@ pub(crate) fn offer_lent(
         offer_entries(best, alloc, name, blocks[index].entries(), start, end)?;
     }
     Ok(())
+}
+
+/// Offers copies of the entries of blocks whose stamp is in the range. They begin where an answer begins.
+pub(crate) fn offer_lent(
+    best: &mut Best,
+    alloc: Global,
+    name: &StreamName,
+    blocks: &[LentBlock<'_>],
+    start: u64,
+    end: u64,
+) -> Result<(), AllocError>
+    ensures { OnOk result
+        (Offers (found_between name.now start end (in_blocks blocks.now)) best.old best.new) }
+{
+    match best.order() {
+        Order::Forward => offer_blocks_from_first(best, alloc, name, blocks, start, end),
+        Order::Backward => offer_blocks_from_last(best, alloc, name, blocks, start, end),
+    }
 }

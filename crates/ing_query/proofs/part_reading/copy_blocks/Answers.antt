@@ -1,8 +1,7 @@
 use Rattle.std.proofs.Common.{◌≡◌, ◌+◌, ◌++◌, drop, ap, map, ◌∙◌}
 use Rattle.ing_chunk.specs.Chunks.{in_blocks}
 use Rattle.ing_parts.specs.Parts.{found_of}
-use Rattle.ing_query.proofs.OfferLaws.{left_from}
-use Rattle.ing_query.proofs.OfferLaws.{copy_step}
+use Rattle.ing_query.proofs.OfferLaws.{copy_step, left_from}
 use Rattle.ing_query.proofs.part_reading.copy_blocks.Goals as goal
 
 pub loop-block-preserved : goal.loop-block-preserved

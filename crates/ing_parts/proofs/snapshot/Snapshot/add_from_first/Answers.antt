@@ -2,7 +2,7 @@ use Rattle.std.proofs.Common.{◌+◌, take, ap, ◌∙◌}
 use Rattle.ing_chunk.specs.Chunks.{entries_of, entries_of_all}
 use Rattle.ing_parts.proofs.OfferLaws.{up_to}
 use Rattle.ing_parts.proofs.RangeLaws.{adds_next, entries_of_all-more}
-use Rattle.ing_parts.proofs.snapshot.Snapshot.add_all.Goals as goal
+use Rattle.ing_parts.proofs.snapshot.Snapshot.add_from_first.Goals as goal
 
 pub loop-chunk-preserved : goal.loop-chunk-preserved
 loop-chunk-preserved g c =

@@ -1,7 +1,7 @@
 use Rattle.std.proofs.Common.{map, take}
 use Rattle.ing_chunk.specs.Chunks.{entries_of_all}
 use Rattle.ing_parts.specs.Parts.{Adds, found_of}
-use Rattle.ing_parts.proofs.snapshot.Snapshot.add_all.Given as goal
+use Rattle.ing_parts.proofs.snapshot.Snapshot.add_from_first.Given as goal
 
 -- those of the chunks so far are added
 abbrev pub invariant-loop-chunk : goal.invariant-loop-chunk
