@@ -3,8 +3,7 @@ use Rattle.std.proofs.Common.{◌≡◌, ℕ, ◌≤◌, ◌<◌, Bool, true, fa
 use Rattle.std.specs.Prelude.{Result, Err, IfErr}
 use Rattle.std.specs.Result.{IsErrAnd}
 use Rattle.std.specs.List.{Contains}
-use Rattle.std.specs.Prelude.{All}
-use Rattle.std.proofs.lemmas.List.Elements.{All-nil, All-cons, Contains-append_left, Contains-append_right, Contains-push}
+use Rattle.std.proofs.lemmas.List.Elements.{Contains-append_left, Contains-append_right, Contains-push}
 use Rattle.std.proofs.lemmas.Bool.{le-ltb, lt-leb}
 use Rattle.ing_chunk.specs.declared.numbered.Numbered.{Numbered}
 use Rattle.ing_chunk.specs.Chunks.{least_of, greatest_of}
@@ -12,7 +11,7 @@ use Rattle.ing_codec.specs.declared.extent.Extent.{Extent}
 use Rattle.ing_codec.specs.ChunkReading.{read_chunk}
 use Rattle.ing_codec.specs.Laws.{ChunksAreExact}
 use Rattle.ing_parts.specs.Listings.{IsListing, Listed, listed_of, blocks_in}
-use Rattle.ing_parts.specs.Parts.{found_between, found_of, is_within}
+use Rattle.ing_parts.specs.Parts.{found_between, found_of}
 use Rattle.ing_query.specs.declared.fault.QueryFault.{QueryFault}
 use Rattle.ing_query.specs.declared.fault.QueryFault.TheVariants.{NoMemory, StoreFault, BadObject}
 use Rattle.ing_query.specs.Fetched.{IsSpelt, KeyIs}

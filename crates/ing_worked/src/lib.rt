@@ -3,6 +3,8 @@
 #![tactic(auto)]
 
 #[cfg(test)]
+mod doubted;
+#[cfg(test)]
 mod drawn_queries;
 #[cfg(test)]
 mod flushes;

@@ -1,11 +1,12 @@
 //! What queries find of a shard and a store in memory.
+use crate::doubted::Doubted;
 use crate::flushes::{LIMITS, Owned, stamp, upload};
 use ing_labels::{Labels, Selector};
-use ing_parts::Order;
+use ing_parts::{Found, Order, Snapshot};
 use ing_query::{QueryFault, run_query};
 use ing_rows::{Entry, Line};
-use ing_store::{Fuse, MemoryEnd, MemoryStore};
-use std::alloc::Global;
+use ing_store::{Fuse, MemoryEnd, MemoryReceipt, MemoryStore};
+use std::alloc::{AllocError, Global};
 use std::process::Abort;
 use std::sync::Wait;
 use std::test::Fail;
@@ -104,6 +105,29 @@ impl<'a> Asked<'a> {
         selector: &Selector,
         question: Question<'_>,
     ) -> Result<String, QueryFault> {
+        let snapshots = self.snapshots(alloc, selector, question)?;
+        let found = run_query(alloc, snapshots, end, question.order, question.limit)?;
+        Ok(joined(alloc, &found)?)
+    }
+
+    /// All lines that are found, oldest first, by an end that does not vouch for its bytes.
+    fn doubted_lines<R: Wait>(
+        &self,
+        alloc: Global,
+        end: &mut Doubted<'a, R>,
+    ) -> Result<String, QueryFault> {
+        let snapshots = self.snapshots(alloc, &self.all, ALL)?;
+        let found = run_query(alloc, snapshots, end, ALL.order, ALL.limit)?;
+        Ok(joined(alloc, &found)?)
+    }
+
+    /// The one snapshot that a question is answered from.
+    fn snapshots(
+        &self,
+        alloc: Global,
+        selector: &Selector,
+        question: Question<'_>,
+    ) -> Result<Vec<Snapshot<MemoryReceipt<'a>>>, AllocError> {
         let asked = ing_parts::Question {
             start: question.start,
             end: question.end,
@@ -114,12 +138,7 @@ impl<'a> Asked<'a> {
         let snapshot = one.shard.snapshot(alloc, &one.tenant, selector, asked)?;
         let mut snapshots = Vec::new(alloc);
         snapshots.push(snapshot)?;
-        let found = run_query(alloc, snapshots, end, question.order, question.limit)?;
-        let mut lines = String::new(alloc);
-        for one in &found {
-            lines.push_str(one.entry.line.as_str())?;
-        }
-        Ok(lines)
+        Ok(snapshots)
     }
 
     /// Whether these are all lines, oldest first.
@@ -139,6 +158,15 @@ impl<'a> Asked<'a> {
         self.one.store(alloc, &mut end, ticket, &mut refused)?;
         Ok(())
     }
+}
+
+/// The lines of what was found, one behind the other.
+fn joined(alloc: Global, found: &[Found]) -> Result<String, AllocError> {
+    let mut lines = String::new(alloc);
+    for one in found {
+        lines.push_str(one.entry.line.as_str())?;
+    }
+    Ok(lines)
 }
 
 /// The letters are pushed at times 1, 2 and so on, each as a line of four bytes.
@@ -351,6 +379,28 @@ fn a_stored_chunk_is_fetched_where_it_may_matter(rt: HostRuntime) -> Result<(), 
         match asked.lines(alloc, &mut store.end(&rt, fuse), question)? {
             Ok(found) => assert_eq!(rt; Some(found.as_str()), lines),
             Err(QueryFault::StoreFault { key: _ }) => assert_eq!(rt; None, lines),
+            Err(fault) => return Err(fault.into()),
+        }
+    }
+    Ok(())
+}
+
+/// What an end gives that does not vouch for it is taken where its digest is the key, and else told as damaged.
+#[test]
+fn bytes_without_a_voucher_are_looked_at(rt: HostRuntime) -> Result<(), Fail> {
+    let alloc = rt.alloc();
+    let store = MemoryStore::new(alloc)?;
+    let mut asked = Asked::new(alloc, &store)?;
+    push_all(&mut asked, alloc, 1, &["aaaa", "bbbb", "cccc", "dddd"])?;
+    asked.store(&rt, alloc)?;
+    for (damages, lines) in [(false, Some("aaaabbbbccccdddd")), (true, None)] {
+        let mut end = Doubted {
+            end: store.end(&rt, Fuse::None),
+            damages,
+        };
+        match asked.doubted_lines(alloc, &mut end) {
+            Ok(found) => assert_eq!(rt; Some(found.as_str()), lines),
+            Err(QueryFault::BadObject { key: _ }) => assert_eq!(rt; None, lines),
             Err(fault) => return Err(fault.into()),
         }
     }

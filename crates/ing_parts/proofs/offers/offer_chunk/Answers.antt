@@ -8,8 +8,9 @@ use Rattle.ing_parts.proofs.offers.offer_chunk.Goals.{then-misses-via-then-misse
 
 pub returns-then-misses : goal.returns-then-misses
 returns-then-misses c = elim c.then-misses.branch [
-      then-misses-via-then-misses w ↦ offers_missed c.args.name.now c.args.start c.args.end (entries_of c.args.chunk.now) c.args.best.now (c.misses.ensures w.if-misses.true)
-    | then-misses-via-else-misses+then-passes_over w ↦ w.passes_over.ensures w.if-passes_over.true c.args.name.now c.args.start c.args.end ]
+  | then-misses-via-then-misses w ↦ offers_missed c.args.name.now c.args.start c.args.end (entries_of c.args.chunk.now) c.args.best.now (c.misses.ensures w.if-misses.true)
+  | then-misses-via-else-misses+then-passes_over w ↦ w.passes_over.ensures w.if-passes_over.true c.args.name.now c.args.start c.args.end
+]
 
 pub returns-in_ok-offer_blocks_from_last-in-Backward : goal.returns-in_ok-offer_blocks_from_last-in-Backward
 returns-in_ok-offer_blocks_from_last-in-Backward c =
