@@ -125,6 +125,7 @@ pub fn drawn(alloc: Global, list: u32) -> Result<Vec<Act>> {
         now: 100,
         claims: 0,
     };
+    // The last flush may bring two events more.
     let count = lots.below(199) as usize;
     let mut acts = Vec::new(alloc);
     for _ in 0..count {

@@ -59,6 +59,7 @@ pub enum Wanted {
     Nothing,
 }
 
+/// What the slow program knows after the events so far.
 #[derive(Drop)]
 pub struct Slow {
     alloc: Global,
@@ -73,6 +74,7 @@ pub struct Slow {
 }
 
 impl Slow {
+    /// Before any event.
     pub fn new(alloc: Global) -> Result<Slow> {
         let tenant = tenant(alloc)?;
         let rules = *Settings::from_toml(alloc, SETTINGS)?.for_tenant(&tenant);
