@@ -1,4 +1,5 @@
 pub mod Parts
 pub mod Chunks
 pub mod Kept
+pub mod KeptBlocks
 pub mod KeptChunks

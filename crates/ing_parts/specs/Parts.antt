@@ -4,19 +4,19 @@ use Rattle.std.specs.Prelude.{◌≡◌, ◌++◌, ℕ, ◌≤◌, Bool, ◌&&�
 use Rattle.std.specs.List.{flat_map}
 use Rattle.ing_rows.specs.Rows.{StreamKey, Row}
 use Rattle.ing_chunk.specs.declared.numbered.Numbered.{Numbered}
-use Rattle.ing_chunk.specs.Chunks.{ChunksContents, block_rows, entries_in_memory, entries_of, greatest_of, in_blocks, least_of, stream_state}
+use Rattle.ing_chunk.specs.Chunks.{ChunksContents, block_rows, entries_in_memory, greatest_of, in_blocks, least_of, stream_state}
 use Rattle.ing_parts.specs.declared.found.Found.{Found}
 use Rattle.ing_parts.specs.declared.part.Part.{Part}
 use Rattle.ing_parts.specs.declared.snapshot.Snapshot.{Snapshot}
 use Rattle.ing_parts.specs.declared.part.Source.{Source}
-use Rattle.ing_parts.specs.declared.part.Source.TheVariants.{Shared, Stored}
+use Rattle.ing_parts.specs.declared.part.Source.TheVariants.{Block, Stored}
 use Rattle.ing_parts.specs.declared.order.Order.{Order}
 use Rattle.ing_parts.specs.declared.order.Order.TheVariants.{Forward, Backward}
 use Rattle.ing_parts.specs.Answers.{StandFor}
 
 -- the entries of a place
 abbrev pub entries_in : {R : Type 0} → Source R → List Numbered
-entries_in (Shared chunk) = entries_of chunk.value
+entries_in (Block block) = block
 entries_in (Stored listing) = in_blocks listing.blocks
 
 -- what a query gives of an entry of the stream of this name

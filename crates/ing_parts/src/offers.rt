@@ -1,6 +1,6 @@
 //! Entries of one stream in memory, offered to the best.
 ghost use Rattle.std.specs.Prelude.{◌≡◌, ℕ, List, ◌∷◌, [], OnOk, true, false};
-ghost use Rattle.ing_chunk.specs.Chunks.{entries_of, in_blocks, is_between};
+ghost use Rattle.ing_chunk.specs.Chunks.{entries_of, is_between};
 ghost use Rattle.ing_parts.specs.Answers.{Offers};
 ghost use Rattle.ing_parts.specs.Parts.{found_between};
 
@@ -8,7 +8,7 @@ use crate::best::Best;
 use crate::found::Found;
 use crate::order::Order;
 use crate::stream_name::StreamName;
-use ing_chunk::{Block, Chunk, Numbered};
+use ing_chunk::{Chunk, Numbered};
 use std::alloc::{AllocError, Global};
 
 /// Whether an entry is to be offered: its stamp is in the range, and it may be kept.
@@ -79,9 +79,10 @@ fn offer_from_first(
     Ok(())
 }
 
-/// Offers copies of those whose stamp is in the range. They begin where an answer begins, so that the fewer are copied the
-/// better the entries stand in order of stamp.
-fn offer_entries(
+/// Offers copies of those entries of a stream whose stamp is at least the start and below the end, in nanoseconds. They begin
+/// where an answer begins, so that the fewer are copied the better the entries stand in order of stamp. `AllocError` where memory
+/// ran out.
+pub fn offer_entries(
     best: &mut Best,
     alloc: Global,
     name: &StreamName,
@@ -98,44 +99,8 @@ fn offer_entries(
     }
 }
 
-/// Offers copies of the entries of blocks whose stamp is in the range, the first block first.
-fn offer_blocks_from_first(
-    best: &mut Best,
-    alloc: Global,
-    name: &StreamName,
-    blocks: &[Block],
-    start: u64,
-    end: u64,
-) -> Result<(), AllocError>
-    ensures { OnOk result
-        (Offers (found_between name.now start end (in_blocks blocks.now)) best.old best.new) }
-{
-    for block in blocks {
-        offer_entries(best, alloc, name, block.entries(), start, end)?;
-    }
-    Ok(())
-}
-
-/// Offers copies of the entries of blocks whose stamp is in the range, the last block first.
-fn offer_blocks_from_last(
-    best: &mut Best,
-    alloc: Global,
-    name: &StreamName,
-    blocks: &[Block],
-    start: u64,
-    end: u64,
-) -> Result<(), AllocError>
-    ensures { OnOk result
-        (Offers (found_between name.now start end (in_blocks blocks.now)) best.old best.new) }
-{
-    for index in (0..blocks.len()).rev() {
-        offer_entries(best, alloc, name, blocks[index].entries(), start, end)?;
-    }
-    Ok(())
-}
-
 /// Whether the span of a chunk shows that none of its entries may be kept.
-fn passes_over(best: &Best, chunk: &Chunk) -> bool
+pub(crate) fn is_barred(best: &Best, chunk: &Chunk) -> bool
     ensures { result ≡ true → (name : List ℕ) (start end : ℕ) →
         Offers (found_between name start end (entries_of chunk.now)) best.now best.now }
 {
@@ -146,35 +111,4 @@ fn passes_over(best: &Best, chunk: &Chunk) -> bool
         Order::Forward => best.bars(least),
         Order::Backward => best.bars(greatest),
     }
-}
-
-/// Offers copies of the entries of a chunk whose stamp is at least the start and below the end, in nanoseconds. A chunk that has
-/// none by its span, or none that may be kept, is not looked through. Its head is newer than its blocks, most often, and so
-/// comes first where the newest are wanted. `AllocError` where memory ran out.
-pub fn offer_chunk(
-    best: &mut Best,
-    alloc: Global,
-    name: &StreamName,
-    chunk: &Chunk,
-    start: u64,
-    end: u64,
-) -> Result<(), AllocError>
-    ensures { OnOk result
-        (Offers (found_between name.now start end (entries_of chunk.now)) best.old best.new) }
-{
-    if chunk.misses(start, end) || passes_over(best, chunk) {
-        return Ok(());
-    }
-    let head = chunk.head();
-    match best.order() {
-        Order::Forward => {
-            offer_blocks_from_first(best, alloc, name, chunk.blocks(), start, end)?;
-            offer_entries(best, alloc, name, head, start, end)?;
-        }
-        Order::Backward => {
-            offer_entries(best, alloc, name, head, start, end)?;
-            offer_blocks_from_last(best, alloc, name, chunk.blocks(), start, end)?;
-        }
-    }
-    Ok(())
 }

@@ -1,15 +1,14 @@
 //! Parts of streams.
 use crate::listing::Listing;
 use crate::stream_name::StreamName;
-use ing_chunk::Chunk;
+use ing_chunk::Block;
 use ing_store::Receipt;
-use std::sync::Arc;
 
 /// Where entries stand that a query may want, and that its snapshot shares.
 #[derive(Drop)]
 pub enum Source<R: Receipt> {
-    /// A sealed chunk in memory, which its shard holds too.
-    Shared(Arc<Chunk>),
+    /// A closed block in memory, which its shard holds too.
+    Block(Block),
     /// A chunk in a store.
     Stored(Listing<R>),
 }

@@ -6,14 +6,13 @@ ghost use Rattle.ing_parts.specs.Parts.{Adds, entries_in, found_of};
 use crate::best::Best;
 use crate::laws::additions_join;
 use crate::listing::Listing;
-use crate::offers::offer_chunk;
+use crate::offers::{is_barred, offer_entries};
 use crate::order::{Order, Question};
 use crate::part::{Part, Source};
 use crate::stream_name::StreamName;
-use ing_chunk::{Chunk, Chunks};
+use ing_chunk::{Block, Chunk, Chunks, Numbered};
 use ing_store::Receipt;
 use std::alloc::{AllocError, Global};
-use std::sync::Arc;
 
 /// What a shard has of the streams of a tenant that a selector picks, at one moment (Loki documentation: architecture,
 /// ingester; own).
@@ -49,7 +48,7 @@ impl<R: Receipt> Snapshot<R> {
         }
     }
 
-    /// Keeps copies of the best of the entries of a stream's chunks in memory that are wanted. They begin where an answer begins.
+    /// Adds what is wanted of a stream's chunks in memory. They begin where an answer begins.
     pub fn add_chunks(
         &mut self,
         alloc: Global,
@@ -72,7 +71,7 @@ impl<R: Receipt> Snapshot<R> {
         Ok(())
     }
 
-    /// Keeps copies of the best of the entries of chunks in memory that are wanted, those of the first chunk first.
+    /// Adds what is wanted of chunks in memory, the first chunk first.
     fn add_from_first(
         &mut self,
         alloc: Global,
@@ -89,7 +88,7 @@ impl<R: Receipt> Snapshot<R> {
         Ok(())
     }
 
-    /// Keeps copies of the best of the entries of chunks in memory that are wanted, those of the last chunk first.
+    /// Adds what is wanted of chunks in memory, the last chunk first.
     fn add_from_last(
         &mut self,
         alloc: Global,
@@ -106,7 +105,7 @@ impl<R: Receipt> Snapshot<R> {
         Ok(())
     }
 
-    /// Keeps copies of the best of the entries of a growing chunk that are wanted, where there is one.
+    /// Adds what is wanted of a growing chunk, where there is one.
     fn add_growing(
         &mut self,
         alloc: Global,
@@ -123,7 +122,8 @@ impl<R: Receipt> Snapshot<R> {
         Ok(())
     }
 
-    /// Keeps copies of the best of the entries of a chunk in memory that are wanted.
+    /// Adds what is wanted of a chunk in memory, where its span meets the range: its closed blocks as they are, and copies of
+    /// the best of the entries of its head. They begin where an answer begins: a head is newer than the blocks, most often.
     pub fn add_chunk(
         &mut self,
         alloc: Global,
@@ -133,22 +133,84 @@ impl<R: Receipt> Snapshot<R> {
         ensures { OnOk result
             (Adds (map (found_of name.now) (entries_of chunk.now)) self.old self.new) }
     {
-        let start = self.start;
-        let end = self.end;
-        offer_chunk(&mut self.best, alloc, name, chunk, start, end)?;
+        if chunk.misses(self.start, self.end) || is_barred(&self.best, chunk) {
+            return Ok(());
+        }
+        match self.best.order() {
+            Order::Forward => {
+                self.add_blocks_from_first(alloc, name, chunk.blocks())?;
+                self.add_entries(alloc, name, chunk.head())?;
+            }
+            Order::Backward => {
+                self.add_entries(alloc, name, chunk.head())?;
+                self.add_blocks_from_last(alloc, name, chunk.blocks())?;
+            }
+        }
         Ok(())
     }
 
-    /// Adds a chunk in memory as it is, where its span meets the range. Copies no entry.
-    pub fn add_shared(&mut self, name: &StreamName, chunk: &Arc<Chunk>) -> Result<(), AllocError>
+    /// Adds closed blocks, the first one first.
+    fn add_blocks_from_first(
+        &mut self,
+        alloc: Global,
+        name: &StreamName,
+        blocks: &[Block],
+    ) -> Result<(), AllocError>
         ensures { OnOk result
-            (Adds (map (found_of name.now) (entries_of chunk.now.value)) self.old self.new) }
+            (Adds (map (found_of name.now) (in_blocks blocks.now)) self.old self.new) }
     {
-        if chunk.misses(self.start, self.end) {
-            return Ok(());
+        additions_join::<R>();
+        for block in blocks {
+            self.add_block(alloc, name, block)?;
         }
-        let chunk = Arc::try_clone(chunk)?;
-        self.add(name, Source::Shared(chunk))
+        Ok(())
+    }
+
+    /// Adds closed blocks, the last one first.
+    fn add_blocks_from_last(
+        &mut self,
+        alloc: Global,
+        name: &StreamName,
+        blocks: &[Block],
+    ) -> Result<(), AllocError>
+        ensures { OnOk result
+            (Adds (map (found_of name.now) (in_blocks blocks.now)) self.old self.new) }
+    {
+        additions_join::<R>();
+        for index in (0..blocks.len()).rev() {
+            self.add_block(alloc, name, &blocks[index])?;
+        }
+        Ok(())
+    }
+
+    /// Adds a closed block as it is, and copies of the best of its entries where it cannot be shared.
+    fn add_block(
+        &mut self,
+        alloc: Global,
+        name: &StreamName,
+        block: &Block,
+    ) -> Result<(), AllocError>
+        ensures { OnOk result (Adds (map (found_of name.now) block.now) self.old self.new) }
+    {
+        match block.share()? {
+            Some(same) => self.add(name, Source::Block(same)),
+            None => self.add_entries(alloc, name, block.entries()),
+        }
+    }
+
+    /// Keeps copies of the best of these entries that are wanted.
+    fn add_entries(
+        &mut self,
+        alloc: Global,
+        name: &StreamName,
+        entries: &[Numbered],
+    ) -> Result<(), AllocError>
+        ensures { OnOk result (Adds (map (found_of name.now) entries.now) self.old self.new) }
+    {
+        let start = self.start;
+        let end = self.end;
+        offer_entries(&mut self.best, alloc, name, entries, start, end)?;
+        Ok(())
     }
 
     /// Adds a stored chunk, where its span meets the range. Reads no store.

@@ -4,12 +4,12 @@ use Rattle.std.specs.List.{flat_map}
 use Rattle.std.specs.List.Sorted.{IsPermutation}
 use Rattle.std.proofs.lemmas.List.Elements.{filter-append}
 use Rattle.std.proofs.lemmas.List.Sorted.{IsPermutation-refl, IsPermutation-trans, IsPermutation-append, IsPermutation-append_left, IsPermutation-append_right, IsPermutation-append_comm}
-use Rattle.ing_chunk.specs.Chunks.{entries_of, in_blocks}
+use Rattle.ing_chunk.specs.Chunks.{in_blocks}
 use Rattle.ing_parts.specs.declared.found.Found.{Found}
 use Rattle.ing_parts.specs.declared.part.Part.{Part}
 use Rattle.ing_parts.specs.declared.snapshot.Snapshot.{Snapshot}
 use Rattle.ing_parts.specs.declared.part.Source.{Source}
-use Rattle.ing_parts.specs.declared.part.Source.TheVariants.{Shared, Stored}
+use Rattle.ing_parts.specs.declared.part.Source.TheVariants.{Block, Stored}
 use Rattle.ing_parts.specs.Parts.{entries_in, found_between, found_in, wanted, within, is_within}
 use Rattle.ing_query.specs.Answers.{wanted_in}
 use Rattle.ing_query.specs.Gathered.{wanted_there, in_memory, in_store, memory_in, waiting_in, memory_of, waiting_of}
@@ -50,7 +50,7 @@ within_flat f start end [] = refl
 within_flat f start end (x ∷ xs) = filter-append (is_within start end) (f x) (flat_map f xs) ∙ ap (λ l. within start end (f x) ++ l) (within_flat f start end xs)
 
 source_is : {R : Type 0} (name : List ℕ) (start end : ℕ) (source : Source R) → in_memory name start end source ++ flat_map wanted_there (in_store name start end source) ≡ found_between name start end (entries_in source)
-source_is name start end (Shared chunk) = append-nil (found_between name start end (entries_of chunk.value))
+source_is name start end (Block block) = append-nil (found_between name start end block)
 source_is name start end (Stored listing) = append-nil (found_between name start end (in_blocks listing.blocks))
 
 part_is : {R : Type 0} (start end : ℕ) (p : Part R) → IsPermutation (memory_in start end p ++ flat_map wanted_there (waiting_in start end p)) (within start end (found_in p))

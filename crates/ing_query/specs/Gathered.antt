@@ -1,13 +1,13 @@
 -- What of the parts of streams stands in memory, and what is still to be read from a store (own).
 use Rattle.std.specs.Prelude.{◌≡◌, ℕ, List, [], ◌∷◌, ◌++◌, map}
 use Rattle.std.specs.List.{flat_map}
-use Rattle.ing_chunk.specs.Chunks.{entries_of, in_blocks}
+use Rattle.ing_chunk.specs.Chunks.{in_blocks}
 use Rattle.ing_parts.specs.declared.found.Found.{Found}
 use Rattle.ing_parts.specs.Parts.{found_between}
 use Rattle.ing_parts.specs.declared.part.Part.{Part}
 use Rattle.ing_parts.specs.declared.snapshot.Snapshot.{Snapshot}
 use Rattle.ing_parts.specs.declared.part.Source.{Source}
-use Rattle.ing_parts.specs.declared.part.Source.TheVariants.{Shared, Stored}
+use Rattle.ing_parts.specs.declared.part.Source.TheVariants.{Block, Stored}
 use Rattle.ing_query.specs.declared.waiting.Waiting.{Waiting}
 
 -- what is wanted of a part that waits
@@ -20,12 +20,12 @@ key_there w = w.listing.key
 
 -- what is wanted of a place in memory
 abbrev pub in_memory : {R : Type 0} → List ℕ → ℕ → ℕ → Source R → List Found
-in_memory name start end (Shared chunk) = found_between name start end (entries_of chunk.value)
+in_memory name start end (Block block) = found_between name start end block
 in_memory name start end (Stored listing) = []
 
 -- what waits of a place in a store
 abbrev pub in_store : {R : Type 0} → List ℕ → ℕ → ℕ → Source R → List (Waiting R)
-in_store name start end (Shared chunk) = []
+in_store name start end (Block block) = []
 in_store name start end (Stored listing) =
     record { name = name; listing = listing; start = start; end = end } ∷ []
 
@@ -48,5 +48,5 @@ keys_in snapshots = map key_there (flat_map waiting_of snapshots)
 
 -- the key of a place in a store
 abbrev pub IsKeyIn : {R : Type 0} → Source R → List ℕ → Type 0
-IsKeyIn (Shared chunk) key = ⊥
+IsKeyIn (Block block) key = ⊥
 IsKeyIn (Stored listing) key = key ≡ listing.key

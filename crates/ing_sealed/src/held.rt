@@ -54,7 +54,7 @@ impl<R: Receipt> Held<R> {
     }
 }
 
-/// Adds what is wanted of one to a snapshot: a copy of its entries where it cannot be shared.
+/// Adds what is wanted of one to a snapshot.
 pub(crate) fn add_held<R: Receipt>(
     alloc: Global,
     snapshot: &mut Snapshot<R>,
@@ -67,7 +67,7 @@ pub(crate) fn add_held<R: Receipt>(
 {
     match held {
         Held::Waiting(chunk) => snapshot.add_chunk(alloc, name, chunk),
-        Held::Shared(chunk) | Held::Flying(_, chunk) => snapshot.add_shared(name, chunk),
+        Held::Shared(chunk) | Held::Flying(_, chunk) => snapshot.add_chunk(alloc, name, chunk),
         Held::Stored(listing) => snapshot.add_stored(name, listing),
     }
 }

@@ -233,6 +233,27 @@ fn an_entry_is_found_once_wherever_it_stands(rt: HostRuntime) -> Result<(), Fail
     Ok(())
 }
 
+/// A snapshot shares closed blocks, and copies entries of a head alone.
+#[test]
+fn closed_blocks_are_shared(rt: HostRuntime) -> Result<(), Fail> {
+    let alloc = rt.alloc();
+    let store = MemoryStore::new(alloc)?;
+    let mut asked = Asked::new(alloc, &store)?;
+    // A full chunk of two blocks, and one that grows, with a block and one entry in its head.
+    push_all(
+        &mut asked,
+        alloc,
+        1,
+        &["aaaa", "bbbb", "cccc", "dddd", "eeee", "ffff", "gggg"],
+    )?;
+    for snapshot in asked.snapshots(alloc, &asked.all, ALL)? {
+        assert_eq!(rt; snapshot.parts.len(), 3);
+        let copied = snapshot.best.into_answer();
+        assert_eq!(rt; joined(alloc, &copied)?.as_str(), "gggg");
+    }
+    Ok(())
+}
+
 #[test]
 fn answers_are_put_in_order_and_then_cut(rt: HostRuntime) -> Result<(), Fail> {
     let alloc = rt.alloc();

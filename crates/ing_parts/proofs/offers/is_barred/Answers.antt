@@ -3,7 +3,7 @@ use Rattle.ing_chunk.specs.Chunks.{in_blocks}
 use Rattle.ing_parts.specs.declared.order.Order.TheVariants.{Forward, Backward}
 use Rattle.ing_parts.specs.Parts.{AreFrom}
 use Rattle.ing_parts.proofs.OfferLaws.{from_greatest, from_least, offers_passed_chunk}
-use Rattle.ing_parts.proofs.offers.passes_over.Goals as goal
+use Rattle.ing_parts.proofs.offers.is_barred.Goals as goal
 
 pub returns-in-Forward : goal.returns-in-Forward
 returns-in-Forward c = λ barred name start end.
