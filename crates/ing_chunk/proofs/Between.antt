@@ -1,9 +1,8 @@
 -- Entries of a range of stamps: none where all stamps are below it or at its end and above.
-use Rattle.std.proofs.Common.{◌≡◌, refl, ℕ, ◌<◌, ◌≤◌, ◌⊎◌, inl, inr, List, [], ◌∷◌, ◌++◌, filter, cond, max, min, false, ap, sym, ◌∙◌, arith}
+use Rattle.std.proofs.Common.{◌≡◌, refl, ℕ, ◌<◌, ◌≤◌, ◌⊎◌, inl, inr, List, [], ◌∷◌, filter, cond, false, ap, ◌∙◌, arith}
 use Rattle.std.proofs.lemmas.Bool.Decides.{nat_tests}
 use Rattle.ing_chunk.specs.declared.numbered.Numbered.{Numbered}
-use Rattle.std.proofs.lemmas.List.Elements.{filter-append}
-use Rattle.ing_chunk.specs.Chunks.{ChunkContents, entries_of, in_blocks, is_between, greatest_of, least_of}
+use Rattle.ing_chunk.specs.Chunks.{is_between, greatest_of, least_of}
 
 is_below : (start end : ℕ) (e : Numbered) → e.entry.stamp < start → is_between start end e ≡ false
 is_below start end e h = grind (arith, nat_tests)
@@ -26,16 +25,3 @@ none_above start end (e ∷ es) h =
 pub outside : (start end : ℕ) (es : List Numbered) → (greatest_of es < start) ⊎ (end ≤ least_of es) → filter (is_between start end) es ≡ []
 outside start end es (inl h) = none_below start end es h
 outside start end es (inr h) = none_above start end es h
-
--- of the entries of a chunk
-none_of_both : (start end : ℕ) (c : ChunkContents) → filter (is_between start end) (in_blocks c.blocks) ≡ [] → filter (is_between start end) c.head ≡ [] → filter (is_between start end) (entries_of c) ≡ []
-none_of_both start end c blocks head =
-    filter-append (is_between start end) (in_blocks c.blocks) c.head ∙ ap (λ l. l ++ filter (is_between start end) c.head) blocks ∙ head
-
-pub chunk_below : (start end : ℕ) (c : ChunkContents) → max (greatest_of c.head) (greatest_of (in_blocks c.blocks)) < start → filter (is_between start end) (entries_of c) ≡ []
-chunk_below start end c h =
-    none_of_both start end c (none_below start end (in_blocks c.blocks) (omega (arith, h))) (none_below start end c.head (omega (arith, h)))
-
-pub chunk_above : (start end : ℕ) (c : ChunkContents) → end ≤ min (least_of c.head) (least_of (in_blocks c.blocks)) → filter (is_between start end) (entries_of c) ≡ []
-chunk_above start end c h =
-    none_of_both start end c (none_above start end (in_blocks c.blocks) (omega (arith, h))) (none_above start end c.head (omega (arith, h)))

@@ -8,6 +8,8 @@ mod Drained
 mod Due
 mod Followed
 mod Gauged
+mod KeptLaws
+mod Ordered
 mod Sealed
 mod Sums
 mod Taken

@@ -1,20 +1,15 @@
 -- What is kept of entries, as they grow and are put in order.
-use Rattle.std.proofs.Common.{◌≡◌, ◌≢◌, ℕ, ◌+◌, ◌<◌, ◌≤◌, ◌^◌, max, min, List, [], ◌∷◌, ◌++◌, length, sym, ap, ◌∙◌, arith, append_assoc, append-nil, length-append, cond, nat_eq, sum_by}
+use Rattle.std.proofs.Common.{◌≡◌, ◌≢◌, ℕ, ◌+◌, ◌<◌, ◌≤◌, max, min, List, [], ◌∷◌, ◌++◌, length, sym, ap, ◌∙◌, arith, append_assoc, append-nil, length-append, cond, nat_eq, sum_by}
 use Rattle.std.specs.Prelude.{All, IsPermutation}
 use Rattle.std.proofs.lemmas.List.Sorted.{sum_by-IsPermutation, length_permutation, IsPermutation-sym, All-permutation}
 use Rattle.std.proofs.lemmas.List.Sums.{sum_by-append}
-use Rattle.std.proofs.lemmas.List.Elements.{All-nil, All-cons, All-head, All-tail, All-push, All-append, All-same}
+use Rattle.std.proofs.lemmas.List.Elements.{All-nil, All-cons, All-head, All-tail, All-push}
 use Rattle.ing_rows.specs.Rows.{size_of}
 use Rattle.ing_chunk.specs.declared.numbered.Numbered.{Numbered}
-use Rattle.ing_chunk.specs.Chunks.{size_of_entries, in_blocks, least_of, greatest_of, AreBlocks, AreStamps, starts}
+use Rattle.ing_chunk.specs.Chunks.{size_of_entries, in_blocks, least_of, greatest_of, AreBlocks, starts}
 
 pub size-append : (xs ys : List Numbered) → size_of_entries (xs ++ ys) ≡ size_of_entries xs + size_of_entries ys
 size-append xs ys = sum_by-append (λ (e : Numbered). size_of e.entry) xs ys
-
--- every stamp is a stamp
-pub least_more : (xs : List Numbered) (e : Numbered) → e.entry.stamp ≤ 9223372036854775807 → least_of (xs ++ e ∷ []) ≡ min (least_of xs) e.entry.stamp
-least_more [] e h = omega arith
-least_more (x ∷ xs) e h = omega (arith, least_more xs e h)
 
 pub least-append : (xs ys : List Numbered) → least_of ys ≤ 9223372036854775807 → least_of (xs ++ ys) ≡ min (least_of xs) (least_of ys)
 least-append [] ys h = omega arith
@@ -35,11 +30,11 @@ in_blocks-more (c ∷ bs) b = ap (λ l. c ++ l) (in_blocks-more bs b) ∙ sym (a
 pub size_reordered : (xs ys : List Numbered) → IsPermutation xs ys → size_of_entries ys ≡ size_of_entries xs
 size_reordered xs ys h = sum_by-IsPermutation (λ (e : Numbered). size_of e.entry) xs ys h
 
-at_least : (m : ℕ) (xs : List Numbered) → m ≤ least_of xs → All (λ e. m ≤ e.entry.stamp) xs
+pub at_least : (m : ℕ) (xs : List Numbered) → m ≤ least_of xs → All (λ e. m ≤ e.entry.stamp) xs
 at_least m [] h = All-nil (λ (e : Numbered). m ≤ e.entry.stamp)
 at_least m (x ∷ xs) h = All-cons (λ (e : Numbered). m ≤ e.entry.stamp) x xs (omega arith) (at_least m xs (omega arith))
 
-from_least : (m : ℕ) (xs : List Numbered) → m ≤ 9223372036854775807 → All (λ e. m ≤ e.entry.stamp) xs → m ≤ least_of xs
+pub from_least : (m : ℕ) (xs : List Numbered) → m ≤ 9223372036854775807 → All (λ e. m ≤ e.entry.stamp) xs → m ≤ least_of xs
 from_least m [] small h = small
 from_least m (x ∷ xs) small h = omega (arith, All-head (λ (e : Numbered). m ≤ e.entry.stamp) x xs h, from_least m xs small (All-tail (λ (e : Numbered). m ≤ e.entry.stamp) x xs h))
 
@@ -50,11 +45,11 @@ least_kept xs ys h =
 pub least_reordered : (xs ys : List Numbered) → IsPermutation xs ys → least_of ys ≡ least_of xs
 least_reordered xs ys h = omega (arith, least_kept xs ys h, least_kept ys xs (IsPermutation-sym xs ys h))
 
-at_most : (m : ℕ) (xs : List Numbered) → greatest_of xs ≤ m → All (λ e. e.entry.stamp ≤ m) xs
+pub at_most : (m : ℕ) (xs : List Numbered) → greatest_of xs ≤ m → All (λ e. e.entry.stamp ≤ m) xs
 at_most m [] h = All-nil (λ (e : Numbered). e.entry.stamp ≤ m)
 at_most m (x ∷ xs) h = All-cons (λ (e : Numbered). e.entry.stamp ≤ m) x xs (omega arith) (at_most m xs (omega arith))
 
-from_greatest : (m : ℕ) (xs : List Numbered) → All (λ e. e.entry.stamp ≤ m) xs → greatest_of xs ≤ m
+pub from_greatest : (m : ℕ) (xs : List Numbered) → All (λ e. e.entry.stamp ≤ m) xs → greatest_of xs ≤ m
 from_greatest m [] h = omega arith
 from_greatest m (x ∷ xs) h = omega (arith, All-head (λ (e : Numbered). e.entry.stamp ≤ m) x xs h, from_greatest m xs (All-tail (λ (e : Numbered). e.entry.stamp ≤ m) x xs h))
 
@@ -68,13 +63,6 @@ greatest_reordered xs ys h = omega (arith, greatest_kept xs ys h, greatest_kept 
 pub some_reordered : (xs ys : List Numbered) → IsPermutation xs ys → 0 < length xs → ys ≢ []
 some_reordered xs ys h some none = let many : length ys ≡ length xs = length_permutation xs ys h in omega (arith, ap length none)
 
-pub stamps_push : (xs ys : List Numbered) (e : Numbered) → ys ≡ xs ++ e ∷ [] → AreStamps xs → e.entry.stamp < 2 ^ 63 → AreStamps ys
-stamps_push xs ys e is stamps small =
-    All-same (λ (x : Numbered). x.entry.stamp < 2 ^ 63) ys (xs ++ e ∷ []) is (All-push (λ (x : Numbered). x.entry.stamp < 2 ^ 63) xs e stamps small)
-
-pub stamps-append : (xs ys : List Numbered) → AreStamps xs → AreStamps ys → AreStamps (xs ++ ys)
-stamps-append xs ys h k = All-append (λ (x : Numbered). x.entry.stamp < 2 ^ 63) xs ys h k
-
 -- ---- one more block, with the entries of a head
 
 module _ (bs : List (List Numbered)) (head b : List Numbered) (h : IsPermutation head b) where
@@ -84,19 +72,8 @@ module _ (bs : List (List Numbered)) (head b : List Numbered) (h : IsPermutation
   pub block_count-more : length (in_blocks (bs ++ b ∷ [])) ≡ length (in_blocks bs) + length head
   block_count-more = ap length (in_blocks-more bs b) ∙ length-append (in_blocks bs) b ∙ ap (λ n. length (in_blocks bs) + n) (length_permutation head b h)
 
-  pub block_least-more : least_of (in_blocks (bs ++ b ∷ [])) ≡ min (least_of (in_blocks bs)) (least_of head)
-  block_least-more = ap least_of (in_blocks-more bs b) ∙ least-append (in_blocks bs) b (least_small b) ∙ ap (λ n. min (least_of (in_blocks bs)) n) (least_reordered head b h)
-
-  pub block_greatest-more : greatest_of (in_blocks (bs ++ b ∷ [])) ≡ max (greatest_of (in_blocks bs)) (greatest_of head)
-  block_greatest-more = ap greatest_of (in_blocks-more bs b) ∙ greatest-append (in_blocks bs) b ∙ ap (λ n. max (greatest_of (in_blocks bs)) n) (greatest_reordered head b h)
-
   pub blocks-more : 0 < length head → AreBlocks bs → AreBlocks (bs ++ b ∷ [])
   blocks-more some before = All-push (λ (x : List Numbered). x ≢ []) bs b before (some_reordered head b h some)
-
-  pub stamps-more : AreStamps (in_blocks bs) → AreStamps head → AreStamps (in_blocks (bs ++ b ∷ []))
-  stamps-more before stamps =
-      All-same (λ (e : Numbered). e.entry.stamp < 2 ^ 63) (in_blocks (bs ++ b ∷ [])) (in_blocks bs ++ b) (in_blocks-more bs b)
-      (All-append (λ (e : Numbered). e.entry.stamp < 2 ^ 63) (in_blocks bs) b before (All-permutation (λ (e : Numbered). e.entry.stamp < 2 ^ 63) head b h stamps))
 
   pub block_starts-more : (first : ℕ) → starts first (in_blocks (bs ++ b ∷ [])) ≡ starts first (in_blocks bs) + starts first head
   block_starts-more first =

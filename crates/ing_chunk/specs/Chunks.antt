@@ -256,6 +256,11 @@ AreStamps es = All (λ e. e.entry.stamp < 2 ^ 63) es
 abbrev pub span_of : ChunkContents → Option (ℕ × ℕ)
 span_of c = if (count_in c == 0) then None else Some (min (least_of c.head) (least_of (in_blocks c.blocks)), max (greatest_of c.head) (greatest_of (in_blocks c.blocks)))
 
+-- the least and the greatest stamp of entries, and none where there is no entry
+abbrev pub IsSpanOf : Option (ℕ × ℕ) → List Numbered → Type 0
+IsSpanOf None es = es ≡ []
+IsSpanOf (Some span) es = (es ≢ []) × (span.0 ≡ least_of es) × (span.1 ≡ greatest_of es)
+
 -- why a growing chunk is due
 abbrev pub due_in : Rules → ℕ → ChunkContents → Option SealReason
 due_in rules now c =

@@ -2,4 +2,6 @@ pub mod Parts
 pub mod Chunks
 pub mod Kept
 pub mod KeptBlocks
+pub mod KeptHead
+pub mod KeptChunk
 pub mod KeptChunks

@@ -4,6 +4,8 @@
 mod block;
 mod chunk;
 mod chunks;
+mod head;
+mod kept;
 mod laws;
 mod numbered;
 mod run;
@@ -11,6 +13,7 @@ mod run;
 pub use block::Block;
 pub use chunk::Chunk;
 pub use chunks::Chunks;
+pub use head::Head;
 pub use laws::spans_bound_stamps;
 pub use numbered::Numbered;
 

@@ -1,5 +1,5 @@
 -- What is kept of entries that were offered, and what stands ahead of an entry.
-use Rattle.std.proofs.Common.{cond, ◌≡◌, ℕ, suc, ◌+◌, ◌-◌, ◌<◌, ◌≤◌, true, false, List, [], ◌∷◌, ◌++◌, length, get_or, refl, ap, sym, ◌∙◌, subst, arith, Option, Some, None}
+use Rattle.std.proofs.Common.{cond, ◌≡◌, ℕ, suc, ◌+◌, ◌-◌, ◌<◌, ◌≤◌, true, false, List, [], ◌∷◌, ◌++◌, length, get_or, refl, ap, sym, ◌∙◌, subst, arith, Some}
 use Rattle.std.specs.List.Sorted.{IsSortedBy}
 use Rattle.std.proofs.lemmas.List.Sums.{sum_by-append, sum_by-cons}
 use Rattle.std.proofs.lemmas.List.{get_or_default}
@@ -29,13 +29,6 @@ ahead_more order f g gs =
     let lt = precedes order in
     sum_by-append (λ x. cond (lt f x) 0 1) gs (g ∷ []) ∙ ap (λ n. ahead lt f gs + n) (sum_by-cons (λ x. cond (lt f x) 0 1) g [] ∙ omega arith)
 
--- one that comes before counts
-pub ahead_counts : (order : Order) (f g : Found) (gs : List Found) → IsPast order g.entry.stamp f.entry.stamp → ahead (precedes order) f (gs ++ g ∷ []) ≡ ahead (precedes order) f gs + 1
-ahead_counts order f g gs past =
-    let o = precedes_is_order order in
-    let after : precedes order f g ≡ false = o.one_way g f (past_precedes order g f past) in
-    ahead_more order f g gs ∙ ap (λ b. ahead (precedes order) f gs + cond b 0 1) after
-
 pub ahead_grows : (order : Order) (f g : Found) (gs : List Found) → ahead (precedes order) f gs ≤ ahead (precedes order) f (gs ++ g ∷ [])
 ahead_grows order f g gs = let more = ahead_more order f g gs in omega (arith, more)
 
@@ -50,11 +43,6 @@ all_of_them order f (g ∷ gs) none =
     omega (arith, rest, first, sum)
 
 -- ---- the bar
-
--- one more entry leaves it
-pub still_barred : (order : Order) (limit : ℕ) (held : List Found) (bar : Option ℕ) (g : Found) → IsBarred order limit held bar → IsBarred order limit (held ++ g ∷ []) bar
-still_barred order limit held None g h = tt
-still_barred order limit held (Some bar) g h = λ f past. let enough = h f past in let more = ahead_grows order f g held in omega (arith, enough, more)
 
 -- what has enough ahead of it is passed over
 pub passed : (b : BestState) (f : Found) → b.limit ≤ ahead (precedes b.order) f b.held → Offers (f ∷ []) b b

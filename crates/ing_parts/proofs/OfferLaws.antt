@@ -1,12 +1,12 @@
 -- Entries that are offered one after another.
 use Rattle.std.proofs.Common.{◌≡◌, Bool, true, false, not, cond, filter, ℕ, ◌+◌, ◌<◌, List, [], ◌∷◌, ◌++◌, map, length, drop, take, get_or, suc, add-one, drop-cons, append_assoc, append-nil, refl, ap, sym, ◌∙◌, subst, arith}
-use Rattle.std.specs.Prelude.{All, IsPermutation, Option, None, Some, ◌==◌, max, min, unwrap_or}
+use Rattle.std.specs.Prelude.{All, IsPermutation}
 use Rattle.std.proofs.lemmas.List.{map-append, take_more}
 use Rattle.std.proofs.lemmas.List.Elements.{All-nil, All-cons, All-head, All-tail, filter-append}
 use Rattle.std.proofs.lemmas.List.Sorted.{IsPermutation-append_comm, IsPermutation-append_right}
 use Rattle.ing_chunk.specs.declared.numbered.Numbered.{Numbered}
 use Rattle.ing_parts.specs.declared.found.Found.{Found}
-use Rattle.ing_chunk.specs.Chunks.{ChunkContents, count_in, entries_of, greatest_of, in_blocks, is_between, least_of, span_of}
+use Rattle.ing_chunk.specs.Chunks.{in_blocks, is_between}
 use Rattle.ing_parts.specs.declared.order.Order.{Order}
 use Rattle.ing_parts.specs.declared.order.Order.TheVariants.{Forward, Backward}
 use Rattle.ing_parts.specs.Answers.{BestState, IsAnswer, IsFrom, Offers, PassesOver, StandFor}
@@ -99,25 +99,6 @@ all_from order from name start end (e ∷ es) h =
 -- nothing from there on changes anything
 pub offers_from : (name : List ℕ) (start end from : ℕ) (es : List Numbered) (b : BestState) → PassesOver from b → AreFrom b.order from es → Offers (found_between name start end es) b b
 offers_from name start end from es b pass h = offers_passed from b (found_between name start end es) pass (all_from b.order from name start end es h)
-
--- nor where that is so of its blocks and its head
-pub offers_passed_chunk : (name : List ℕ) (start end from : ℕ) (c : ChunkContents) (b : BestState) → PassesOver from b → AreFrom b.order from (in_blocks c.blocks) → AreFrom b.order from c.head → Offers (found_between name start end (entries_of c)) b b
-offers_passed_chunk name start end from c b pass blocks head =
-    offers_next name start end (in_blocks c.blocks) c.head (entries_of c) b b b refl
-    (offers_from name start end from (in_blocks c.blocks) b pass blocks) (offers_from name start end from c.head b pass head)
-
--- by the span of a chunk
-pub from_least : (l g : ℕ) (c : ChunkContents) → span_of c ≡ Some (l, g) → AreFrom Forward l (in_blocks c.blocks) × AreFrom Forward l c.head
-from_least l g c is = by_count (count_in c == 0) is where
-  by_count : (t : Bool) → cond {A = Option (ℕ × ℕ)} t None (Some (min (least_of c.head) (least_of (in_blocks c.blocks)), max (greatest_of c.head) (greatest_of (in_blocks c.blocks)))) ≡ Some (l, g) → AreFrom Forward l (in_blocks c.blocks) × AreFrom Forward l c.head
-  by_count true is = absurd (cc)
-  by_count false is = let least : min (least_of c.head) (least_of (in_blocks c.blocks)) ≡ l = ap (λ o. (unwrap_or {T = ℕ × ℕ} o (l, g)).0) is in (omega (arith, least), omega (arith, least))
-
-pub from_greatest : (l g : ℕ) (c : ChunkContents) → span_of c ≡ Some (l, g) → AreFrom Backward g (in_blocks c.blocks) × AreFrom Backward g c.head
-from_greatest l g c is = by_count (count_in c == 0) is where
-  by_count : (t : Bool) → cond {A = Option (ℕ × ℕ)} t None (Some (min (least_of c.head) (least_of (in_blocks c.blocks)), max (greatest_of c.head) (greatest_of (in_blocks c.blocks)))) ≡ Some (l, g) → AreFrom Backward g (in_blocks c.blocks) × AreFrom Backward g c.head
-  by_count true is = absurd (cc)
-  by_count false is = let greatest : max (greatest_of c.head) (greatest_of (in_blocks c.blocks)) ≡ g = ap (λ o. (unwrap_or {T = ℕ × ℕ} o (l, g)).1) is in (omega (arith, greatest), omega (arith, greatest))
 
 pub holds : (b : Bool) → not b ≡ false → b ≡ true
 holds true h = refl

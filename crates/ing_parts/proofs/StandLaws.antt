@@ -11,7 +11,7 @@ use Rattle.std.proofs.lemmas.Cmp.{nat_cmp_total, nat_list_cmp_total, on_total, t
 use Rattle.std.proofs.lemmas.List.{take-append-drop}
 use Rattle.std.proofs.lemmas.List.Sums.{sum_by-append}
 use Rattle.std.proofs.lemmas.List.Elements.{All-head, All-tail}
-use Rattle.std.proofs.lemmas.List.Sorted.{ranks_by, IsStrictWeakOrder-flip, IsPermutation-sym, IsPermutation-trans, IsPermutation-cons, IsPermutation-middle, IsPermutation-append_left, IsPermutation-append_comm, sum_by-IsPermutation}
+use Rattle.std.proofs.lemmas.List.Sorted.{ranks_by, IsStrictWeakOrder-flip, IsPermutation-sym, IsPermutation-trans, IsPermutation-cons, IsPermutation-middle, IsPermutation-append_left, sum_by-IsPermutation}
 use Rattle.ing_parts.specs.declared.found.Found.{Found}
 use Rattle.ing_parts.specs.declared.order.Order.{Order}
 use Rattle.ing_parts.specs.declared.order.Order.TheVariants.{Forward, Backward}
@@ -60,11 +60,6 @@ module _ (order : Order) (limit : ℕ) where
   stand_beside xs ys us a others answer h =
       subst (λ l. IsAnswer order limit l answer) (sym (append_assoc ys us others))
       (a (us ++ others) answer (subst (λ l. IsAnswer order limit l answer) (append_assoc xs us others) h))
-
-  pub stand_behind : (xs ys us : List Found) → StandFor order limit xs ys → StandFor order limit (us ++ xs) (us ++ ys)
-  stand_behind xs ys us a =
-      stand_through (us ++ xs) (xs ++ us) (us ++ ys) (stand_alike (us ++ xs) (xs ++ us) (IsPermutation-append_comm us xs))
-      (stand_through (xs ++ us) (ys ++ us) (us ++ ys) (stand_beside xs ys us a) (stand_alike (ys ++ us) (us ++ ys) (IsPermutation-append_comm ys us)))
 
   -- one more, ahead of which enough stand
   pub stand_ahead : (xs : List Found) (f : Found) → limit ≤ ahead (precedes order) f xs → StandFor order limit xs (xs ++ f ∷ [])

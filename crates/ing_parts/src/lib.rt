@@ -18,7 +18,7 @@ pub use laws::{
     rows_join, standing_joins,
 };
 pub use listing::Listing;
-pub use offers::offer_entries;
+pub use offers::offer_block;
 pub use order::{Order, Question};
 pub use part::{Part, Source};
 pub use snapshot::Snapshot;

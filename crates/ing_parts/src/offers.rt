@@ -1,6 +1,6 @@
 //! Entries of one stream in memory, offered to the best.
 ghost use Rattle.std.specs.Prelude.{◌≡◌, ℕ, List, ◌∷◌, [], OnOk, true, false};
-ghost use Rattle.ing_chunk.specs.Chunks.{entries_of, is_between};
+ghost use Rattle.ing_chunk.specs.Chunks.{IsSpanOf, is_between};
 ghost use Rattle.ing_parts.specs.Answers.{Offers};
 ghost use Rattle.ing_parts.specs.Parts.{found_between};
 
@@ -8,7 +8,7 @@ use crate::best::Best;
 use crate::found::Found;
 use crate::order::Order;
 use crate::stream_name::StreamName;
-use ing_chunk::{Chunk, Numbered};
+use ing_chunk::{Block, Numbered, spans_bound_stamps};
 use std::alloc::{AllocError, Global};
 
 /// Whether an entry is to be offered: its stamp is in the range, and it may be kept.
@@ -82,7 +82,7 @@ fn offer_from_first(
 /// Offers copies of those entries of a stream whose stamp is at least the start and below the end, in nanoseconds. They begin
 /// where an answer begins, so that the fewer are copied the better the entries stand in order of stamp. `AllocError` where memory
 /// ran out.
-pub fn offer_entries(
+pub(crate) fn offer_entries(
     best: &mut Best,
     alloc: Global,
     name: &StreamName,
@@ -99,16 +99,41 @@ pub fn offer_entries(
     }
 }
 
-/// Whether the span of a chunk shows that none of its entries may be kept.
-pub(crate) fn is_barred(best: &Best, chunk: &Chunk) -> bool
-    ensures { result ≡ true → (name : List ℕ) (start end : ℕ) →
-        Offers (found_between name start end (entries_of chunk.now)) best.now best.now }
+/// Whether their span shows that entries change no answer: none has a stamp that is at least the start and below the end, in
+/// nanoseconds, or none may be kept. Constant.
+pub(crate) fn is_passed_over(best: &Best, span: Option<(u64, u64)>, start: u64, end: u64) -> bool
+    ensures { result ≡ true → (name : List ℕ) (es : List Numbered) → IsSpanOf span es →
+        Offers (found_between name start end es) best.now best.now }
 {
-    let Some((least, greatest)) = chunk.span() else {
-        return false;
+    spans_bound_stamps();
+    let Some((least, greatest)) = span else {
+        return true;
     };
+    if greatest < start || end <= least {
+        return true;
+    }
     match best.order() {
         Order::Forward => best.bars(least),
         Order::Backward => best.bars(greatest),
     }
+}
+
+/// Offers copies of those entries of a block of a stream whose stamp is at least the start and below the end, in nanoseconds. Its
+/// entries are looked at only where its first and last stamp do not show that none changes the answer. `AllocError` where memory
+/// ran out.
+pub fn offer_block(
+    best: &mut Best,
+    alloc: Global,
+    name: &StreamName,
+    block: &Block,
+    start: u64,
+    end: u64,
+) -> Result<(), AllocError>
+    ensures { OnOk result
+        (Offers (found_between name.now start end block.now) best.old best.new) }
+{
+    if is_passed_over(best, block.span(), start, end) {
+        return Ok(());
+    }
+    offer_entries(best, alloc, name, block.entries(), start, end)
 }

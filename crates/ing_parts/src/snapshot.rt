@@ -1,16 +1,16 @@
 //! What is read off a shard at one moment.
-ghost use Rattle.std.specs.Prelude.{◌≡◌, [], OnOk, map};
-ghost use Rattle.ing_chunk.specs.Chunks.{entries_growing, entries_in_memory, entries_of, entries_of_all, in_blocks};
+ghost use Rattle.std.specs.Prelude.{◌≡◌, ℕ, [], List, OnOk, map, true};
+ghost use Rattle.ing_chunk.specs.Chunks.{IsSpanOf, entries_growing, entries_in_memory, entries_of, entries_of_all, in_blocks};
 ghost use Rattle.ing_parts.specs.Parts.{Adds, entries_in, found_of};
 
 use crate::best::Best;
 use crate::laws::additions_join;
 use crate::listing::Listing;
-use crate::offers::{is_barred, offer_entries};
+use crate::offers::{is_passed_over, offer_entries};
 use crate::order::{Order, Question};
 use crate::part::{Part, Source};
 use crate::stream_name::StreamName;
-use ing_chunk::{Block, Chunk, Chunks, Numbered};
+use ing_chunk::{Block, Chunk, Chunks, Head, Numbered};
 use ing_store::Receipt;
 use std::alloc::{AllocError, Global};
 
@@ -122,8 +122,17 @@ impl<R: Receipt> Snapshot<R> {
         Ok(())
     }
 
-    /// Adds what is wanted of a chunk in memory, where its span meets the range: its closed blocks as they are, and copies of
-    /// the best of the entries of its head. They begin where an answer begins: a head is newer than the blocks, most often.
+    /// Whether their span shows that nothing is wanted of entries. Constant.
+    fn passes_over(&self, span: Option<(u64, u64)>) -> bool
+        ensures { result ≡ true → (name : List ℕ) (es : List Numbered) → IsSpanOf span es →
+            Adds (map (found_of name) es) self.now self.now }
+    {
+        is_passed_over(&self.best, span, self.start, self.end)
+    }
+
+    /// Adds what is wanted of a chunk in memory, of which its span may show that it is nothing: its closed blocks as they are,
+    /// and copies of the best of the entries of its head. They begin where an answer begins: a head is newer than the blocks,
+    /// most often.
     pub fn add_chunk(
         &mut self,
         alloc: Global,
@@ -133,20 +142,30 @@ impl<R: Receipt> Snapshot<R> {
         ensures { OnOk result
             (Adds (map (found_of name.now) (entries_of chunk.now)) self.old self.new) }
     {
-        if chunk.misses(self.start, self.end) || is_barred(&self.best, chunk) {
+        if self.passes_over(chunk.span()) {
             return Ok(());
         }
         match self.best.order() {
             Order::Forward => {
                 self.add_blocks_from_first(alloc, name, chunk.blocks())?;
-                self.add_entries(alloc, name, chunk.head())?;
+                self.add_head(alloc, name, chunk.head())?;
             }
             Order::Backward => {
-                self.add_entries(alloc, name, chunk.head())?;
+                self.add_head(alloc, name, chunk.head())?;
                 self.add_blocks_from_last(alloc, name, chunk.blocks())?;
             }
         }
         Ok(())
+    }
+
+    /// Keeps copies of the best of the entries of a head that are wanted.
+    fn add_head(&mut self, alloc: Global, name: &StreamName, head: &Head) -> Result<(), AllocError>
+        ensures { OnOk result (Adds (map (found_of name.now) head.now) self.old self.new) }
+    {
+        if self.passes_over(head.span()) {
+            return Ok(());
+        }
+        self.add_entries(alloc, name, head.entries())
     }
 
     /// Adds closed blocks, the first one first.
@@ -183,7 +202,8 @@ impl<R: Receipt> Snapshot<R> {
         Ok(())
     }
 
-    /// Adds a closed block as it is, and copies of the best of its entries where it cannot be shared.
+    /// Adds a closed block as it is, and copies of the best of its entries where it cannot be shared; nothing where its span
+    /// shows that nothing of it is wanted.
     fn add_block(
         &mut self,
         alloc: Global,
@@ -192,6 +212,9 @@ impl<R: Receipt> Snapshot<R> {
     ) -> Result<(), AllocError>
         ensures { OnOk result (Adds (map (found_of name.now) block.now) self.old self.new) }
     {
+        if self.passes_over(block.span()) {
+            return Ok(());
+        }
         match block.share()? {
             Some(same) => self.add(name, Source::Block(same)),
             None => self.add_entries(alloc, name, block.entries()),

@@ -1,22 +1,10 @@
-//! Tests alone: worked values of the crates below the session, and pushes drawn by lot beside the slow program. They need no
-//! private item, and stand in no crate that they test, since a crate with tests is proved twice.
+//! Tests alone: worked values of labels, the label index and settings. They need no private item, and stand in no crate that they
+//! test, since a crate with tests is proved twice.
 #![tactic(auto)]
 
-#[cfg(test)]
-mod doubted;
-#[cfg(test)]
-mod drawn_queries;
-#[cfg(test)]
-mod flushes;
 #[cfg(test)]
 mod labels;
 #[cfg(test)]
 mod postings;
 #[cfg(test)]
-mod queries;
-#[cfg(test)]
 mod settings;
-#[cfg(test)]
-mod shard;
-#[cfg(test)]
-mod worlds;
