@@ -8,6 +8,7 @@ mod HeldLaws
 mod JudgeLaws
 mod ListedLaws
 mod LiveLaws
+mod NameLaws
 mod Parts
 mod PickLaws
 mod PositionLaws

@@ -8,6 +8,7 @@ use Rattle.std.proofs.lemmas.Slice.Eq.{bytes_eq-Decides}
 use Rattle.ing_shard.specs.declared.tenants.TenantStreams.{TenantStreams}
 use Rattle.ing_shard.specs.declared.tenants.Tenants.{Tenants}
 use Rattle.ing_postings.specs.declared.listed.Listed.{Listed}
+use Rattle.ing_shard.specs.Names.{find_in}
 use Rattle.ing_shard.specs.Tenants.{find_of, is_known, kept_of, nothing_kept, posted_of}
 
 -- what holds holds after an error
@@ -65,10 +66,10 @@ module _ (id : List ℕ) (w : TenantStreams) (old new : Tenants) (writes : Write
   pub kept_written : (t : List ℕ) → kept_of new t ≡ cond (bytes_eq id t) w.kept (kept_of old t)
   kept_written t = ap (λ o. option_map_or (λ s. s.kept) o nothing_kept) (writes t) ∙ mapped_cond (λ (s : TenantStreams). s.kept) nothing_kept (bytes_eq id t) w (get_by_text old.by_id t)
 
-  find_written : (t n : List ℕ) → find_of new t n ≡ cond (bytes_eq id t) (get_by_text w.by_name n) (find_of old t n)
+  find_written : (t n : List ℕ) → find_of new t n ≡ cond (bytes_eq id t) (find_in w.by_name n) (find_of old t n)
   find_written t n =
-      ap (λ o. option_map_or (λ s. get_by_text s.by_name n) o None) (writes t)
-      ∙ mapped_cond (λ (s : TenantStreams). get_by_text s.by_name n) None (bytes_eq id t) w (get_by_text old.by_id t)
+      ap (λ o. option_map_or (λ s. find_in s.by_name n) o None) (writes t)
+      ∙ mapped_cond (λ (s : TenantStreams). find_in s.by_name n) None (bytes_eq id t) w (get_by_text old.by_id t)
 
   pub known_written : (t : List ℕ) → is_known new t ≡ cond (bytes_eq id t) true (is_known old t)
   known_written t = ap is_some (writes t) ∙ some_cond (bytes_eq id t) w (get_by_text old.by_id t)
@@ -99,11 +100,11 @@ module _ (id : List ℕ) (w : TenantStreams) (old new : Tenants) (writes : Write
   kept_stays same t = kept_written t ∙ ap (λ k. cond (bytes_eq id t) k (kept_of old t)) same ∙ same_at (kept_of old) id t
 
   -- the same streams
-  pub find_stays : ((n : List ℕ) → get_by_text w.by_name n ≡ find_of old id n) → (t n : List ℕ) → find_of new t n ≡ find_of old t n
+  pub find_stays : ((n : List ℕ) → find_in w.by_name n ≡ find_of old id n) → (t n : List ℕ) → find_of new t n ≡ find_of old t n
   find_stays same t n = find_written t n ∙ ap (λ k. cond (bytes_eq id t) k (find_of old t n)) (same n) ∙ same_at (λ u. find_of old u n) id t
 
   -- one more stream
-  pub find_more : (name : List ℕ) (number : ℕ) → ((n : List ℕ) → get_by_text w.by_name n ≡ update bytes_eq (find_of old id) name (Some number) n)
+  pub find_more : (name : List ℕ) (number : ℕ) → ((n : List ℕ) → find_in w.by_name n ≡ update bytes_eq (find_of old id) name (Some number) n)
       → (t n : List ℕ) → find_of new t n ≡ cond (bytes_eq id t && bytes_eq name n) (Some number) (find_of old t n)
   find_more name number more t n =
       find_written t n

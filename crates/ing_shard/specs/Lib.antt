@@ -4,6 +4,7 @@ pub mod Faults
 pub mod KeptFacts
 pub mod OneStream
 pub mod Flights
+pub mod Names
 pub mod Tenants
 pub mod Streams
 pub mod Picked

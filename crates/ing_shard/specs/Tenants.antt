@@ -4,6 +4,7 @@ use Rattle.std.specs.Option.{option_map_or}
 use Rattle.std.specs.BTreeMap.{get_by_text}
 use Rattle.ing_labels.specs.Labels.{LabelMap}
 use Rattle.ing_postings.specs.declared.listed.Listed.{Listed}
+use Rattle.ing_shard.specs.Names.{find_in}
 use Rattle.ing_shard.specs.declared.tenants.TenantKept.{TenantKept}
 use Rattle.ing_shard.specs.declared.tenants.Tenants.{Tenants}
 
@@ -23,7 +24,7 @@ nothing_kept = record {
 
 -- the number under which a stream is listed, by its tenant and its canonical name
 abbrev pub find_of : Tenants → List ℕ → List ℕ → Option ℕ
-find_of tenants t n = option_map_or (λ streams. get_by_text streams.by_name n) (get_by_text tenants.by_id t) None
+find_of tenants t n = option_map_or (λ streams. find_in streams.by_name n) (get_by_text tenants.by_id t) None
 
 -- whether the tenant is listed
 abbrev pub is_known : Tenants → List ℕ → Bool

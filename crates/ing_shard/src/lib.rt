@@ -7,6 +7,7 @@ mod fault;
 mod flushes;
 mod judge;
 mod laws;
+mod names;
 mod sealing;
 mod shard;
 mod snapshots;

@@ -1,12 +1,13 @@
 //! What a shard keeps tenant by tenant: the numbers of the tenant's streams, and sums over them.
 ghost use Rattle.std.specs.Prelude.{◌≡◌, ◌&&◌, ◌<◌, ◌++◌, [], ◌∷◌, All, Bool, List, ℕ, IfOk, OnOk, OnErr, None, Some, bytes_eq, if◌then◌else◌, is_some, true};
-ghost use Rattle.std.specs.BTreeMap.{get_by_text};
 ghost use Rattle.std.specs.List.Sorted.{IsStrictlyIncreasing};
 ghost use Rattle.ing_labels.specs.Canonical.{canonical_of};
 ghost use Rattle.ing_labels.specs.Labels.{IsLabelSet};
 ghost use Rattle.ing_postings.specs.Streams.{numbers_of, selected};
+ghost use Rattle.ing_shard.specs.Names.{find_in};
 ghost use Rattle.ing_shard.specs.Tenants.{find_of, kept_of, posted_of, is_known, listed_as, nothing_kept, IsWithin, Fits, changed};
 
+use crate::names::StreamNames;
 use ing_labels::{Labels, Selector};
 use ing_postings::{Postings, StreamNo};
 use std::alloc::{AllocError, Global};
@@ -39,12 +40,12 @@ pub struct TenantKept {
 /// sums over them.
 #[derive(Debug, Drop)]
 pub struct TenantStreams {
-    pub by_name: BTreeMap<String, usize>,
+    pub by_name: StreamNames,
     pub postings: Postings,
     pub kept: TenantKept,
 }
 
-/// The tenants of a shard. Both maps are ordered, so that no choice of names makes a look-up slow.
+/// The tenants of a shard. The map is ordered, so that no choice of tenants makes a look-up slow.
 #[derive(Debug, Drop)]
 pub struct Tenants {
     pub by_id: BTreeMap<String, TenantStreams>,
@@ -87,12 +88,12 @@ impl TenantKept {
 impl TenantStreams {
     /// A tenant without streams.
     fn new(alloc: Global) -> TenantStreams
-        ensures names { (n : List ℕ) → get_by_text result.by_name n ≡ None }
+        ensures names { (n : List ℕ) → find_in result.by_name n ≡ None }
         ensures posted { result.postings ≡ [] }
         ensures kept { result.kept ≡ nothing_kept }
     {
         TenantStreams {
-            by_name: BTreeMap::new(alloc),
+            by_name: StreamNames::new(alloc),
             postings: Postings::new(alloc),
             kept: NOTHING,
         }
@@ -100,22 +101,21 @@ impl TenantStreams {
 
     /// Lists a stream that is not listed, under a number above those of the listed ones. All or nothing.
     fn list(&mut self, alloc: Global, labels: &Labels, number: usize) -> Result<(), AllocError>
-        requires free { get_by_text self.old.by_name (canonical_of labels.now) ≡ None }
+        requires free { find_in self.old.by_name (canonical_of labels.now) ≡ None }
         requires above { All (λ s. s.number < number) self.old.postings }
-        ensures names { OnOk result ((n : List ℕ) → get_by_text self.new.by_name n ≡
+        ensures names { OnOk result ((n : List ℕ) → find_in self.new.by_name n ≡
             (if bytes_eq (canonical_of labels.now) n then Some number
-            else get_by_text self.old.by_name n)) }
+            else find_in self.old.by_name n)) }
         ensures posted { OnOk result (self.new.postings ≡
             self.old.postings ++ listed_as number labels.now ∷ []) }
         ensures err_names { OnErr result ((n : List ℕ) →
-            get_by_text self.new.by_name n ≡ get_by_text self.old.by_name n) }
+            find_in self.new.by_name n ≡ find_in self.old.by_name n) }
         ensures err_posted { OnErr result (self.new.postings ≡ self.old.postings) }
         ensures kept { self.new.kept ≡ self.old.kept }
         // Each `Labels` is a stream's.
         ensures label_set { OnOk result (IsLabelSet labels.now) }
     {
-        let name = String::from_str(alloc, labels.name())?;
-        self.by_name.insert(name, number)?;
+        self.by_name.insert(alloc, labels, number)?;
         if let Err(fault) = self.postings.add(labels, StreamNo::new(number as u64)) {
             self.by_name.remove(labels.name());
             return Err(fault);
@@ -141,7 +141,7 @@ impl Tenants {
         ensures { result ≡ find_of self.now tenant.now name.now }
     {
         let streams = self.by_id.get(tenant)?;
-        streams.by_name.get(name).copied()
+        streams.by_name.find(name)
     }
 
     /// The sums over a tenant's streams.
