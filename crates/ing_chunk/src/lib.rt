@@ -16,6 +16,3 @@ pub use chunks::Chunks;
 pub use head::Head;
 pub use laws::spans_bound_stamps;
 pub use numbered::Numbered;
-
-#[cfg(test)]
-mod tests;

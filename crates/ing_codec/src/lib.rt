@@ -28,6 +28,3 @@ pub use lent_chunk::{LentChunk, decode_lent};
 pub use object_names::{chunk_key, chunk_name, row_name};
 pub use stored_chunk::{StoredChunk, decode_chunk};
 pub use writers::{put_line, put_name, put_tenant, put_u32, put_u64};
-
-#[cfg(test)]
-mod tests;

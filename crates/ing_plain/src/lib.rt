@@ -4,6 +4,3 @@
 mod plain;
 
 pub use plain::Plain;
-
-#[cfg(test)]
-mod tests;

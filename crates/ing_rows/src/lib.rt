@@ -29,6 +29,3 @@ pub use rules::Rules;
 pub use stamp::{Stamp, value_of_digits, window_limit};
 pub use tenant::{Tenant, is_tenant_id};
 pub use verdict::Verdict;
-
-#[cfg(test)]
-mod tests;

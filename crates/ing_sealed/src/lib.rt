@@ -8,6 +8,3 @@ mod uploads;
 
 pub use sealed_chunks::{Claim, SealedChunks};
 pub use uploads::{Flushed, upload, upload_chunk, upload_row};
-
-#[cfg(test)]
-mod tests;

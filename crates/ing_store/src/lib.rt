@@ -17,6 +17,3 @@ pub use memory_object::{MemoryObject, MemoryReceipt};
 pub use memory_store::MemoryStore;
 pub use store_end::{Receipt, StoreEnd};
 pub use upload::{Uploaded, put_chunk, put_row};
-
-#[cfg(test)]
-mod tests;

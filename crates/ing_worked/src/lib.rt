@@ -1,10 +1,10 @@
-//! Tests alone: worked values of labels, the label index and settings. They need no private item, and stand in no crate that they
-//! test, since a crate with tests is proved twice.
+//! Tests alone: worked values of labels, settings, windows and shard numbers that no case can show. They need no private item, and
+//! stand in no crate that they test, since a crate with tests is proved twice.
 #![tactic(auto)]
 
 #[cfg(test)]
 mod labels;
 #[cfg(test)]
-mod postings;
+mod rows;
 #[cfg(test)]
 mod settings;

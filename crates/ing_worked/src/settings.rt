@@ -1,4 +1,4 @@
-//! Worked settings, the defaults and each refusal.
+//! Worked settings, and each refusal with the name that it gives, which the program does not print.
 use ing_limits::{Settings, SettingsFault};
 use ing_rows::{Rules, Tenant};
 use std::alloc::Global;
@@ -30,17 +30,6 @@ fn is_refused(alloc: Global, text: &str, number: u32, name: &str) -> bool {
 }
 
 #[test]
-fn defaults(rt: HostRuntime) -> Result<(), Fail> {
-    let settings = Settings::from_toml(rt.alloc(), "")?;
-    assert_eq!(rt; settings.shards(), 1);
-    assert_eq!(rt; settings.flushers(), 1);
-    assert_eq!(rt; settings.flush_queue_length(), 1024);
-    let tenant = Tenant::of_text(rt.alloc(), "acme")?;
-    assert!(rt; *settings.for_tenant(&tenant) == Rules::default());
-    Ok(())
-}
-
-#[test]
 fn refusals(rt: HostRuntime) {
     for (text, number, name) in [
         ("shards = \n", 10, ""),
@@ -63,14 +52,7 @@ fn refusals(rt: HostRuntime) {
         ("[tenants.\"a/b\"]\nmax_line_size = 1\n", 12, "tenants.a/b"),
         ("[tenants.acme]\nshards = 1\n", 11, "tenants.acme.shards"),
         ("[tenants.\"a/b\"]\nshards = 1\n", 11, "tenants.a/b.shards"),
-    ] {
-        assert!(rt; is_refused(rt.alloc(), text, number, name), "{text}");
-    }
-}
-
-#[test]
-fn first_name_in_byte_order(rt: HostRuntime) {
-    for (text, number, name) in [
+        // Of several names the first in byte order.
         ("zone = 1\narea = 1\nshards = 0\n", 11, "area"),
         ("shards = 0\nflushers = 0\n", 12, "flushers"),
         (
@@ -93,17 +75,11 @@ const ALL: &str =
     "shards = 64\nflushers = 32\nflush_queue_length = 65536\nchunk_idle_period = \"1h30m\"\nmax_chunk_age = \"1s2ms3us4ns\"\nmax_line_size = 100\n[tenants.acme]\nmax_label_names = 64\n";
 
 #[test]
-fn settings_that_are_no_rules(rt: HostRuntime) -> Result<(), Fail> {
+fn settings_and_rules_of_all_tenants_and_of_one(rt: HostRuntime) -> Result<(), Fail> {
     let settings = Settings::from_toml(rt.alloc(), ALL)?;
     assert_eq!(rt; settings.shards(), 64);
     assert_eq!(rt; settings.flushers(), 32);
     assert_eq!(rt; settings.flush_queue_length(), 65536);
-    Ok(())
-}
-
-#[test]
-fn rules_of_all_tenants_and_of_one(rt: HostRuntime) -> Result<(), Fail> {
-    let settings = Settings::from_toml(rt.alloc(), ALL)?;
     for (name, max_label_names) in [("acme", 64), ("other", 15)] {
         let tenant = Tenant::of_text(rt.alloc(), name)?;
         let wanted = Rules {
@@ -114,20 +90,6 @@ fn rules_of_all_tenants_and_of_one(rt: HostRuntime) -> Result<(), Fail> {
             ..Rules::default()
         };
         assert_eq!(rt; *settings.for_tenant(&tenant), wanted, "{name}");
-    }
-    Ok(())
-}
-
-#[test]
-fn each_tenant_has_its_own_limits(rt: HostRuntime) -> Result<(), Fail> {
-    let alloc = rt.alloc();
-    let settings = Settings::from_toml(
-        alloc,
-        "max_line_size = 7\n[tenants.c]\nmax_line_size = 3\n[tenants.a]\nmax_line_size = 1\n[tenants.b]\n[tenants.\"b.c\"]\nmax_line_size = 2\n",
-    )?;
-    for (name, size) in [("a", 1), ("b", 7), ("b.c", 2), ("c", 3), ("d", 7)] {
-        let tenant = Tenant::of_text(alloc, name)?;
-        assert_eq!(rt; settings.for_tenant(&tenant).max_line_size, size, "{name}");
     }
     Ok(())
 }

@@ -1,15 +1,15 @@
 //! Chunks of a shard on their way into a store in memory. One allocation at most is refused in a run of these tests: what was
 //! refused has changed nothing, and the same call then succeeds.
-ghost use Rattle.std.specs.Prelude.{◌<◌, ◌^◌, IfOk, IfSome, length};
+ghost use Rattle.std.specs.Prelude.{◌<◌, ◌^◌, IfOk, length};
 ghost use Rattle.ing_labels.specs.Canonical.{canonical_of};
 ghost use Rattle.ing_shard.specs.Flights.{IsUploaded};
 
 use ing_labels::{LabelLimits, Labels};
 use ing_limits::Settings;
 use ing_postings::StreamNo;
-use ing_rows::{Entry, Gauge, Gauges, Line, Stamp, Tenant, Verdict};
+use ing_rows::{Entry, Gauges, Line, Stamp, Tenant};
 use ing_sealed::Flushed;
-use ing_shard::{PushFault, Shard, Ticket};
+use ing_shard::{PushFault, Pushed, Shard, Ticket};
 use ing_store::{Fuse, MemoryEnd, MemoryReceipt, MemoryStore, StoreEnd, StoreFault};
 use std::alloc::{AllocError, Global};
 use std::process::Abort;
@@ -24,12 +24,6 @@ const CHUNK_NAME: &str = "c-a77cfad997bb7b87f2438dfcd0d7b04ff6457a69d5c94a4b73fc
 const ROW_NAME: &str =
     "r-23908dbe68dd19f9-a77cfad997bb7b87f2438dfcd0d7b04ff6457a69d5c94a4b73fc483b009f83f2";
 
-/// What is measured of these two entries.
-const TWO: Gauge = Gauge {
-    entries: 2,
-    bytes: 35,
-};
-
 pub(crate) const LIMITS: LabelLimits = LabelLimits {
     names: 15,
     name_bytes: 1024,
@@ -40,138 +34,78 @@ pub(crate) fn stamp(nanoseconds: u64) -> Result<Stamp, Fail> {
     Ok(Stamp::of_nanoseconds(nanoseconds).ok_or("a stamp")?)
 }
 
-/// Two entries, and the labels that they have.
-#[derive(Drop)]
-struct Two {
-    labels: Labels,
-    entries: Vec<Entry>,
-    now: Stamp,
-}
-
-impl Two {
-    fn of(alloc: Global, value: &str) -> Result<Two, Fail> {
-        let mut entries = Vec::new(alloc);
-        for (nanoseconds, text) in [(5, "x"), (3, "yz")] {
-            entries.push(Entry {
-                stamp: stamp(nanoseconds)?,
-                line: Line::of_text(alloc, text)?,
-            })?;
-        }
-        Ok(Two {
-            labels: Labels::of_pairs(alloc, &[("a", value)], &LIMITS)?,
-            entries,
-            now: stamp(5)?,
-        })
-    }
-}
-
 /// A shard, and a tenant whose entries it has.
 #[derive(Drop)]
 pub(crate) struct Owned<'a> {
     pub shard: Shard<MemoryReceipt<'a>>,
     pub tenant: Tenant,
-    /// The number of the stream whose chunks are claimed.
-    pub stream: u64,
 }
 
 impl<'a> Owned<'a> {
     /// A shard without entries.
-    pub fn fresh(
-        alloc: Global,
-        number: u32,
-        tenant: &str,
-        settings: &str,
-    ) -> Result<Owned<'a>, Fail> {
+    pub fn fresh(alloc: Global, tenant: &str, settings: &str) -> Result<Owned<'a>, Fail> {
         Ok(Owned {
-            shard: Shard::fresh(alloc, Settings::from_toml(alloc, settings)?, number),
+            shard: Shard::fresh(alloc, Settings::from_toml(alloc, settings)?, 0),
             tenant: Tenant::of_text(alloc, tenant)?,
-            stream: 0,
         })
     }
 
-    /// A shard with one stream, whose one chunk is sealed.
-    fn sealed(alloc: Global, number: u32, tenant: &str) -> Result<Owned<'a>, Fail> {
-        let mut one = Owned::fresh(alloc, number, tenant, "")?;
-        one.push(alloc, Two::of(alloc, "1")?)?;
+    /// A shard with one stream of two entries, whose one chunk is sealed.
+    fn sealed(alloc: Global, tenant: &str) -> Result<Owned<'a>, Fail> {
+        let mut one = Owned::fresh(alloc, tenant, "")?;
+        one.push(alloc, &[("a", "1")], &[(5, "x"), (3, "yz")])??;
         one.shard.seal_all(alloc)?;
         Ok(one)
     }
 
-    /// The verdicts on two entries.
-    fn push(&mut self, alloc: Global, two: Two) -> Result<Vec<Verdict>, PushFault> {
-        let Two {
-            labels,
-            entries,
-            now,
-        } = two;
-        self.push_entries(alloc, &labels, entries, now)
-    }
-
-    /// The verdicts on entries of a stream.
-    pub fn push_entries(
+    /// Pushes entries with these stamps and lines to the stream of these labels, at the time of the first.
+    pub fn push(
         &mut self,
         alloc: Global,
-        labels: &Labels,
-        entries: Vec<Entry>,
-        now: Stamp,
-    ) -> Result<Vec<Verdict>, PushFault> {
-        let pushed = self.shard.push(alloc, &self.tenant, labels, entries, now)?;
-        Ok(pushed.verdicts)
+        pairs: &[(&str, &str)],
+        lines: &[(u64, &str)],
+    ) -> Result<Result<Pushed, PushFault>, Fail> {
+        let labels = Labels::of_pairs(alloc, pairs, &LIMITS)?;
+        let mut entries = Vec::new(alloc);
+        for (nanoseconds, text) in lines {
+            entries.push(Entry {
+                stamp: stamp(*nanoseconds)?,
+                line: Line::of_text(alloc, text)?,
+            })?;
+        }
+        let now = stamp(lines.first().map_or(0, |first| first.0))?;
+        Ok(self.shard.push(alloc, &self.tenant, &labels, entries, now))
     }
 
     /// The gauges of the tenant, and the totals of the shard.
-    fn counts(&self) -> (Gauges, (u64, u64)) {
+    pub fn counts(&self) -> (Gauges, (u64, u64)) {
         (self.shard.gauges(&self.tenant), self.shard.totals())
     }
 
-    /// Claims the oldest chunk of the stream that waits.
+    /// Claims the oldest chunk of the first stream that waits.
     fn try_claim(&mut self, rt: &impl Abort, alloc: Global) -> Result<Option<Ticket>, AllocError> {
         let before = self.counts();
-        let stream = StreamNo::new(self.stream);
-        match self.shard.claim(alloc, stream) {
+        match self.shard.claim(alloc, StreamNo::new(0)) {
             Ok(claimed) => Ok(claimed),
             Err(AllocError) => {
                 assert_eq!(rt; self.counts(), before);
-                self.shard.claim(alloc, stream)
+                self.shard.claim(alloc, StreamNo::new(0))
             }
         }
     }
 
-    /// Claims a chunk of a stream whose name is not too long, if one waits.
-    pub fn claim_any(&mut self, rt: &impl Abort, alloc: Global) -> Result<Option<Ticket>, Fail>
-        ensures { IfOk result (λ o. IfSome o (λ ticket.
-            length (canonical_of ticket.claimed.labels) < 2 ^ 32)) }
+    /// The same, where one waits and the name of the stream is not too long.
+    pub fn claim(&mut self, rt: &impl Abort, alloc: Global) -> Result<Ticket, Fail>
+        ensures { IfOk result (λ ticket. length (canonical_of ticket.claimed.labels) < 2 ^ 32) }
     {
         let Some(ticket) = self.try_claim(rt, alloc)? else {
-            return Ok(None);
+            return Err("a chunk that waits".into());
         };
         if ticket.claimed().labels().name().len() > 0xffff_ffff {
             self.give_back(ticket)?;
             return Err("a short name".into());
         }
-        Ok(Some(ticket))
-    }
-
-    /// Claims a chunk of a stream whose name is not too long.
-    pub fn claim(&mut self, rt: &impl Abort, alloc: Global) -> Result<Ticket, Fail>
-        ensures { IfOk result (λ ticket. length (canonical_of ticket.claimed.labels) < 2 ^ 32) }
-    {
-        match self.claim_any(rt, alloc)? {
-            Some(ticket) => Ok(ticket),
-            None => Err("a chunk that waits".into()),
-        }
-    }
-
-    /// Whether no chunk of the stream waits.
-    fn claims_none(&mut self, rt: &impl Abort, alloc: Global) -> bool {
-        match self.try_claim(rt, alloc) {
-            Ok(None) => true,
-            Ok(Some(ticket)) => {
-                let _ = self.shard.give_back(ticket);
-                false
-            }
-            Err(AllocError) => false,
-        }
+        Ok(ticket)
     }
 
     /// Lets the chunk of a ticket wait again.
@@ -182,21 +116,19 @@ impl<'a> Owned<'a> {
         }
     }
 
-    /// Uploads the chunk of a ticket, and lists it as stored. Gives what was counted in between.
+    /// Uploads the chunk of a ticket, and lists it as stored.
     pub fn store<R: Wait>(
         &mut self,
         alloc: Global,
         end: &mut MemoryEnd<'a, R>,
         ticket: Ticket,
         refused: &mut usize,
-    ) -> Result<(Gauges, (u64, u64)), Fail>
+    ) -> Result<(), Fail>
         requires { length (canonical_of ticket.claimed.labels) < 2 ^ 32 }
     {
-        let uploaded = upload(alloc, end, &ticket, refused);
-        let counts = self.counts();
-        match uploaded {
+        match upload(alloc, end, &ticket, refused) {
             Ok(flushed) => match self.shard.finish(ticket, flushed) {
-                Ok(_) => Ok(counts),
+                Ok(_) => Ok(()),
                 Err(_) => Err("a chunk in flight".into()),
             },
             Err(fault) => {
@@ -208,7 +140,7 @@ impl<'a> Owned<'a> {
 }
 
 /// Uploads the chunk of a ticket. Counts refused memory, which may leave an object that no name leads to.
-pub(crate) fn upload<S: StoreEnd>(
+fn upload<S: StoreEnd>(
     alloc: Global,
     end: &mut S,
     ticket: &Ticket,
@@ -236,58 +168,11 @@ fn standing<R: Wait + Abort>(rt: &R, alloc: Global, store: &MemoryStore) -> Resu
     Ok(usize::from(chunk) + usize::from(row))
 }
 
-/// The counts are those of the two entries in the head, in a block, in flight and stored; no second chunk is claimed. Gives how
-/// often memory was refused.
-fn store_two<'a, R: Wait + Abort>(
-    rt: &'a R,
-    alloc: Global,
-    store: &'a MemoryStore,
-) -> Result<usize, Fail> {
-    let live = Gauges {
-        streams: 1,
-        ..Gauges::default()
-    };
-    let mut one = Owned::fresh(alloc, 0, "t", "")?;
-    one.push(alloc, Two::of(alloc, "1")?)?;
-    assert_eq!(rt; one.counts(), (Gauges { head: TWO, ..live }, (2, 0)));
-    one.shard.seal_all(alloc)?;
-    assert_eq!(rt; one.counts(), (Gauges { block: TWO, ..live }, (2, 0)));
-    let ticket = one.claim(rt, alloc)?;
-    let claimed = one.counts();
-    let none_waits = one.claims_none(rt, alloc);
-    let mut refused = 0;
-    let uploaded = one.store(alloc, &mut store.end(rt, Fuse::None), ticket, &mut refused)?;
-    let flies = Gauges {
-        flight: TWO,
-        ..live
-    };
-    assert_eq!(rt;
-        (claimed, none_waits, uploaded),
-        ((flies, (2, 0)), true, (flies, (2, 0)))
-    );
-    let stored = Gauges {
-        stored: TWO,
-        ..Gauges::default()
-    };
-    assert_eq!(rt; one.counts(), (stored, (2, 2)));
-    assert!(rt; one.claims_none(rt, alloc));
-    Ok(refused)
-}
-
-#[test]
-fn a_chunk_goes_from_a_head_into_the_store(rt: HostRuntime) -> Result<(), Fail> {
-    let store = MemoryStore::new(rt.alloc())?;
-    let refused = store_two(&rt, rt.alloc(), &store)?;
-    assert_eq!(rt; standing(&rt, rt.alloc(), &store)?, 2);
-    let written = store.written();
-    assert!(rt; 2 <= written && written <= refused.saturating_add(2));
-    Ok(())
-}
-
-/// The end with this fuse fails at an upload. By another end the chunk, claimed again, is then stored once.
+/// The end with this fuse fails at an upload. By another end the chunk, claimed again, is then stored once, and only what does
+/// not stand yet is written.
 fn stores_after<R: Wait + Abort>(rt: &R, alloc: Global, fuse: Fuse) -> Result<(), Fail> {
     let store = MemoryStore::new(alloc)?;
-    let mut one = Owned::sealed(alloc, 0, "t")?;
+    let mut one = Owned::sealed(alloc, "t")?;
     let waiting = one.counts();
     let ticket = one.claim(rt, alloc)?;
     let fault = upload(alloc, &mut store.end(rt, fuse), &ticket, &mut 0).err();
@@ -307,16 +192,46 @@ fn stores_after<R: Wait + Abort>(rt: &R, alloc: Global, fuse: Fuse) -> Result<()
 
 #[test]
 fn a_chunk_is_stored_once_after_a_failed_put(rt: HostRuntime) -> Result<(), Fail> {
-    for fuse in [Fuse::Failed(0), Fuse::StoredYetFailed(0)] {
+    for fuse in [
+        Fuse::Failed(0),
+        Fuse::Failed(1),
+        Fuse::StoredYetFailed(0),
+        Fuse::StoredYetFailed(1),
+        Fuse::FailedFrom(0),
+        Fuse::FailedFrom(1),
+    ] {
         stores_after(&rt, rt.alloc(), fuse)?;
     }
     Ok(())
 }
 
-/// Whether a ticket of shard 0 for a chunk of tenant `t` is answered as a stray by another shard when it is given back there,
-/// and both shards keep what they have.
+/// A ticket for a chunk of tenant `t` is a stray in a shard where the same chunk of tenant `u` is in flight, under the same number
+/// and at the same place.
+#[test]
+fn a_ticket_is_strange_to_another_shard(rt: HostRuntime) -> Result<(), Fail> {
+    let alloc = rt.alloc();
+    let store = MemoryStore::new(alloc)?;
+    let mut other = Owned::sealed(alloc, "u")?;
+    let own = other.claim(&rt, alloc)?;
+    let strange = is_strange_to(&rt, alloc, &store, &mut other);
+    let flew = other.shard.give_back(own).is_ok();
+    assert!(rt; strange? && flew);
+    Ok(())
+}
+
+/// Whether the other shard refuses tickets of a shard of tenant `t`, given back and finished.
+fn is_strange_to<'a, R: Wait + Abort>(
+    rt: &'a R,
+    alloc: Global,
+    store: &'a MemoryStore,
+    other: &mut Owned<'a>,
+) -> Result<bool, Fail> {
+    Ok(is_stray_to(rt, alloc, other)? && is_stranger_to(rt, alloc, store, other)?)
+}
+
+/// Whether a ticket is a stray where it is given back to the other shard, and both shards keep what they have.
 fn is_stray_to(rt: &impl Abort, alloc: Global, other: &mut Owned<'_>) -> Result<bool, Fail> {
-    let mut one = Owned::sealed(alloc, 0, "t")?;
+    let mut one = Owned::sealed(alloc, "t")?;
     let ticket = one.claim(rt, alloc)?;
     let before = (one.counts(), other.counts());
     let Err(stray) = other.shard.give_back(ticket) else {
@@ -326,14 +241,14 @@ fn is_stray_to(rt: &impl Abort, alloc: Global, other: &mut Owned<'_>) -> Result<
     Ok(named && (one.counts(), other.counts()) == before)
 }
 
-/// The same when it is finished there: what was uploaded comes back.
+/// The same where it is finished there: what was uploaded comes back.
 fn is_stranger_to<'a, R: Wait + Abort>(
     rt: &'a R,
     alloc: Global,
     store: &'a MemoryStore,
     other: &mut Owned<'a>,
 ) -> Result<bool, Fail> {
-    let mut one = Owned::sealed(alloc, 0, "t")?;
+    let mut one = Owned::sealed(alloc, "t")?;
     let ticket = one.claim(rt, alloc)?;
     let before = (one.counts(), other.counts());
     let flushed = match upload(alloc, &mut store.end(rt, Fuse::None), &ticket, &mut 0) {
@@ -346,85 +261,7 @@ fn is_stranger_to<'a, R: Wait + Abort>(
     let Err(stranger) = other.shard.finish(ticket, flushed) else {
         return Ok(false);
     };
-    let chunk = stranger.flushed.listing.receipt().object.name();
-    let row = stranger.flushed.row.object.name();
-    let named = chunk == CHUNK_NAME && row == ROW_NAME;
+    let named = stranger.flushed.row.object.name() == ROW_NAME
+        && stranger.flushed.listing.receipt().object.name() == CHUNK_NAME;
     Ok(named && (one.counts(), other.counts()) == before)
-}
-
-/// Whether a ticket of shard 0 is strange to another shard, which keeps what it has.
-fn is_strange_to<'a, R: Wait + Abort>(
-    rt: &'a R,
-    alloc: Global,
-    store: &'a MemoryStore,
-    other: &mut Owned<'a>,
-) -> Result<bool, Fail> {
-    Ok(is_stray_to(rt, alloc, other)? && is_stranger_to(rt, alloc, store, other)?)
-}
-
-/// The same for a shard of this number and tenant, in which the same chunk of a stream of the same number is in flight too.
-fn is_strange_beside<'a, R: Wait + Abort>(
-    rt: &'a R,
-    alloc: Global,
-    store: &'a MemoryStore,
-    number: u32,
-    tenant: &str,
-) -> Result<bool, Fail> {
-    let mut other = Owned::sealed(alloc, number, tenant)?;
-    let ticket = other.claim(rt, alloc)?;
-    let strange = is_strange_to(rt, alloc, store, &mut other);
-    let flew = other.shard.give_back(ticket).is_ok();
-    Ok(strange? && flew)
-}
-
-#[test]
-fn a_ticket_is_strange_to_another_shard(rt: HostRuntime) -> Result<(), Fail> {
-    let store = MemoryStore::new(rt.alloc())?;
-    for (number, tenant) in [(1, "t"), (0, "u")] {
-        let strange = is_strange_beside(&rt, rt.alloc(), &store, number, tenant)?;
-        assert!(rt; strange, "{number}, {tenant}");
-    }
-    let mut empty = Owned::fresh(rt.alloc(), 0, "t", "")?;
-    assert!(rt; is_strange_to(&rt, rt.alloc(), &store, &mut empty)?);
-    Ok(())
-}
-
-/// A second stream is one too many while the chunk of the first is in its head, in a block and in flight.
-fn is_live_until_stored<'a, R: Wait + Abort>(
-    rt: &'a R,
-    alloc: Global,
-    store: &'a MemoryStore,
-) -> Result<(), Fail> {
-    let many = Verdict::TooManyStreams { live: 1 };
-    let mut one = Owned::fresh(alloc, 0, "t", "max_streams_per_tenant = 1\n")?;
-    one.push(alloc, Two::of(alloc, "1")?)?;
-    assert_eq!(rt;
-        one.push(alloc, Two::of(alloc, "2")?)?.as_slice(),
-        [many, many].as_slice()
-    );
-    one.shard.seal_all(alloc)?;
-    assert_eq!(rt;
-        one.push(alloc, Two::of(alloc, "2")?)?.as_slice(),
-        [many, many].as_slice()
-    );
-    let two = Two::of(alloc, "2")?;
-    let ticket = one.claim(rt, alloc)?;
-    let in_flight = one.push(alloc, two);
-    one.store(alloc, &mut store.end(rt, Fuse::None), ticket, &mut 0)?;
-    assert_eq!(rt; in_flight?.as_slice(), [many, many].as_slice());
-    let accepted = [
-        Verdict::Accepted { number: 0 },
-        Verdict::Accepted { number: 1 },
-    ];
-    assert_eq!(rt;
-        one.push(alloc, Two::of(alloc, "2")?)?.as_slice(),
-        accepted.as_slice()
-    );
-    Ok(())
-}
-
-#[test]
-fn a_stream_is_live_until_its_chunk_is_stored(rt: HostRuntime) -> Result<(), Fail> {
-    let store = MemoryStore::new(rt.alloc())?;
-    is_live_until_stored(&rt, rt.alloc(), &store)
 }

@@ -1,6 +1,5 @@
-//! Worlds, and what they answer.
+//! Worlds that were worked out, and what they answer.
 use crate::flushes::{LIMITS, stamp};
-use crate::shard::Lots;
 use ing_labels::{Labels, Selector};
 use ing_limits::Settings;
 use ing_parts::{Order, Question};
@@ -177,53 +176,5 @@ fn worlds_answer_as_they_were_worked_out(rt: HostRuntime) -> Result<(), Fail> {
         }
         assert_eq!(rt; (gauges.stored.entries, gauges.streams), (1, 0));
     }
-    Ok(())
-}
-
-/// An act by lot. Tickets are named up to the fourth.
-fn drawn(lots: &mut Lots, time: u64) -> Act {
-    let ticket = (lots.draw() % 4) as usize;
-    let object = if lots.draw() % 2 == 0 { Chunk } else { Row };
-    match lots.draw() % 12 {
-        0 | 1 => Act::Push(time),
-        2 => Act::SealAll,
-        3 | 4 => Act::Claim(0),
-        5..=7 => Act::Put(ticket, object, Stored),
-        8 => Act::Put(ticket, object, StoredYetFailed),
-        9 => Act::Finish(ticket),
-        10 => Act::GiveBack(ticket),
-        _ => Act::Query,
-    }
-}
-
-/// Whatever becomes of them, as many entries are found as were pushed before, each at another time.
-#[test]
-fn drawn_worlds_find_what_was_pushed(rt: HostRuntime) -> Result<(), Fail> {
-    let mut lots = Lots {
-        state: 0x2026_1124_0000_0001,
-    };
-    let mut finished = 0u64;
-    let mut given_back = 0u64;
-    for list in 0..200u64 {
-        let mut acts = Vec::new(rt.alloc());
-        for time in 1..60u64 {
-            acts.push(drawn(&mut lots, time))?;
-        }
-        let (told, _) = run(&rt, rt.alloc(), &acts)?;
-        let mut pushed = 0usize;
-        for reply in &told {
-            match reply {
-                Told::Pushed(count) => pushed = pushed.saturating_add(*count),
-                Told::Found(count) => assert_eq!(rt; *count, pushed, "{list}"),
-                Told::Finished => finished = finished.saturating_add(1),
-                Told::GivenBack => given_back = given_back.saturating_add(1),
-                _ => {}
-            }
-        }
-    }
-    assert!(rt;
-        finished > 20 && given_back > 100,
-        "{finished}, {given_back}"
-    );
     Ok(())
 }

@@ -13,9 +13,9 @@ const LIMITS: LabelLimits = LabelLimits {
     value_bytes: 2048,
 };
 
-/// Small blocks and chunks, short times, and at most two entries a push.
+/// Small blocks and chunks, short times, and at most two entries a push. The second tenant has limits of its own.
 pub const SETTINGS: &str =
-    "chunk_block_size = 40\nchunk_target_size = 100\nchunk_idle_period = \"12ns\"\nmax_chunk_age = \"40ns\"\nmax_entries_per_push = 2\n";
+    "chunk_block_size = 40\nchunk_target_size = 100\nchunk_idle_period = \"12ns\"\nmax_chunk_age = \"40ns\"\nmax_entries_per_push = 2\n[tenants.u]\nmax_line_size = 3\nmax_streams_per_tenant = 2\n";
 
 /// The idle period and the greatest age of a chunk in these settings, in nanoseconds.
 pub const IDLE: u64 = 12;
@@ -25,7 +25,10 @@ pub const AGE: u64 = 40;
 /// The size at which a chunk is full in these settings, in bytes.
 pub const TARGET: u64 = 100;
 
-/// The labels of the streams, in the order of their names.
+/// The tenants.
+pub const TENANTS: [&str; 2] = ["t", "u"];
+
+/// The labels of each tenant's streams, in the order of their names.
 const STREAMS: [[(&str, &str); 2]; 3] = [
     [("a", "1"), ("b", "1")],
     [("a", "1"), ("b", "")],
@@ -50,10 +53,11 @@ pub struct Logged {
     pub line: usize,
 }
 
-/// What happens. Streams and selectors are told by their places in the lists above, times and stamps in nanoseconds.
+/// What happens. Tenants, streams and selectors are told by their places in the lists above, times and stamps in nanoseconds.
 #[derive(Clone, Copy, Debug)]
 pub enum Act {
     Push {
+        tenant: usize,
         stream: usize,
         now: u64,
         entries: [Logged; 3],
@@ -66,14 +70,15 @@ pub enum Act {
     Finish(usize),
     GiveBack(usize),
     Query {
+        tenant: usize,
         selector: usize,
         question: Question,
     },
 }
 
-/// The tenant of all streams.
-pub fn tenant(alloc: Global) -> Result<Tenant> {
-    Ok(Tenant::of_text(alloc, "t")?)
+/// A tenant.
+pub fn tenant(alloc: Global, tenant: usize) -> Result<Tenant> {
+    Ok(Tenant::of_text(alloc, TENANTS.get(tenant).context("a tenant")?)?)
 }
 
 /// The labels of a stream.
@@ -111,12 +116,13 @@ impl Act {
     pub fn event(self, alloc: Global) -> Result<WorldEvent> {
         Ok(match self {
             Act::Push {
+                tenant: of,
                 stream,
                 now,
                 entries: logged,
                 count,
             } => WorldEvent::Push {
-                tenant: tenant(alloc)?,
+                tenant: tenant(alloc, of)?,
                 labels: labels(alloc, stream)?,
                 entries: entries(alloc, &logged, count)?,
                 now: stamp(now)?,
@@ -133,8 +139,12 @@ impl Act {
             },
             Act::Finish(ticket) => WorldEvent::Finish { ticket },
             Act::GiveBack(ticket) => WorldEvent::GiveBack { ticket },
-            Act::Query { selector, question } => WorldEvent::Query {
-                tenant: tenant(alloc)?,
+            Act::Query {
+                tenant: of,
+                selector,
+                question,
+            } => WorldEvent::Query {
+                tenant: tenant(alloc, of)?,
                 selector: Selector::parse(alloc, SELECTORS.get(selector).context("a selector")?.0)?,
                 question,
             },

@@ -4,6 +4,7 @@ use crate::slow::{Kept, Slow, Wanted};
 use anyhow::{Context, Result, bail};
 use ing_limits::Settings;
 use ing_parts::Found;
+use ing_rows::Verdict;
 use ing_store::MemoryStore;
 use ing_world::{Reply, names_are_short, run_world};
 use std::alloc::Global;
@@ -20,7 +21,11 @@ pub struct Met {
     finishes: u64,
     give_backs: u64,
     queries: u64,
-    judged: u64,
+    accepted: u64,
+    duplicate: u64,
+    line_too_long: u64,
+    too_far_behind: u64,
+    too_many_streams: u64,
     refused: u64,
     sealed: u64,
     claimed: u64,
@@ -52,7 +57,7 @@ impl Met {
 
     fn reply(&mut self, reply: &Reply) {
         match reply {
-            Reply::Pushed(verdicts) => count(&mut self.judged, verdicts.len() as u64),
+            Reply::Pushed(verdicts) => self.verdicts(verdicts),
             Reply::TooManyEntries | Reply::CounterFull => count(&mut self.refused, 1),
             Reply::Sealed(chunks) => count(&mut self.sealed, *chunks),
             Reply::Claimed(_) => count(&mut self.claimed, 1),
@@ -62,6 +67,19 @@ impl Met {
             Reply::GivenBack => count(&mut self.given_back, 1),
             Reply::Found(found) => count(&mut self.found, found.len() as u64),
             Reply::Nothing => count(&mut self.nothing, 1),
+        }
+    }
+
+    fn verdicts(&mut self, verdicts: &[Verdict]) {
+        for verdict in verdicts {
+            let met = match verdict {
+                Verdict::Accepted { .. } => &mut self.accepted,
+                Verdict::Duplicate => &mut self.duplicate,
+                Verdict::LineTooLong => &mut self.line_too_long,
+                Verdict::TooFarBehind { .. } => &mut self.too_far_behind,
+                Verdict::TooManyStreams { .. } => &mut self.too_many_streams,
+            };
+            count(met, 1);
         }
     }
 
@@ -79,9 +97,16 @@ impl Met {
             self.queries
         )?;
         println!(rt;
-            "judged {}, refused {}, sealed {}, claimed {}, stored {}, failed {}, finished {}, given back {}, found {}, nothing {}",
-            self.judged,
-            self.refused,
+            "accepted {}, duplicate {}, line too long {}, too far behind {}, too many streams {}, refused {}",
+            self.accepted,
+            self.duplicate,
+            self.line_too_long,
+            self.too_far_behind,
+            self.too_many_streams,
+            self.refused
+        )?;
+        println!(rt;
+            "sealed {}, claimed {}, stored {}, failed {}, finished {}, given back {}, found {}, nothing {}",
             self.sealed,
             self.claimed,
             self.stored,
@@ -148,9 +173,10 @@ pub fn differs<R: AllocGlobal + Wait>(rt: &R, acts: &[Act], met: &mut Met) -> Re
         bail!("a name is too long");
     }
     let settings = Settings::from_toml(alloc, SETTINGS)?;
-    let tenant = tenant(alloc)?;
+    let one = tenant(alloc, 0)?;
+    let other = tenant(alloc, 1)?;
     let (world, replies) = run_world(rt, alloc, &store, settings, &events)?;
-    let gauges = world.gauges(&tenant);
+    let gauges = (world.gauges(&one), world.gauges(&other));
     world.put_away();
     let mut slow = Slow::new(alloc)?;
     for (act, reply) in acts.iter().zip(&replies) {
@@ -160,7 +186,17 @@ pub fn differs<R: AllocGlobal + Wait>(rt: &R, acts: &[Act], met: &mut Met) -> Re
             return Ok(true);
         }
     }
-    Ok(replies.len() != acts.len() || gauges != slow.gauges())
+    Ok(replies.len() != acts.len() || gauges != (slow.gauges(0)?, slow.gauges(1)?))
+}
+
+/// Whether a world answers otherwise, or has other gauges, after any of these events.
+pub fn differs_on_the_way<R: AllocGlobal + Wait>(rt: &R, acts: &[Act]) -> Result<bool> {
+    for count in 0..acts.len() {
+        if differs(rt, &acts[..count], &mut Met::default())? {
+            return Ok(true);
+        }
+    }
+    Ok(false)
 }
 
 /// A list that differs yet, of which no event more can be left out alone.

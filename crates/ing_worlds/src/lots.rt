@@ -5,12 +5,14 @@ use ing_parts::{Order, Question};
 use ing_world::{Object, Outcome};
 use std::alloc::Global;
 
-/// Numbers by lot, the same in each run (xorshift of 64 bits), the time, and how many claims there were.
+/// Numbers by lot, the same in each run (xorshift of 64 bits), the time, how many claims there were, and how many tenants there
+/// are.
 #[derive(Drop)]
 struct Lots {
     state: u64,
     now: u64,
     claims: u64,
+    tenants: u64,
 }
 
 impl Lots {
@@ -38,6 +40,7 @@ impl Lots {
 
     fn push(&mut self) -> Act {
         Act::Push {
+            tenant: self.below(self.tenants) as usize,
             stream: self.below(3) as usize,
             now: self.now,
             entries: [self.logged(), self.logged(), self.logged()],
@@ -98,11 +101,24 @@ impl Lots {
             limit: self.below(12) as usize,
         };
         Act::Query {
+            tenant: self.below(self.tenants) as usize,
             selector: self.below(4) as usize,
             question,
         }
     }
 
+    /// An event of a list in which no chunk is claimed.
+    fn act_in_memory(&mut self) -> Act {
+        self.now = self.now.saturating_add(self.below(4));
+        match self.below(24) {
+            0..=15 => self.push(),
+            16..=19 => Act::Sweep(self.now),
+            20 => Act::SealAll,
+            _ => self.query(),
+        }
+    }
+
+    /// An event of any other list.
     fn act(&mut self) -> Act {
         self.now = self.now.saturating_add(self.below(4));
         match self.below(24) {
@@ -118,12 +134,20 @@ impl Lots {
     }
 }
 
+/// Whether no chunk is claimed in the list of this number, so that all entries stay in memory. Both tenants are pushed to there,
+/// and else the first alone: `Plain`, which stores nothing, would take a stream for live whose chunks are all stored.
+pub fn is_in_memory(list: u32) -> bool {
+    list % 8 == 7
+}
+
 /// The list of this number: up to 200 events.
 pub fn drawn(alloc: Global, list: u32) -> Result<Vec<Act>> {
+    let in_memory = is_in_memory(list);
     let mut lots = Lots {
         state: 0x2026_1124_9e37_79b9 ^ (u64::from(list) << 20),
         now: 100,
         claims: 0,
+        tenants: if in_memory { 2 } else { 1 },
     };
     // The last flush may bring two events more.
     let count = lots.below(199) as usize;
@@ -132,7 +156,9 @@ pub fn drawn(alloc: Global, list: u32) -> Result<Vec<Act>> {
         if acts.len() >= count {
             break;
         }
-        if lots.below(6) == 0 {
+        if in_memory {
+            acts.push(lots.act_in_memory())?;
+        } else if lots.below(6) == 0 {
             acts.extend(lots.flush())?;
         } else {
             acts.push(lots.act())?;

@@ -1,6 +1,6 @@
 //! The slow program: `Plain` judges and seals, and beside it stand lists of chunks, tickets and accepted entries.
 use crate::act::{
-    AGE, Act, IDLE, Logged, SELECTORS, SETTINGS, TARGET, entries, labels, size_of, tenant,
+    AGE, Act, IDLE, Logged, SELECTORS, SETTINGS, TARGET, TENANTS, entries, labels, size_of, tenant,
 };
 use anyhow::{Context, Result, bail};
 use ing_limits::Settings;
@@ -14,6 +14,9 @@ use std::alloc::Global;
 /// answer is.
 pub type Kept = (u64, usize, u64, usize);
 
+/// A stream: which of the tenants it is of, and which of the sets of labels it has.
+type Key = (usize, usize);
+
 /// Where a chunk is.
 #[derive(Clone, Copy, Debug, PartialEq, Eq)]
 enum At {
@@ -25,7 +28,7 @@ enum At {
 /// A chunk: its stream, its first number, what it counts, when it was added to last, its span, whether it is sealed.
 #[derive(Clone, Copy)]
 struct SlowChunk {
-    stream: usize,
+    key: Key,
     first: u64,
     count: Gauge,
     updated: u64,
@@ -63,30 +66,43 @@ pub enum Wanted {
 #[derive(Drop)]
 pub struct Slow {
     alloc: Global,
-    tenant: Tenant,
-    rules: Rules,
+    tenants: Vec<Owned>,
     plain: Plain,
     /// The streams in the order of their numbers.
-    listed: Vec<usize>,
+    listed: Vec<Key>,
     chunks: Vec<SlowChunk>,
     tickets: Vec<SlowTicket>,
+}
+
+/// A tenant, its rules, and its accepted entries.
+#[derive(Drop)]
+struct Owned {
+    tenant: Tenant,
+    rules: Rules,
     kept: Vec<Kept>,
 }
 
 impl Slow {
     /// Before any event.
     pub fn new(alloc: Global) -> Result<Slow> {
-        let tenant = tenant(alloc)?;
-        let rules = *Settings::from_toml(alloc, SETTINGS)?.for_tenant(&tenant);
+        let settings = Settings::from_toml(alloc, SETTINGS)?;
+        let mut tenants = Vec::new(alloc);
+        for index in 0..TENANTS.len() {
+            let tenant = tenant(alloc, index)?;
+            let rules = *settings.for_tenant(&tenant);
+            tenants.push(Owned {
+                tenant,
+                rules,
+                kept: Vec::new(alloc),
+            })?;
+        }
         Ok(Slow {
             alloc,
-            tenant,
-            rules,
+            tenants,
             plain: Plain::new(alloc),
             listed: Vec::new(alloc),
             chunks: Vec::new(alloc),
             tickets: Vec::new(alloc),
-            kept: Vec::new(alloc),
         })
     }
 
@@ -94,64 +110,65 @@ impl Slow {
     pub fn answer(&mut self, act: Act) -> Result<Wanted> {
         Ok(match act {
             Act::Push {
+                tenant,
                 stream,
                 now,
                 entries: logged,
                 count,
-            } => self.push(stream, now, &logged, count)?,
+            } => self.push((tenant, stream), now, &logged, count)?,
             Act::Sweep(now) => self.sweep(now)?,
             Act::SealAll => self.seal_all()?,
             Act::Claim(number) => self.claim(number)?,
             Act::Put(ticket, object, outcome) => self.put(ticket, object, outcome),
             Act::Finish(ticket) => self.finish(ticket),
             Act::GiveBack(ticket) => self.give_back(ticket),
-            Act::Query { selector, question } => self.query(selector, question)?,
+            Act::Query {
+                tenant,
+                selector,
+                question,
+            } => self.query(tenant, selector, question)?,
         })
     }
 
-    fn push(
-        &mut self,
-        stream: usize,
-        now: u64,
-        logged: &[Logged; 3],
-        count: usize,
-    ) -> Result<Wanted> {
-        if count as u64 > self.rules.max_entries_per_push {
+    fn push(&mut self, key: Key, now: u64, logged: &[Logged; 3], count: usize) -> Result<Wanted> {
+        let owned = self.tenants.get(key.0).context("a tenant")?;
+        if count as u64 > owned.rules.max_entries_per_push {
             return Ok(Wanted::TooManyEntries);
         }
-        let labels = labels(self.alloc, stream)?;
+        let labels = labels(self.alloc, key.1)?;
         let all = entries(self.alloc, logged, count)?;
         let verdicts = self.plain.push(
             self.alloc,
-            &self.rules,
-            &self.tenant,
+            &owned.rules,
+            &owned.tenant,
             labels.name(),
             all,
             now,
         )?;
         for (verdict, one) in verdicts.iter().zip(logged) {
             if let Verdict::Accepted { number } = verdict {
-                self.accept(stream, now, *one, *number)?;
+                self.accept(key, now, *one, *number)?;
             }
         }
         Ok(Wanted::Pushed(verdicts))
     }
 
     /// Puts an accepted entry into the growing chunk of its stream, or into a new one.
-    fn accept(&mut self, stream: usize, now: u64, one: Logged, number: u64) -> Result<()> {
+    fn accept(&mut self, key: Key, now: u64, one: Logged, number: u64) -> Result<()> {
         if number == 0 {
-            self.listed.push(stream)?;
+            self.listed.push(key)?;
         }
-        self.kept.push((one.stamp, stream, number, one.line))?;
+        let owned = self.tenants.get_mut(key.0).context("a tenant")?;
+        owned.kept.push((one.stamp, key.1, number, one.line))?;
         let size = size_of(one);
         for chunk in &mut self.chunks {
-            if chunk.stream == stream && !chunk.is_sealed {
+            if chunk.key == key && !chunk.is_sealed {
                 chunk.add(now, one.stamp, size);
                 return Ok(());
             }
         }
         let mut chunk = SlowChunk {
-            stream,
+            key,
             first: number,
             count: Gauge::default(),
             updated: now,
@@ -173,7 +190,8 @@ impl Slow {
                 sealed = sealed.saturating_add(1);
             }
         }
-        if self.plain.sweep(&self.rules, now) != sealed {
+        let owned = self.tenants.first().context("a tenant")?;
+        if self.plain.sweep(&owned.rules, now) != sealed {
             bail!("the slow programs seal otherwise");
         }
         Ok(Wanted::Sealed(sealed))
@@ -194,11 +212,11 @@ impl Slow {
     }
 
     fn claim(&mut self, number: u64) -> Result<Wanted> {
-        let Some(stream) = self.listed.get(number as usize).copied() else {
+        let Some(key) = self.listed.get(number as usize).copied() else {
             return Ok(Wanted::Nothing);
         };
         for (index, chunk) in self.chunks.iter_mut().enumerate() {
-            if chunk.stream == stream && chunk.is_sealed && chunk.at == At::Memory {
+            if chunk.key == key && chunk.is_sealed && chunk.at == At::Memory {
                 chunk.at = At::Flight;
                 self.tickets.push(SlowTicket {
                     chunk: index,
@@ -257,10 +275,10 @@ impl Slow {
     }
 
     /// Filter, order and cut of what was accepted.
-    fn query(&self, selector: usize, question: Question) -> Result<Wanted> {
+    fn query(&self, tenant: usize, selector: usize, question: Question) -> Result<Wanted> {
         let picks = SELECTORS.get(selector).context("a selector")?.1;
         let mut found = Vec::new(self.alloc);
-        for kept in &self.kept {
+        for kept in &self.tenants.get(tenant).context("a tenant")?.kept {
             if picks[kept.1 % 3] && question.start <= kept.0 && kept.0 < question.end {
                 found.push(*kept)?;
             }
@@ -273,18 +291,22 @@ impl Slow {
         Ok(Wanted::Found(found))
     }
 
-    /// The gauges of the tenant. What `Plain` has in blocks stands in blocks, in flight or in the store.
-    pub fn gauges(&self) -> Gauges {
-        let mut gauges = self.plain.gauges(&self.tenant);
+    /// The gauges of a tenant. What `Plain` has in blocks stands in blocks, in flight or in the store.
+    pub fn gauges(&self, tenant: usize) -> Result<Gauges> {
+        let owned = self.tenants.get(tenant).context("a tenant")?;
+        let mut gauges = self.plain.gauges(&owned.tenant);
         let mut live = [false; 3];
         for chunk in &self.chunks {
+            if chunk.key.0 != tenant {
+                continue;
+            }
             match chunk.at {
                 At::Memory => {}
                 At::Flight => moved(&mut gauges.block, &mut gauges.flight, chunk.count),
                 At::Stored => moved(&mut gauges.block, &mut gauges.stored, chunk.count),
             }
             if chunk.at != At::Stored {
-                if let Some(is_live) = live.get_mut(chunk.stream) {
+                if let Some(is_live) = live.get_mut(chunk.key.1) {
                     *is_live = true;
                 }
             }
@@ -295,7 +317,7 @@ impl Slow {
                 gauges.streams = gauges.streams.saturating_add(1);
             }
         }
-        gauges
+        Ok(gauges)
     }
 }
 
