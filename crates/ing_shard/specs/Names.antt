@@ -1,5 +1,6 @@
 -- The streams of a tenant by their names, as contracts see it.
-use Rattle.std.specs.Prelude.{ℕ, ◌*◌, ◌%◌, ◌^◌, List, Option, Some, None, fold, bit_xor, bytes_eq, if◌then◌else◌}
+use Rattle.std.specs.Prelude.{ℕ, List, Option, Some, None, bytes_eq, if◌then◌else◌}
+use Rattle.std.specs.Hash.FoldHasher as folding
 use Rattle.std.specs.Option.{option_map_or, option_or}
 use Rattle.std.specs.Ordering.{nat_cmp}
 use Rattle.std.specs.BTreeMap as tree
@@ -8,13 +9,9 @@ use Rattle.ing_labels.specs.Canonical.{canonical_of}
 use Rattle.ing_shard.specs.declared.names.Named.{Named}
 use Rattle.ing_shard.specs.declared.names.StreamNames.{StreamNames}
 
--- one round of FNV-1a with 64 bits
-abbrev pub hash_step : ℕ → ℕ → ℕ
-hash_step hash byte = (bit_xor hash byte * 0x100000001b3) % 2 ^ 64
-
--- FNV-1a with 64 bits, of the bytes of a name
+-- what the standard library's fast hasher gives for the bytes of a name
 unfoldable pub name_hash : List ℕ → ℕ
-name_hash name = fold hash_step 0xcbf29ce484222325 name
+name_hash name = folding.finish (folding.write folding.initial name)
 
 -- the number of a stream, where this is its canonical name
 abbrev pub number_if_named : List ℕ → Named → Option ℕ
