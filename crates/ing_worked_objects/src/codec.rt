@@ -9,11 +9,11 @@ use std::test::Fail;
 
 /// Tenant `t`, labels `{a="1"}`; number 1 at stamp 3 with `yz`, and number 0 at stamp 5 with `x`, in one
 /// block.
-const CHUNK: &[u8; 69] =
+pub(crate) const CHUNK: &[u8; 69] =
     b"INGC\x01\x01t\0\0\0\x07{a=\"1\"}\0\0\0\0\0\0\0\0\0\0\0\x01\0\0\0\x02\0\0\0\x01\0\0\0\0\0\0\0\x03\0\0\0\x02yz\0\0\0\0\0\0\0\0\0\0\0\x05\0\0\0\x01x";
 
 /// Its row up to the key: from number 0 on 2 entries of 35 bytes, with stamps from 3 to 5.
-const ROW_FRONT: &[u8; 54] =
+pub(crate) const ROW_FRONT: &[u8; 54] =
     b"INGR\x01\x01t\0\0\0\x07{a=\"1\"}\0\0\0\0\0\0\0\0\0\0\0\x02\0\0\0\0\0\0\0\x23\0\0\0\0\0\0\0\x03\0\0\0\0\0\0\0\x05";
 
 /// Tenant `acme`, 17 labels, and from number 7 on a block of 17 entries and one of 3.

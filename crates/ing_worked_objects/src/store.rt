@@ -1,4 +1,5 @@
 //! A store in memory by its ends: what stands is found and got, and calls fail as their fuse says.
+use crate::codec::{CHUNK, ROW_FRONT};
 use ing_codec::{chunk_key, decode_chunk, decode_row};
 use ing_store::{Fuse, MemoryStore, StoreEnd, StoreFault, put_chunk, put_row};
 use std::alloc::Global;
@@ -7,17 +8,8 @@ use std::sync::Wait;
 use std::test::Fail;
 use std::thread;
 
-/// Tenant `t`, labels `{a="1"}`; number 1 at stamp 3 with `yz`, and number 0 at stamp 5 with `x`, in one
-/// block.
-const CHUNK: &[u8; 69] =
-    b"INGC\x01\x01t\0\0\0\x07{a=\"1\"}\0\0\0\0\0\0\0\0\0\0\0\x01\0\0\0\x02\0\0\0\x01\0\0\0\0\0\0\0\x03\0\0\0\x02yz\0\0\0\0\0\0\0\0\0\0\0\x05\0\0\0\x01x";
-
-/// The name of its object.
+/// The name of the object of that chunk.
 const CHUNK_NAME: &str = "c-a77cfad997bb7b87f2438dfcd0d7b04ff6457a69d5c94a4b73fc483b009f83f2";
-
-/// Its row up to the key: from number 0 on 2 entries of 35 bytes, with stamps from 3 to 5.
-const ROW_FRONT: &[u8; 54] =
-    b"INGR\x01\x01t\0\0\0\x07{a=\"1\"}\0\0\0\0\0\0\0\0\0\0\0\x02\0\0\0\0\0\0\0\x23\0\0\0\0\0\0\0\x03\0\0\0\0\0\0\0\x05";
 
 /// The name of the row's object.
 const ROW_NAME: &str =
