@@ -1,5 +1,5 @@
 -- Entries that are put into a copy beside the chunks that wait.
-use Rattle.std.proofs.Common.{◌≡◌, ℕ, ◌+◌, ◌≤◌, ◌^◌, Bool, true, false, List, [], ◌∷◌, ◌++◌, length, refl, sym, ap, subst, ◌∙◌, arith, append_assoc, append-nil}
+use Rattle.std.proofs.Common.{◌≡◌, ℕ, ◌+◌, ◌≤◌, ◌^◌, Bool, true, false, List, [], ◌∷◌, ◌++◌, length, refl, sym, ap, subst, ◌∙◌, arith, append_assoc, append-nil, None}
 use Rattle.std.specs.Prelude.{All, sum_by}
 use Rattle.std.proofs.lemmas.List.Elements.{All-nil, All-head, All-tail}
 use Rattle.std.proofs.lemmas.List.Sums.{sum_by_push}
@@ -19,11 +19,15 @@ framed before c = record c { waiting = before ++ c.waiting }
 pub alone : (c : ChunksContents) → AreChunks c → AreChunks (record c { waiting = [] })
 alone c good = record { growing = good.growing; waiting = All-nil (IsWaiting (chunk_to_grow c).first); in_turn = record { base = (chunk_to_grow c).first; follow = refl }; few = good.few }
 
+-- no chunk
+pub nothing : (next : ℕ) → next ≤ 2 ^ 62 → AreChunks (record { next = next; waiting = []; growing = None })
+nothing next few = record { growing = tt; waiting = All-nil (IsWaiting next); in_turn = record { base = next; follow = refl }; few = few }
+
 placed_framed : (full cuts : Bool) (block : List Numbered) (g : ChunkContents) (before : List ChunkContents) (c : ChunksContents) → framed before (placed full cuts block g c) ≡ placed full cuts block g (framed before c)
 placed_framed true cuts block g before c = ap (λ (l : List ChunkContents). record { next = c.next + 1; waiting = l; growing = (placed true cuts block g c).growing }) (sym (append_assoc before c.waiting (settled true cuts block g ∷ [])))
 placed_framed false cuts block g before c = refl
 
-takes_framed : (rules : Rules) (now : ℕ) (es : List Entry) (before : List ChunkContents) (c d : ChunksContents) → Takes rules now es c d → Takes rules now es (framed before c) (framed before d)
+pub takes_framed : (rules : Rules) (now : ℕ) (es : List Entry) (before : List ChunkContents) (c d : ChunksContents) → Takes rules now es c d → Takes rules now es (framed before c) (framed before d)
 takes_framed rules now [] before c d takes = ap (framed before) takes
 takes_framed rules now (e ∷ es) before c d (mid, one, rest) =
     let g = with_entry e c.next now (chunk_to_grow c) in

@@ -1,6 +1,7 @@
 mod Added
 mod Aside
 mod Begun
+mod Behind
 pub mod Between
 mod Claimed
 mod Covered

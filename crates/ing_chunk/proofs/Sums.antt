@@ -1,5 +1,5 @@
 -- What is kept of entries, as they grow and are put in order.
-use Rattle.std.proofs.Common.{◌≡◌, ◌≢◌, ℕ, ◌+◌, ◌<◌, ◌≤◌, max, min, List, [], ◌∷◌, ◌++◌, length, sym, ap, ◌∙◌, arith, append_assoc, append-nil, length-append, cond, nat_eq, sum_by}
+use Rattle.std.proofs.Common.{◌≡◌, ◌≢◌, ℕ, ◌+◌, ◌<◌, ◌≤◌, max, min, List, [], ◌∷◌, ◌++◌, length, sym, ap, ◌∙◌, arith, append_assoc, append-nil, length-append, cond, nat_eq, sum_by, refl}
 use Rattle.std.specs.Prelude.{All, IsPermutation}
 use Rattle.std.proofs.lemmas.List.Sorted.{sum_by-IsPermutation, length_permutation, IsPermutation-sym, All-permutation}
 use Rattle.std.proofs.lemmas.List.Sums.{sum_by-append}
@@ -23,9 +23,12 @@ pub greatest-append : (xs ys : List Numbered) → greatest_of (xs ++ ys) ≡ max
 greatest-append [] ys = omega arith
 greatest-append (x ∷ xs) ys = omega (arith, greatest-append xs ys)
 
+pub in_blocks-append : (bs cs : List (List Numbered)) → in_blocks (bs ++ cs) ≡ in_blocks bs ++ in_blocks cs
+in_blocks-append [] cs = refl
+in_blocks-append (b ∷ bs) cs = ap (λ l. b ++ l) (in_blocks-append bs cs) ∙ sym (append_assoc b (in_blocks bs) (in_blocks cs))
+
 pub in_blocks-more : (bs : List (List Numbered)) (b : List Numbered) → in_blocks (bs ++ b ∷ []) ≡ in_blocks bs ++ b
-in_blocks-more [] b = append-nil b
-in_blocks-more (c ∷ bs) b = ap (λ l. c ++ l) (in_blocks-more bs b) ∙ sym (append_assoc c (in_blocks bs) b)
+in_blocks-more bs b = in_blocks-append bs (b ∷ []) ∙ ap (λ l. in_blocks bs ++ l) (append-nil b)
 
 pub size_reordered : (xs ys : List Numbered) → IsPermutation xs ys → size_of_entries ys ≡ size_of_entries xs
 size_reordered xs ys h = sum_by-IsPermutation (λ (e : Numbered). size_of e.entry) xs ys h

@@ -11,7 +11,7 @@ use Rattle.ing_chunk.specs.Chunks.{ChunkContents, ChunksContents, size_of_entrie
 use Rattle.ing_chunk.proofs.Sums.{size-append}
 use Rattle.ing_chunk.proofs.Added.{takes_open, some_grows}
 
-not_reached : (size limit : ℕ) → size < limit → nat_le limit size ≡ false
+pub not_reached : (size limit : ℕ) → size < limit → nat_le limit size ≡ false
 not_reached size limit h = grind (arith, nat_tests)
 
 module _ (rules : Rules) (now : ℕ) where

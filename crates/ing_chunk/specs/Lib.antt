@@ -5,3 +5,4 @@ pub mod KeptBlocks
 pub mod KeptHead
 pub mod KeptChunk
 pub mod KeptChunks
+pub mod Behind
