@@ -1,9 +1,7 @@
 -- One stream of the list has changed: what is kept beside the streams can be changed with it.
-use Rattle.std.proofs.Common.{◌≡◌, ℕ, ◌+◌, ◌^◌, ◌<◌, ◌≤◌, List, [], ◌∷◌, ◌++◌, length, get_or, set, suc, take, drop, true, Some, cond, nat_lt, refl, ap, sym, ◌∙◌, subst, arith, append-nil}
-use Rattle.std.specs.Prelude.{All, bytes_eq, sum_by}
-use Rattle.std.proofs.Math.Seq.{drop-cons, get_or-append_seam, set-append_seam}
-use Rattle.std.proofs.lemmas.List.{length-take-le, take-append-drop}
-use Rattle.std.proofs.lemmas.List.Elements.{All-append, All-cons, All-nil}
+use Rattle.std.proofs.Common.{◌≡◌, ℕ, ◌+◌, ◌^◌, ◌<◌, ◌≤◌, List, [], ◌∷◌, ◌++◌, length, get_or, set, suc, take, drop, true, Some, cond, nat_lt, refl, ap, sym, ◌∙◌, subst, arith, append-nil, All, bytes_eq, sum_by, drop-cons}
+use Rattle.std.proofs.lemmas.List.Elements.{All-push}
+use Rattle.std.proofs.lemmas.List.{get_or_at, length-take-le, set_at, take-append-drop}
 use Rattle.ing_rows.specs.Rows.{StreamKey, empty_state, is_stored}
 use Rattle.ing_stream.specs.Sums.{gauge_at}
 use Rattle.ing_stream.proofs.GaugeLaws.{gauge_claimed}
@@ -12,9 +10,10 @@ use Rattle.ing_shard.specs.Flights.{AreApart}
 use Rattle.ing_shard.specs.declared.streams.Streams.{Streams}
 use Rattle.ing_shard.specs.Streams.{key_of, part_of, position_of, AreDistinct, IsKept, AreHeld, Stays, measure_of, measures_of}
 use Rattle.ing_shard.specs.Tenants.{Fits, IsWithin, changed, find_of, is_known, kept_of, posted_of}
-use Rattle.ing_shard.proofs.HeldLaws.{apart_kept, held_changed, measures_more, measures_nothing, middle, replaced}
+use Rattle.ing_shard.proofs.CountLaws.{middle, replaced, sum_split}
+use Rattle.ing_shard.proofs.HeldLaws.{apart_kept, held_changed, measures_more, measures_nothing}
 use Rattle.ing_shard.proofs.PositionLaws.{position_splits, splits_read}
-use Rattle.ing_shard.proofs.SumLaws.{sum_split, within}
+use Rattle.ing_shard.proofs.SumLaws.{within}
 use Rattle.ing_shard.proofs.TakeLaws.{sums_fit, changed_own}
 use Rattle.ing_shard.proofs.WholeLaws.{AreOthers}
 
@@ -56,61 +55,69 @@ listed_at s sts i st distinct listed read =
       others = split.others;
     }
 
+pub around_listed : {R : Type 0} (old : Streams R) (held : AreHeld old) (i : ℕ) → (s : StreamKey) × (position_of s old.list.items ≡ Some i) → (st : Stream) → st ≡ get_or old.list.items i st → Around old.list.items i st
+around_listed old held i listed st read = (listed_at listed.0 old.list.items i st held.distinct listed.1 read).around
+
 module _ (sts front : List Stream) (st : Stream) (back : List Stream) (i : ℕ) (is : sts ≡ front ++ st ∷ back) (at : length front ≡ i) where
   pub read_there : (d : Stream) → get_or sts i d ≡ st
-  read_there d = (λ j. get_or (is j) (sym at j) d) ∙ get_or-append_seam front st back d
+  read_there d = ap (λ l. get_or l i d) is ∙ get_or_at front st back d i at
 
   pub written_there : (new : Stream) → set sts i new ≡ front ++ new ∷ back
-  written_there new = (λ j. set (is j) (sym at j) new) ∙ set-append_seam front st back new
+  written_there new = ap (λ l. set l i new) is ∙ set_at front st back new i at
 
-module _ {R : Type 0} (old : Streams R) (front : List Stream) (st : Stream) (back : List Stream) (held : AreHeld old) (was : old.list.items ≡ front ++ st ∷ back) where
-  sums_here : kept_of old.tenants st.tenant ≡ measures_of st.tenant (front ++ st ∷ back)
-  sums_here = held.sums st.tenant ∙ ap (measures_of st.tenant) was
+pub written_in : {sts : List Stream} {i : ℕ} {st : Stream} (split : Around sts i st) (new : Stream) → set sts i new ≡ split.front ++ new ∷ split.back
+written_in {sts} {i} {st} split new = written_there sts split.front st split.back i split.is split.at new
+
+module _ {R : Type 0} (old : Streams R) {i : ℕ} {st : Stream} (held : AreHeld old) (split : Around old.list.items i st) where
+  sums_here : kept_of old.tenants st.tenant ≡ measures_of st.tenant (split.front ++ st ∷ split.back)
+  sums_here = held.sums st.tenant ∙ ap (measures_of st.tenant) split.is
+
+  all_kept : All IsKept (split.front ++ st ∷ split.back)
+  all_kept = subst (All IsKept) split.is held.kept
 
   pub kept_here : IsKept st
-  kept_here = middle IsKept front st back (subst (All IsKept) was held.kept)
+  kept_here = middle IsKept split.front st split.back all_kept
 
   pub known_here : is_known old.tenants st.tenant ≡ true
-  known_here = middle (λ (o : Stream). is_known old.tenants o.tenant ≡ true) front st back (subst (All (λ (o : Stream). is_known old.tenants o.tenant ≡ true)) was held.known)
+  known_here = middle (λ (o : Stream). is_known old.tenants o.tenant ≡ true) split.front st split.back (subst (All (λ (o : Stream). is_known old.tenants o.tenant ≡ true)) split.is held.known)
 
   pub within_here : IsWithin (measure_of st) (kept_of old.tenants st.tenant)
-  within_here = subst (IsWithin (measure_of st)) (sym sums_here) (within front st back)
+  within_here = subst (IsWithin (measure_of st)) (sym sums_here) (within split.front st split.back)
 
-  pub fits_here : (now : Stream) → IsKept now → now.tenant ≡ st.tenant → sum_by (λ o. o.chunks.memory.next) (front ++ now ∷ back) ≤ 2 ^ 62 → Fits (changed (kept_of old.tenants st.tenant) (measure_of st) (measure_of now))
+  pub all_entries : ◌≡◌ {A = ℕ} old.entries (st.chunks.memory.next + sum_by (λ (o : Stream). o.chunks.memory.next) (split.front ++ split.back))
+  all_entries = held.entries ∙ ap (sum_by (λ o. o.chunks.memory.next)) split.is ∙ sum_split (λ o. o.chunks.memory.next) split.front st split.back
+
+  pub fits_here : (now : Stream) → IsKept now → now.tenant ≡ st.tenant → old.entries + now.chunks.memory.next ≤ 2 ^ 62 + st.chunks.memory.next → Fits (changed (kept_of old.tenants st.tenant) (measure_of st) (measure_of now))
   fits_here now kept tenant few =
-      subst Fits (sym (ap (λ k. changed k (measure_of st) (measure_of now)) sums_here ∙ sym (changed_own front st now back tenant)))
-      (sums_fit st.tenant (front ++ now ∷ back) (replaced IsKept front st now back (subst (All IsKept) was held.kept) kept) few)
+      let before = all_entries in
+      subst Fits (sym (ap (λ k. changed k (measure_of st) (measure_of now)) sums_here ∙ sym (changed_own split.front st now split.back tenant)))
+      (sums_fit st.tenant (split.front ++ now ∷ split.back) (replaced IsKept split.front st now split.back all_kept kept)
+      (omega (arith, few, before, sum_split (λ (o : Stream). o.chunks.memory.next) split.front now split.back)))
 
   -- it has changed, but for its name and how many entries it has, and its tenant's sums are changed
-  pub stays_here : (new : Streams R) (now : Stream) → new.list.items ≡ front ++ now ∷ back → Stays st now
+  pub stays_here : (new : Streams R) (now : Stream) → new.list.items ≡ split.front ++ now ∷ split.back → Stays st now
       → ((t n : List ℕ) → find_of new.tenants t n ≡ find_of old.tenants t n)
       → ((t : List ℕ) → posted_of new.tenants t ≡ posted_of old.tenants t)
       → ((t : List ℕ) → is_known new.tenants t ≡ is_known old.tenants t)
       → ((t : List ℕ) → kept_of new.tenants t ≡ cond (bytes_eq st.tenant t) (changed (kept_of old.tenants st.tenant) (measure_of st) (measure_of now)) (kept_of old.tenants t))
       → new.entries ≡ old.entries → new.stored + (measure_of st).stored_entries ≡ old.stored + (measure_of now).stored_entries → new.active ≡ old.active
-      → AreApart new.flights (front ++ now ∷ back) → AreHeld new
+      → AreApart new.flights (split.front ++ now ∷ split.back) → AreHeld new
   stays_here new now is stays find posted known sums entries stored active apart =
       let next = stays.next in
       let few = held.few in
-      held_changed old new front st now back held was is stays.kept stays.tenant stays.labels find posted known sums
-      (omega (arith, entries, next))
-      stored
-      (λ i. active i + cond (nat_lt 0 (sym next i)) 1 0)
-      (omega (arith, entries, few))
-      apart
+      held_changed old new split.front st now split.back held split.is is stays.kept stays.tenant stays.labels find posted known sums
+      (omega (arith, entries, next)) stored (λ i. active i + cond (nat_lt 0 (sym next i)) 1 0) (omega (arith, entries, few)) apart
 
   -- and they can be
   pub stays_fits : (now : Stream) → Stays st now → Fits (changed (kept_of old.tenants st.tenant) (measure_of st) (measure_of now))
   stays_fits now stays =
       let next = stays.next in
       let few = held.few in
-      let before = held.entries ∙ ap (sum_by (λ o. o.chunks.memory.next)) was ∙ sum_split (λ o. o.chunks.memory.next) front st back in
-      let after = sum_split (λ (o : Stream). o.chunks.memory.next) front now back in
-      fits_here now stays.kept stays.tenant (omega (arith, next, few, before, after))
+      fits_here now stays.kept stays.tenant (omega (arith, next, few))
 
   -- no flight has two chunks, where the sealed chunks are the same
-  pub apart_here : (now : Stream) → now.chunks.sealed ≡ st.chunks.sealed → AreApart old.flights (front ++ now ∷ back)
-  apart_here now same = apart_kept old.flights front st now back (subst (AreApart old.flights) was held.flights) same
+  pub apart_here : (now : Stream) → now.chunks.sealed ≡ st.chunks.sealed → AreApart old.flights (split.front ++ now ∷ split.back)
+  apart_here now same = apart_kept old.flights split.front st now split.back (subst (AreApart old.flights) split.is held.flights) same
 
 -- a stream that was not listed begins with its first entries: it stands for the one without entries
 module _ {R : Type 0} (old : Streams R) (st now : Stream) (held : AreHeld old) (next : st.chunks.memory.next ≡ 0) (none : part_of st ≡ empty_state) (tenant : now.tenant ≡ st.tenant) where
@@ -129,4 +136,4 @@ module _ {R : Type 0} (old : Streams R) (st now : Stream) (held : AreHeld old) (
       sum_split (λ (o : Stream). o.chunks.memory.next) items now [] ∙ omega arith in
       let all = ap (sum_by (λ (o : Stream). o.chunks.memory.next)) (append-nil items) in
       subst Fits (sym begun_sums)
-      (sums_fit st.tenant (items ++ now ∷ []) (All-append IsKept items (now ∷ []) held.kept (All-cons IsKept now [] kept (All-nil IsKept))) (omega (arith, before, after, all, few)))
+      (sums_fit st.tenant (items ++ now ∷ []) (All-push IsKept items now held.kept kept) (omega (arith, before, after, all, few)))

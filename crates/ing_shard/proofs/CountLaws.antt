@@ -1,9 +1,8 @@
 -- Counts and sums over a shard's rows, stream by stream.
-use Rattle.std.proofs.Common.{◌≡◌, ◌≤◌, ℕ, ◌+◌, Bool, List, [], ◌∷◌, ◌++◌, length, cond, true, false, ◌&&◌, ◌==◌, nat_lt, refl, ap, sym, ◌∙◌, arith, filter}
-use Rattle.std.specs.Prelude.{All, IsPermutation, bytes_eq, sum_by}
-use Rattle.std.proofs.lemmas.List.Elements.{All-cons, All-head, All-nil, All-tail, filter-append}
-use Rattle.std.proofs.lemmas.List.{length-append}
-use Rattle.std.proofs.lemmas.List.Sums.{length-filter, sum_by-append}
+use Rattle.std.proofs.Common.{◌≡◌, ◌≤◌, ℕ, ◌+◌, Bool, List, [], ◌∷◌, ◌++◌, length, cond, true, false, ◌&&◌, ◌==◌, map, nat_lt, refl, ap, sym, ◌∙◌, subst, arith, filter, All, IsPermutation, bytes_eq, sum_by}
+use Rattle.std.proofs.lemmas.List.Elements.{All-head, All-set, All-tail, filter-append}
+use Rattle.std.proofs.lemmas.List.{length-append, map-append, set_at}
+use Rattle.std.proofs.lemmas.List.Sums.{count_by-le-length, length-filter, sum_by-append, sum_by-cons}
 use Rattle.std.proofs.lemmas.List.Sorted.{sum_by-IsPermutation}
 use Rattle.std.proofs.lemmas.Slice.Eq.{bytes_eq-Decides}
 use Rattle.ing_rows.specs.declared.place.Place.{Place}
@@ -30,17 +29,17 @@ pub filter_true : {X : Type 0} (xs : List X) → filter (λ x. true) xs ≡ xs
 filter_true [] = refl
 filter_true (x ∷ xs) = ap (λ ys. x ∷ ys) (filter_true xs)
 
+pub filter_const : {X : Type 0} (b : Bool) (xs : List X) → filter (λ x. b) xs ≡ cond b xs []
+filter_const true xs = filter_true xs
+filter_const false xs = filter_false xs
+
 filter_under : {X : Type 0} (b : Bool) (p : X → Bool) (xs : List X) → filter (λ x. b && p x) xs ≡ cond b (filter p xs) []
 filter_under true p xs = refl
 filter_under false p xs = filter_false xs
 
 -- no more pass than there are
 pub filter_short : {X : Type 0} (p : X → Bool) (xs : List X) → length (filter p xs) ≤ length xs
-filter_short p [] = omega arith
-filter_short p (x ∷ xs) = kept (p x) (filter_short p xs) where
-  kept : (b : Bool) → length (filter p xs) ≤ length xs → length (cond b (x ∷ filter p xs) (filter p xs)) ≤ length (x ∷ xs)
-  kept true h = omega (arith, h)
-  kept false h = omega (arith, h)
+filter_short p xs = omega (arith, length-filter p xs, count_by-le-length p xs)
 
 -- as many pass in another order
 pub reordered : {X : Type 0} (p : X → Bool) (xs ys : List X) → IsPermutation xs ys → length (filter p xs) ≡ length (filter p ys)
@@ -76,39 +75,63 @@ part_under st t p =
     (all_rows (key_of st) (λ r. (bytes_eq r.stream.tenant t && p r) ≡ (bytes_eq st.tenant t && p r)) (λ first block place e. refl) st.chunks)
     ∙ filter_under (bytes_eq st.tenant t) p (part_of st).rows
 
--- ---- all streams' rows
+-- ---- one of the streams apart
 
-pub sum_cons : {X : Type 0} (f : X → ℕ) (x : X) (xs : List X) → sum_by f (x ∷ xs) ≡ f x + sum_by f xs
-sum_cons f x xs =
-    let one : ◌≡◌ {A = ℕ} (0 + f x) (f x) = omega arith in
-    sum_by-append f (x ∷ []) xs ∙ ap (λ n. n + sum_by f xs) one
+pub middle : (P : Stream → Type 0) (front : List Stream) (st : Stream) (back : List Stream) → All P (front ++ st ∷ back) → P st
+middle P [] st back h = All-head P st back h
+middle P (f ∷ front) st back h = middle P front st back (All-tail P f (front ++ st ∷ back) h)
+
+pub replaced : (P : Stream → Type 0) (front : List Stream) (st new : Stream) (back : List Stream) → All P (front ++ st ∷ back) → P new → All P (front ++ new ∷ back)
+replaced P front st new back h p = subst (All P) (set_at front st back new (length front) refl) (All-set P (front ++ st ∷ back) (length front) new p h)
+
+pub map_same : {Y : Type 0} (f : Stream → Y) (front : List Stream) (st new : Stream) (back : List Stream) → f new ≡ f st → map f (front ++ new ∷ back) ≡ map f (front ++ st ∷ back)
+map_same f front st new back is = map-append f front (new ∷ back) ∙ ap (λ y. map f front ++ y ∷ map f back) is ∙ sym (map-append f front (st ∷ back))
+
+pub sum_split : (g : Stream → ℕ) (front : List Stream) (st : Stream) (back : List Stream) → sum_by g (front ++ st ∷ back) ≡ g st + sum_by g (front ++ back)
+sum_split g front st back = omega (arith, sum_by-append g front (st ∷ back), sum_by-cons g st back, sum_by-append g front back)
+
+cond_added : {X : Type 0} (f : X → ℕ) (b : Bool) (x : X) (xs : List X) → sum_by f (cond b (x ∷ xs) xs) ≡ cond b (f x) 0 + sum_by f xs
+cond_added f true x xs = sum_by-cons f x xs
+cond_added f false x xs = omega arith
+
+pub sum_filtered : {X : Type 0} (f : X → ℕ) (p : X → Bool) (xs : List X) → sum_by f (filter p xs) ≡ sum_by (λ x. cond (p x) (f x) 0) xs
+sum_filtered f p [] = refl
+sum_filtered f p (x ∷ xs) = cond_added f (p x) x (filter p xs) ∙ ap (λ n. cond (p x) (f x) 0 + n) (sum_filtered f p xs) ∙ sym (sum_by-cons (λ y. cond (p y) (f y) 0) x xs)
+
+-- among those that pass a test
+pub chosen_split : (p : Stream → Bool) (g : Stream → ℕ) (front : List Stream) (st : Stream) (back : List Stream) → sum_by g (filter p (front ++ st ∷ back)) ≡ cond (p st) (g st) 0 + sum_by g (filter p (front ++ back))
+chosen_split p g front st back =
+    sum_filtered g p (front ++ st ∷ back) ∙ sum_split (λ o. cond (p o) (g o) 0) front st back ∙ ap (λ n. cond (p st) (g st) 0 + n) (sym (sum_filtered g p (front ++ back)))
+
+-- how many pass a test
+pub count_split : (p : Stream → Bool) (front : List Stream) (st : Stream) (back : List Stream) → length (filter p (front ++ st ∷ back)) ≡ cond (p st) 1 0 + length (filter p (front ++ back))
+count_split p front st back =
+    length-filter p (front ++ st ∷ back) ∙ sum_split (λ o. cond (p o) 1 0) front st back ∙ ap (λ n. cond (p st) 1 0 + n) (sym (length-filter p (front ++ back)))
+
+-- ---- all streams' rows
 
 pub length_sum : {X : Type 0} (xs : List X) → length xs ≡ sum_by (λ x. 1) xs
 length_sum [] = refl
 length_sum {X} (x ∷ xs) =
     let more : ◌≡◌ {A = ℕ} (length (x ∷ xs)) (1 + length xs) = omega arith in
-    more ∙ ap (λ n. 1 + n) (length_sum xs) ∙ sym (sum_cons (λ (y : X). 1) x xs)
+    more ∙ ap (λ n. 1 + n) (length_sum xs) ∙ sym (sum_by-cons (λ (y : X). 1) x xs)
 
 -- a sum over a tenant's rows that pass a test is the sum of what its streams add
-summed : (b : Bool) (f : Row → ℕ) (rows more : List Row) (here rest : ℕ) → sum_by f rows ≡ here → sum_by f more ≡ rest → sum_by f (cond b rows [] ++ more) ≡ cond b (here + rest) rest
-summed true f rows more here rest h r = sum_by-append f rows more ∙ (λ i. h i + r i)
-summed false f rows more here rest h r = r
+chosen_sum : (b : Bool) (f : Row → ℕ) (rows : List Row) → sum_by f (cond b rows []) ≡ cond b (sum_by f rows) 0
+chosen_sum true f rows = refl
+chosen_sum false f rows = refl
 
-chosen_sum : (b : Bool) (g : Stream → ℕ) (st : Stream) (sts : List Stream) → sum_by g (cond b (st ∷ sts) sts) ≡ cond b (g st + sum_by g sts) (sum_by g sts)
-chosen_sum true g st sts = sum_cons g st sts
-chosen_sum false g st sts = refl
-
-pub tenant_sum : (t : List ℕ) (p : Row → Bool) (f : Row → ℕ) (g : Stream → ℕ) (sts : List Stream) → All (λ st. sum_by f (filter p (part_of st).rows) ≡ g st) sts
+pub tenant_sum : (t : List ℕ) (p : Row → Bool) (f : Row → ℕ) (g : Stream → ℕ) (sts : List Stream) → ((st : Stream) → sum_by f (filter p (part_of st).rows) ≡ g st)
     → sum_by f (filter (λ r. bytes_eq r.stream.tenant t && p r) (whole sts).rows) ≡ sum_by g (filter (λ st. bytes_eq st.tenant t) sts)
 tenant_sum t p f g [] each = refl
 tenant_sum t p f g (st ∷ sts) each =
     let b = bytes_eq st.tenant t in
-    let rest = filter (λ (r : Row). bytes_eq r.stream.tenant t && p r) (whole sts).rows in
-    let left = filter (λ (o : Stream). bytes_eq o.tenant t) sts in
-    ap (sum_by f) (filter-append (λ r. bytes_eq r.stream.tenant t && p r) (part_of st).rows (whole sts).rows ∙ ap (λ xs. xs ++ rest) (part_under st t p))
-    ∙ summed b f (filter p (part_of st).rows) rest (g st) (sum_by g left) (All-head (λ o. sum_by f (filter p (part_of o).rows) ≡ g o) st sts each)
-    (tenant_sum t p f g sts (All-tail (λ o. sum_by f (filter p (part_of o).rows) ≡ g o) st sts each))
-    ∙ sym (chosen_sum b g st left)
+    let test : Row → Bool = λ r. bytes_eq r.stream.tenant t && p r in
+    let here = ap (sum_by f) (part_under st t p) ∙ chosen_sum b f (filter p (part_of st).rows) ∙ ap (λ n. cond b n 0) (each st) in
+    ap (sum_by f) (filter-append test (part_of st).rows (whole sts).rows)
+    ∙ sum_by-append f (filter test (part_of st).rows) (filter test (whole sts).rows)
+    ∙ (λ i. here i + tenant_sum t p f g sts each i)
+    ∙ sym (chosen_split (λ o. bytes_eq o.tenant t) g [] st sts)
 
 -- how many rows there are
 pub rows_total : (sts : List Stream) → All IsKept sts → length (whole sts).rows ≡ sum_by (λ st. st.chunks.memory.next) sts
@@ -116,11 +139,7 @@ rows_total [] kept = refl
 rows_total (st ∷ sts) kept =
     length-append (part_of st).rows (whole sts).rows
     ∙ (λ i. part_count st (All-head IsKept st sts kept) i + rows_total sts (All-tail IsKept st sts kept) i)
-    ∙ sym (sum_cons (λ o. o.chunks.memory.next) st sts)
-
-chosen_length : (b : Bool) (st : Stream) (sts : List Stream) → length (cond b (st ∷ sts) sts) ≡ cond b 1 0 + length sts
-chosen_length true st sts = omega arith
-chosen_length false st sts = omega arith
+    ∙ sym (sum_by-cons (λ o. o.chunks.memory.next) st sts)
 
 -- how many streams have an entry
 pub streams_total : (sts : List Stream) → All IsKept sts → length (filter (λ r. r.number == 0) (whole sts).rows) ≡ length (filter (λ st. nat_lt 0 st.chunks.memory.next) sts)
@@ -129,14 +148,10 @@ streams_total (st ∷ sts) kept =
     ap length (filter-append (λ r. r.number == 0) (part_of st).rows (whole sts).rows)
     ∙ length-append (filter (λ r. r.number == 0) (part_of st).rows) (filter (λ r. r.number == 0) (whole sts).rows)
     ∙ (λ i. part_first st (All-head IsKept st sts kept) i + streams_total sts (All-tail IsKept st sts kept) i)
-    ∙ sym (chosen_length (nat_lt 0 st.chunks.memory.next) st (filter (λ o. nat_lt 0 o.chunks.memory.next) sts))
+    ∙ sym (count_split (λ o. nat_lt 0 o.chunks.memory.next) [] st sts)
 
 own_rows : (st : Stream) (p : Row → Bool) → filter (λ r. bytes_eq r.stream.tenant st.tenant && p r) (part_of st).rows ≡ filter p (part_of st).rows
 own_rows st p = part_under st st.tenant p ∙ ap (λ b. cond b (filter p (part_of st).rows) []) ((bytes_eq-Decides st.tenant st.tenant).1 refl)
-
-each_of : (P : Stream → Type 0) → ((st : Stream) → P st) → (sts : List Stream) → All P sts
-each_of P h [] = All-nil P
-each_of P h (st ∷ sts) = All-cons P st sts (h st) (each_of P h sts)
 
 -- a tenant's entries in one kind of place
 pub entries_total : (at : Place → Bool) (g : Stream → ℕ) → ((st : Stream) → g st ≡ (gauge_of at (part_of st).rows st.tenant).entries) → (t : List ℕ) (sts : List Stream)
@@ -144,15 +159,12 @@ pub entries_total : (at : Place → Bool) (g : Stream → ℕ) → ((st : Stream
 entries_total at g is t sts =
     length_sum (filter (λ (r : Row). bytes_eq r.stream.tenant t && at r.place) (whole sts).rows)
     ∙ tenant_sum t (λ r. at r.place) (λ r. 1) g sts
-    (each_of (λ st. sum_by (λ r. 1) (filter (λ r. at r.place) (part_of st).rows) ≡ g st)
-    (λ st. sym (length_sum (filter (λ (r : Row). at r.place) (part_of st).rows)) ∙ ap length (sym (own_rows st (λ r. at r.place))) ∙ sym (is st)) sts)
+    (λ st. sym (length_sum (filter (λ (r : Row). at r.place) (part_of st).rows)) ∙ ap length (sym (own_rows st (λ r. at r.place))) ∙ sym (is st))
 
 pub bytes_total : (at : Place → Bool) (g : Stream → ℕ) → ((st : Stream) → g st ≡ (gauge_of at (part_of st).rows st.tenant).bytes) → (t : List ℕ) (sts : List Stream)
     → (gauge_of at (whole sts).rows t).bytes ≡ sum_by g (filter (λ st. bytes_eq st.tenant t) sts)
 bytes_total at g is t sts =
-    tenant_sum t (λ r. at r.place) (λ r. size_of r.entry) g sts
-    (each_of (λ st. sum_by (λ r. size_of r.entry) (filter (λ r. at r.place) (part_of st).rows) ≡ g st)
-    (λ st. ap (sum_by (λ r. size_of r.entry)) (sym (own_rows st (λ r. at r.place))) ∙ sym (is st)) sts)
+    tenant_sum t (λ r. at r.place) (λ r. size_of r.entry) g sts (λ st. ap (sum_by (λ r. size_of r.entry)) (sym (own_rows st (λ r. at r.place))) ∙ sym (is st))
 
 -- how many entries are stored
 pub stored_total : (sts : List Stream) → stored_count (whole sts).rows ≡ sum_by (λ st. (measure_of st).stored_entries) sts
@@ -161,4 +173,4 @@ stored_total (st ∷ sts) =
     ap length (filter-append (λ (r : Row). is_stored r.place) (part_of st).rows (whole sts).rows)
     ∙ length-append (filter (λ (r : Row). is_stored r.place) (part_of st).rows) (filter (λ (r : Row). is_stored r.place) (whole sts).rows)
     ∙ (λ i. length (sym (own_rows st (λ r. is_stored r.place)) i) + stored_total sts i)
-    ∙ sym (sum_cons (λ (o : Stream). (measure_of o).stored_entries) st sts)
+    ∙ sym (sum_by-cons (λ (o : Stream). (measure_of o).stored_entries) st sts)

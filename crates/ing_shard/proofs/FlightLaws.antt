@@ -1,7 +1,7 @@
 -- Chunks in flight over the list of streams: how many are in each, which numbers are taken, and a
 -- flush of one stream's chunk as one of the shard's.
-use Rattle.std.proofs.Common.{◌≡◌, ℕ, zero, suc, ◌+◌, ◌<◌, ◌≤◌, Bool, true, false, cond, ◌==◌, ◌&&◌, List, [], ◌∷◌, ◌++◌, length, filter, is_some, Option, Some, None, refl, ap, sym, ◌∙◌, subst, arith}
-use Rattle.std.specs.Prelude.{IsPermutation, slice_get}
+use Rattle.std.proofs.Common.{◌≡◌, ℕ, zero, suc, ◌+◌, ◌<◌, ◌≤◌, Bool, true, false, cond, ◌==◌, ◌&&◌, List, [], ◌∷◌, ◌++◌, length, filter, is_some, Option, Some, None, refl, ap, sym, ◌∙◌, arith, IsPermutation, slice_get}
+use Rattle.std.proofs.lemmas.List.Sums.{sum_by-cons}
 use Rattle.std.proofs.lemmas.Bool.{eqb-true, eqb-false, eq-eqb, ne_eqb, true≢false}
 use Rattle.std.proofs.lemmas.List.Elements.{All-append, All-cons, All-contains, All-head, All-nil, All-weaker}
 use Rattle.std.proofs.lemmas.List.Sorted.{All-permutation, IsPermutation-middle, IsPermutation-sym}
@@ -21,9 +21,8 @@ use Rattle.ing_shard.specs.OneStream.{Stream}
 use Rattle.ing_shard.specs.Flights.{AreApart, flights_in, flights_among}
 use Rattle.ing_shard.specs.Streams.{key_of, part_of, whole, AreDistinct}
 use Rattle.ing_shard.proofs.Alike.{same_sym, same_trans, beside_left}
-use Rattle.ing_shard.proofs.CountLaws.{reordered, same_self, sum_cons}
+use Rattle.ing_shard.proofs.CountLaws.{reordered, same_self, sum_split}
 use Rattle.ing_shard.proofs.PositionLaws.{same_flip}
-use Rattle.ing_shard.proofs.SumLaws.{sum_split}
 use Rattle.ing_shard.proofs.WholeLaws.{IsOther, AreOthers, others_rows, others_marks, whole_front}
 
 -- ---- how many chunks are in a flight
@@ -38,44 +37,40 @@ pub one_in_flight : (f g : ℕ) (xs ys : List ℕ) → IsPermutation xs (g ∷ y
 one_in_flight f g xs ys h =
     reordered (λ k. k == f) xs (g ∷ ys) h ∙ chosen_more (g == f) g (filter (λ k. k == f) ys)
 
--- the cases of a chunk in a flight: it is another flight, or one is counted
-flight_case : (f g : ℕ) (gs : List ℕ) (b : Bool) → (g == f) ≡ b
-    → length (cond b (g ∷ filter (λ k. k == f) gs) (filter (λ k. k == f) gs)) ≡ 0
-    → ((f == g) ≡ false) × (length (filter (λ k. k == f) gs) ≡ 0)
-flight_case f g gs true is h = absurd (omega (arith, h))
-flight_case f g gs false is h = (ne_eqb f g (λ same. eqb-false g f is (sym same)), h)
+-- a chunk is counted where it is in the flight
+counted_at : (f : ℕ) (place : Place) (gs : List ℕ) → length (filter (λ g. g == f) (flight_at place ++ gs))
+    ≡ length (filter (λ g. g == f) gs) + cond (is_flight f place) 1 0
+counted_at f Head gs = omega arith
+counted_at f Block gs = omega arith
+counted_at f (Flight g) gs = chosen_more (g == f) g (filter (λ k. k == f) gs) ∙ flipped (g == f) refl where
+  flipped : (b : Bool) → (g == f) ≡ b
+      → length (filter (λ k. k == f) gs) + cond b 1 0 ≡ length (filter (λ k. k == f) gs) + cond (f == g) 1 0
+  flipped true is = ap (λ c. length (filter (λ k. k == f) gs) + cond c 1 0) (sym (eq-eqb f g (sym (eqb-true g f is))))
+  flipped false is =
+      ap (λ c. length (filter (λ k. k == f) gs) + cond c 1 0) (sym (ne_eqb f g (λ same. eqb-false g f is (sym same))))
+counted_at f (Stored key) gs = omega arith
 
-free_first : (f : ℕ) (place : Place) (gs : List ℕ)
-    → length (filter (λ g. g == f) (flight_at place ++ gs)) ≡ 0
-    → (is_flight f place ≡ false) × (length (filter (λ g. g == f) gs) ≡ 0)
-free_first f Head gs h = (refl, h)
-free_first f Block gs h = (refl, h)
-free_first f (Flight g) gs h = flight_case f g gs (g == f) refl h
-free_first f (Stored key) gs h = (refl, h)
+counted_slot : (f : ℕ) (x : Slot) (xs : List Slot) → length (filter (λ g. g == f) (flights_of (x ∷ xs)))
+    ≡ length (filter (λ g. g == f) (flights_of xs)) + cond (is_flight f x.place) 1 0
+counted_slot f x xs = counted_at f x.place (flights_of xs)
+
+-- it is not in it, where the others are as many as there may be
+not_counted : (b : Bool) (n most : ℕ) → n + cond b 1 0 ≤ most → most ≤ n → (b ≡ false) × (n ≤ most)
+not_counted true n most few all = absurd (omega (arith, few, all))
+not_counted false n most few all = (refl, omega (arith, few))
 
 pub free_among : (f : ℕ) (xs : List Slot) → length (filter (λ g. g == f) (flights_of xs)) ≡ 0
     → NoneInFlight f xs
 free_among f [] h = All-nil (λ (x : Slot). is_flight f x.place ≡ false)
 free_among f (x ∷ xs) h =
-    let both = free_first f x.place (flights_of xs) h in
-    All-cons (λ (y : Slot). is_flight f y.place ≡ false) x xs both.0 (free_among f xs both.1)
+    let rest = length (filter (λ g. g == f) (flights_of xs)) in
+    let both = not_counted (is_flight f x.place) rest 0 (omega (arith, h, counted_slot f x xs)) (omega arith) in
+    let none = both.1 in
+    All-cons (λ (y : Slot). is_flight f y.place ≡ false) x xs both.0 (free_among f xs (omega (arith, none)))
 
 -- where no chunk of a stream is counted in a flight, none is in it
 pub free_slots : (f : ℕ) (st : Stream) → flights_in f st ≡ 0 → NoneInFlight f st.chunks.sealed
 free_slots f st h = free_among f st.chunks.sealed h
-
-counted_first : (f : ℕ) (gs : List ℕ) (b : Bool) → b ≡ true → 0 < length (cond b (f ∷ gs) gs)
-counted_first f gs true is = omega arith
-counted_first f gs false is = absurd (cc)
-
-counted_later : (f : ℕ) (place : Place) (gs : List ℕ) → 0 < length (filter (λ g. g == f) gs)
-    → 0 < length (filter (λ g. g == f) (flight_at place ++ gs))
-counted_later f Head gs h = h
-counted_later f Block gs h = h
-counted_later f (Flight g) gs h =
-    let more = chosen_more (g == f) g (filter (λ k. k == f) gs) in
-    omega (arith, h, more)
-counted_later f (Stored key) gs h = h
 
 flies_among : (f i : ℕ) (chunk : ChunkContents) (xs : List Slot)
     → slice_get xs i ≡ Some (slot_at (Flight f) chunk)
@@ -83,10 +78,11 @@ flies_among : (f i : ℕ) (chunk : ChunkContents) (xs : List Slot)
 flies_among f i chunk [] is = absurd (cc)
 flies_among f zero chunk (x ∷ xs) is =
     let here : x ≡ slot_at (Flight f) chunk = search (is) in
-    subst (λ y. 0 < length (filter (λ g. g == f) (flight_at y.place ++ flights_of xs))) (sym here)
-    (counted_first f (filter (λ g. g == f) (flights_of xs)) (f == f) (eq-eqb f f refl))
+    let one = ap {B = ℕ} (λ b. cond b 1 0) (ap (λ (y : Slot). is_flight f y.place) here ∙ eq-eqb f f refl) in
+    omega (arith, counted_slot f x xs, one)
 flies_among f (suc i) chunk (x ∷ xs) is =
-    counted_later f x.place (flights_of xs) (flies_among f i chunk xs is)
+    let later = flies_among f i chunk xs is in
+    omega (arith, counted_slot f x xs, later)
 
 -- a chunk of a stream that is in a flight is counted in it
 pub flies_here : (f i : ℕ) (chunk : ChunkContents) (st : Stream)
@@ -94,37 +90,20 @@ pub flies_here : (f i : ℕ) (chunk : ChunkContents) (st : Stream)
 flies_here f i chunk st is = flies_among f i chunk st.chunks.sealed is
 
 -- the chunk of a flight is the only one in it
-alone_at : (f : ℕ) (place : Place) (gs : List ℕ) → is_flight f place ≡ true
-    → length (filter (λ g. g == f) (flight_at place ++ gs)) ≤ 1 → length (filter (λ g. g == f) gs) ≡ 0
-alone_at f Head gs flies most = absurd (cc)
-alone_at f Block gs flies most = absurd (cc)
-alone_at f (Flight g) gs flies most =
-    let one = ap {B = ℕ} (λ b. cond b 1 0) (eq-eqb g f (sym (eqb-true f g flies))) in
-    let more = chosen_more (g == f) g (filter (λ k. k == f) gs) in
-    omega (arith, most, one, more)
-alone_at f (Stored key) gs flies most = absurd (cc)
-
 pub first_alone : (f : ℕ) (x : Slot) (xs : List Slot) → is_flight f x.place ≡ true
     → length (filter (λ g. g == f) (flights_of (x ∷ xs))) ≤ 1 → length (filter (λ g. g == f) (flights_of xs)) ≡ 0
-first_alone f x xs flies most = alone_at f x.place (flights_of xs) flies most
-
-other_case : (f g : ℕ) (fs : List ℕ) (b : Bool) → (g == f) ≡ b → length (cond b (g ∷ fs) fs) ≤ 1 → 0 < length fs
-    → ((f == g) ≡ false) × (length fs ≤ 1)
-other_case f g fs true is most some = absurd (omega (arith, most, some))
-other_case f g fs false is most some = (ne_eqb f g (λ same. eqb-false g f is (sym same)), most)
-
-other_at : (f : ℕ) (place : Place) (gs : List ℕ) → length (filter (λ g. g == f) (flight_at place ++ gs)) ≤ 1
-    → 0 < length (filter (λ g. g == f) gs) → (is_flight f place ≡ false) × (length (filter (λ g. g == f) gs) ≤ 1)
-other_at f Head gs most some = (refl, most)
-other_at f Block gs most some = (refl, most)
-other_at f (Flight g) gs most some = other_case f g (filter (λ k. k == f) gs) (g == f) refl most some
-other_at f (Stored key) gs most some = (refl, most)
+first_alone f x xs flies most =
+    let one = ap {B = ℕ} (λ b. cond b 1 0) flies in
+    omega (arith, counted_slot f x xs, one, most)
 
 -- and one before it is in another
 pub first_other : (f : ℕ) (x : Slot) (xs : List Slot) (i : ℕ) (chunk : ChunkContents)
     → length (filter (λ g. g == f) (flights_of (x ∷ xs))) ≤ 1 → slice_get xs i ≡ Some (slot_at (Flight f) chunk)
     → (is_flight f x.place ≡ false) × (length (filter (λ g. g == f) (flights_of xs)) ≤ 1)
-first_other f x xs i chunk most is = other_at f x.place (flights_of xs) most (flies_among f i chunk xs is)
+first_other f x xs i chunk most is =
+    let later = flies_among f i chunk xs is in
+    not_counted (is_flight f x.place) (length (filter (λ g. g == f) (flights_of xs))) 1
+    (omega (arith, most, counted_slot f x xs)) (omega (arith, later))
 
 -- no row of a chunk that grows or was never claimed is in a flight
 pub free_memory : (f : ℕ) (st : Stream) → NoneFlies f (stream_state (key_of st) st.chunks.memory)
@@ -147,7 +126,7 @@ free_part f st h =
 pub free_rows : (f : ℕ) (sts : List Stream) → flights_among f sts ≡ 0 → NoneFlies f (whole sts)
 free_rows f [] h = All-nil (λ (r : Row). is_flight f r.place ≡ false)
 free_rows f (st ∷ sts) h =
-    let sum = sum_cons (flights_in f) st sts in
+    let sum = sum_by-cons (flights_in f) st sts in
     All-append (λ (r : Row). is_flight f r.place ≡ false) (part_of st).rows (whole sts).rows
     (free_part f st (omega (arith, h, sum)))
     (free_rows f sts (omega (arith, h, sum)))
@@ -184,63 +163,53 @@ apart_same old new front st now back apart same kept f =
     omega (arith, here, all, most, is)
 
 -- a free number is taken for one more of its chunks
+claimed_case : (b : Bool) (was now all next old new : ℕ) → now ≡ was + cond b 1 0 → next + was ≡ all + now → all ≡ old
+    → (b ≡ true → (old ≡ 0) × (new ≡ 1)) → (b ≡ false → new ≡ old) → next ≡ new
+claimed_case true was now all next old new more sum is taken same =
+    let mine = taken refl in
+    let none = mine.0 in
+    let one = mine.1 in
+    omega (arith, more, sum, is, none, one)
+claimed_case false was now all next old new more sum is taken same =
+    let kept = same refl in
+    omega (arith, more, sum, is, kept)
+
 pub apart_claimed : {T : Type 0} (old new : Slab T) (f : ℕ) (x : T)
     (front : List Stream) (st now : Stream) (back : List Stream)
     → AreApart old (front ++ st ∷ back) → get old f ≡ None → Updates old new f (Some x)
     → IsPermutation (flights_of now.chunks.sealed) (f ∷ flights_of st.chunks.sealed)
     → AreApart new (front ++ now ∷ back)
-apart_claimed old new f x front st now back apart free taken flies g =
-    by_cases (f == g) refl
+apart_claimed {T} old new f x front st now back apart free taken flies g =
+    let one : Option T → ℕ = λ o. cond (is_some o) 1 0 in
+    claimed_case (f == g) (flights_in g st) (flights_in g now) (flights_among g (front ++ st ∷ back))
+    (flights_among g (front ++ now ∷ back)) (one (get old g)) (one (get new g))
     (one_in_flight g f (flights_of now.chunks.sealed) (flights_of st.chunks.sealed) flies)
-    (flights_changed g front st now back) (apart g) where
-      by_cases : (b : Bool) → (f == g) ≡ b → flights_in g now ≡ flights_in g st + cond (f == g) 1 0
-          → flights_among g (front ++ now ∷ back) + flights_in g st
-          ≡ flights_among g (front ++ st ∷ back) + flights_in g now
-          → flights_among g (front ++ st ∷ back) ≡ cond (is_some (get old g)) 1 0
-          → flights_among g (front ++ now ∷ back) ≡ cond (is_some (get new g)) 1 0
-      by_cases true is more all most =
-          let same : f ≡ g = eqb-true f g is in
-          let one = ap {B = ℕ} (λ b. cond b 1 0) is in
-          let none = ap {B = ℕ} (λ o. cond (is_some o) 1 0) (ap (get old) (sym same) ∙ free) in
-          let has = ap {B = ℕ} (λ o. cond (is_some o) 1 0) (ap (get new) (sym same) ∙ taken.changed) in
-          omega (arith, more, all, most, one, none, has)
-      by_cases false is more all most =
-          let none = ap {B = ℕ} (λ b. cond b 1 0) is in
-          let other = taken.others g (λ same. eqb-false f g is (sym same)) in
-          let kept = ap {B = ℕ} (λ o. cond (is_some o) 1 0) other in
-          omega (arith, more, all, most, none, kept)
-
-one_at_most : (b : Bool) → cond b 1 0 ≤ 1
-one_at_most true = omega arith
-one_at_most false = omega arith
+    (flights_changed g front st now back) (apart g)
+    (λ is. let same = sym (eqb-true f g is) in
+    (ap one (ap (get old) same ∙ free), ap one (ap (get new) same ∙ taken.changed)))
+    (λ is. ap one (taken.others g (λ same. eqb-false f g is (sym same))))
 
 -- a number is free again: the chunk that it was taken for has landed
+landed_case : (b old : Bool) (was now all next new : ℕ) → was ≡ now + cond b 1 0 → next + was ≡ all + now
+    → all ≡ cond old 1 0 → (b ≡ true → new ≡ 0) → (b ≡ false → new ≡ cond old 1 0) → next ≡ new
+landed_case true true was now all next new fewer sum is freed same = let none = freed refl in omega (arith, fewer, sum, is, none)
+landed_case true false was now all next new fewer sum is freed same = let none = freed refl in omega (arith, fewer, sum, is, none)
+landed_case false old was now all next new fewer sum is freed same = let kept = same refl in omega (arith, fewer, sum, is, kept)
+
 pub apart_landed : {T : Type 0} (old new : Slab T) (f : ℕ)
     (front : List Stream) (st now : Stream) (back : List Stream)
     → AreApart old (front ++ st ∷ back) → Updates old new f None
     → IsPermutation (f ∷ flights_of now.chunks.sealed) (flights_of st.chunks.sealed)
     → AreApart new (front ++ now ∷ back)
-apart_landed old new f front st now back apart freed lands g =
-    by_cases (f == g) refl
+apart_landed {T} old new f front st now back apart freed lands g =
+    let one : Option T → ℕ = λ o. cond (is_some o) 1 0 in
+    landed_case (f == g) (is_some (get old g)) (flights_in g st) (flights_in g now) (flights_among g (front ++ st ∷ back))
+    (flights_among g (front ++ now ∷ back)) (one (get new g))
     (one_in_flight g f (flights_of st.chunks.sealed) (flights_of now.chunks.sealed)
     (IsPermutation-sym (f ∷ flights_of now.chunks.sealed) (flights_of st.chunks.sealed) lands))
-    (flights_changed g front st now back) (apart g) where
-      by_cases : (b : Bool) → (f == g) ≡ b → flights_in g st ≡ flights_in g now + cond (f == g) 1 0
-          → flights_among g (front ++ now ∷ back) + flights_in g st
-          ≡ flights_among g (front ++ st ∷ back) + flights_in g now
-          → flights_among g (front ++ st ∷ back) ≡ cond (is_some (get old g)) 1 0
-          → flights_among g (front ++ now ∷ back) ≡ cond (is_some (get new g)) 1 0
-      by_cases true is fewer all most =
-          let same : f ≡ g = eqb-true f g is in
-          let one = ap {B = ℕ} (λ b. cond b 1 0) is in
-          let few = one_at_most (is_some (get old g)) in
-          let gone = ap {B = ℕ} (λ o. cond (is_some o) 1 0) (ap (get new) (sym same) ∙ freed.changed) in
-          omega (arith, fewer, all, most, one, few, gone)
-      by_cases false is fewer all most =
-          let none = ap {B = ℕ} (λ b. cond b 1 0) is in
-          let other = freed.others g (λ same. eqb-false f g is (sym same)) in
-          let kept = ap {B = ℕ} (λ o. cond (is_some o) 1 0) other in
-          omega (arith, fewer, all, most, none, kept)
+    (flights_changed g front st now back) (apart g)
+    (λ is. ap one (ap (get new) (sym (eqb-true f g is)) ∙ freed.changed))
+    (λ is. ap one (freed.others g (λ same. eqb-false f g is (sym same))))
 
 -- ---- what is done in one stream is done in the shard
 

@@ -1,8 +1,9 @@
 -- The rows in a flight are those of its chunk.
-use Rattle.std.proofs.Common.{◌≡◌, ℕ, zero, suc, ◌≤◌, Bool, true, false, cond, ◌==◌, List, [], ◌∷◌, ◌++◌, length, filter, map, Some, refl, ap, sym, ◌∙◌, subst, arith, append-nil}
-use Rattle.std.specs.Prelude.{IsPermutation, slice_get}
-use Rattle.std.proofs.lemmas.Bool.{eq-eqb}
-use Rattle.std.proofs.lemmas.List.Elements.{All-head, All-tail, filter-append}
+use Rattle.std.proofs.Common.{◌≡◌, ℕ, zero, suc, ◌≤◌, Bool, true, false, cond, ◌==◌, List, [], ◌∷◌, ◌++◌, length, filter, map, Some, refl, ap, sym, ◌∙◌, subst, arith, append-nil, IsPermutation, slice_get, eq-eqb}
+use Rattle.ing_shard.proofs.Parts.{all_of_all}
+use Rattle.ing_shard.proofs.CountLaws.{filter_const, filter_eq}
+use Rattle.std.proofs.lemmas.List.Sums.{sum_by-cons}
+use Rattle.std.proofs.lemmas.List.Elements.{All-head, All-tail, filter-append, All-map}
 use Rattle.std.proofs.lemmas.List.Sorted.{IsPermutation-refl}
 use Rattle.std.proofs.lemmas.Option.{same_Some}
 use Rattle.slab.specs.Slab.{Slab}
@@ -15,7 +16,6 @@ use Rattle.ing_stream.specs.Contents.{flights_of}
 use Rattle.ing_shard.specs.OneStream.{Stream}
 use Rattle.ing_shard.specs.Flights.{AreApart, FliesAs, Flown, flights_among, flights_in, key_in}
 use Rattle.ing_shard.specs.Streams.{FliesAmong, key_of, part_of, slots_of, whole}
-use Rattle.ing_shard.proofs.CountLaws.{sum_cons}
 use Rattle.ing_shard.proofs.FlightLaws.{flies_here, free_among, free_memory, free_part, free_rows, first_alone, first_other}
 use Rattle.ing_shard.proofs.FlushLaws.{one_flight}
 use Rattle.ing_shard.proofs.SealLaws.{none_pass}
@@ -26,25 +26,15 @@ in_flight f r = is_flight f r.place
 
 -- ---- one sealed chunk
 
-all_placed : (f : ℕ) (place : Place) (rows : List Row) → is_flight f place ≡ true
-    → filter (in_flight f) (map (at_place place) rows) ≡ map (at_place place) rows
-all_placed f place [] flies = refl
-all_placed f place (r ∷ rows) flies =
-    let rest = map (at_place place) rows in
-    ap (λ b. cond b (at_place place r ∷ filter (in_flight f) rest) (filter (in_flight f) rest)) flies
-    ∙ ap (λ l. at_place place r ∷ l) (all_placed f place rows flies)
-
-none_placed : (f : ℕ) (place : Place) (rows : List Row) → is_flight f place ≡ false
-    → filter (in_flight f) (map (at_place place) rows) ≡ []
-none_placed f place [] flies = refl
-none_placed f place (r ∷ rows) flies =
-    let rest = map (at_place place) rows in
-    ap (λ b. cond b (at_place place r ∷ filter (in_flight f) rest) (filter (in_flight f) rest)) flies
-    ∙ none_placed f place rows flies
+placed : (f : ℕ) (place : Place) (rows : List Row) → filter (in_flight f) (map (at_place place) rows) ≡ cond (is_flight f place) (map (at_place place) rows) []
+placed f place rows =
+    filter_eq (in_flight f) (λ r. is_flight f place) (map (at_place place) rows)
+    (All-map (λ r. in_flight f r ≡ is_flight f place) (at_place place) rows (all_of_all (λ r. in_flight f (at_place place r) ≡ is_flight f place) (λ r. refl) rows))
+    ∙ filter_const (is_flight f place) (map (at_place place) rows)
 
 module _ (s : StreamKey) (f : ℕ) where
   slot_none : (x : Slot) → is_flight f x.place ≡ false → filter (in_flight f) (slot_rows s x) ≡ []
-  slot_none x flies = none_placed f x.place (block_rows s x.first 0 x.blocks) flies
+  slot_none x flies = placed f x.place (block_rows s x.first 0 x.blocks) ∙ ap (λ b. cond b (slot_rows s x) []) flies
 
   slots_none : (xs : List Slot) → NoneInFlight f xs → filter (in_flight f) (slots_state s xs).rows ≡ []
   slots_none [] none = refl
@@ -62,7 +52,7 @@ module _ (s : StreamKey) (f : ℕ) where
       let here : x ≡ slot_at (Flight f) chunk = same_Some x (slot_at (Flight f) chunk) is in
       let flies : is_flight f x.place ≡ true = ap (λ (y : Slot). is_flight f y.place) here ∙ eq-eqb f f refl in
       filter-append (in_flight f) (slot_rows s x) (slots_state s xs).rows
-      ∙ (λ i. all_placed f x.place (block_rows s x.first 0 x.blocks) flies i ++ slots_none xs (free_among f xs (first_alone f x xs flies most)) i)
+      ∙ (λ i. (placed f x.place (block_rows s x.first 0 x.blocks) ∙ ap (λ b. cond b (slot_rows s x) []) flies) i ++ slots_none xs (free_among f xs (first_alone f x xs flies most)) i)
       ∙ append-nil (slot_rows s x) ∙ ap (slot_rows s) here
   slots_flown chunk (x ∷ xs) (suc i) most is =
       let off = first_other f x xs i chunk most is in
@@ -87,7 +77,7 @@ rows_among f i chunk s xs stands [] n most named listed = absurd (cc)
 rows_among f i chunk s xs stands (st ∷ sts) zero most named listed =
     let slots = ap (λ l. slice_get l i) (same_Some (slots_of st) xs listed) ∙ stands in
     let here = flies_here f i chunk st slots in
-    let sum = sum_cons (flights_in f) st sts in
+    let sum = sum_by-cons (flights_in f) st sts in
     let key : key_of st ≡ s = same_Some (key_of st) s named in
     filter-append (in_flight f) (part_of st).rows (whole sts).rows
     ∙ (λ j. part_flown f i chunk st (omega (arith, most, sum)) slots j
@@ -96,7 +86,7 @@ rows_among f i chunk s xs stands (st ∷ sts) zero most named listed =
     ∙ ap (λ k. slot_rows k (slot_at (Flight f) chunk)) key
 rows_among f i chunk s xs stands (st ∷ sts) (suc n) most named listed =
     let later = counted_among f i chunk xs stands sts n listed in
-    let sum = sum_cons (flights_in f) st sts in
+    let sum = sum_by-cons (flights_in f) st sts in
     filter-append (in_flight f) (part_of st).rows (whole sts).rows
     ∙ (λ j. none_pass (in_flight f) (part_of st).rows (free_part f st (omega (arith, most, sum, later))) j
     ++ rows_among f i chunk s xs stands sts n (omega (arith, most, sum)) named listed j)

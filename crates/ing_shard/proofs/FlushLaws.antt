@@ -1,7 +1,7 @@
 -- A flush has changed where a chunk of one stream stands: what is kept beside the streams is set right.
-use Rattle.std.proofs.Common.{◌≡◌, ℕ, ◌+◌, ◌^◌, ◌<◌, ◌≤◌, ◌&&◌, Bool, true, false, List, ◌∷◌, ◌++◌, cond, get_or, length, map, set, Some, ap, sym, ◌∙◌, subst, arith}
-use Rattle.std.specs.Prelude.{bytes_eq, is_some, slice_get, sum_by}
-use Rattle.std.specs.Option.{option_map}
+use Rattle.std.proofs.Common.{◌≡◌, ℕ, ◌+◌, ◌^◌, ◌<◌, ◌≤◌, ◌&&◌, Bool, true, false, List, ◌∷◌, ◌++◌, cond, get_or, length, map, set, Some, ap, sym, ◌∙◌, subst, arith, bytes_eq, is_some, slice_get, sum_by, option_map, refl}
+use Rattle.ing_shard.specs.declared.tenants.Tenants.{Tenants}
+use Rattle.std.specs.Vec.{with_item}
 use Rattle.slab.specs.Slab.{Slab, get}
 use Rattle.std.proofs.Math.Seq.{get_or-append_seam}
 use Rattle.std.proofs.lemmas.List.{length-append, length-map}
@@ -15,20 +15,15 @@ use Rattle.ing_shard.specs.declared.tenants.TenantKept.{TenantKept}
 use Rattle.ing_shard.specs.Streams.{key_of, slots_of, whole, AreHeld, CanSettle, FliesAt, Stays, measure_of}
 use Rattle.ing_shard.specs.Tenants.{Fits, IsWithin, changed, find_of, is_known, kept_of, posted_of}
 use Rattle.ing_labels.specs.Canonical.{canonical_of}
-use Rattle.ing_shard.proofs.ChangeLaws.{Around, around, known_here, stays_fits, stays_here, within_here, written_there}
-use Rattle.ing_shard.proofs.CountLaws.{filter_short, rows_total, stored_total}
-use Rattle.ing_shard.proofs.PositionLaws.{keys_same}
-use Rattle.ing_shard.proofs.SumLaws.{sum_split}
-use Rattle.ing_shard.proofs.TakeLaws.{entries_small, next_within}
+use Rattle.ing_shard.proofs.ChangeLaws.{Around, all_entries, around, known_here, stays_fits, stays_here, within_here, written_in}
+use Rattle.ing_shard.proofs.CountLaws.{filter_short, rows_total, stored_total, sum_split, map_same}
+use Rattle.ing_shard.proofs.TakeLaws.{entries_small}
 
 -- the same name
 pub same_name : (st now : Stream) → Stays st now → key_of now ≡ key_of st
 same_name st now stays = λ i. record { tenant = stays.tenant i; name = canonical_of (stays.labels i) }
 
-module _ {R : Type 0} (old : Streams R) (i : ℕ) (st now : Stream) (m : TenantKept) (held : AreHeld old) (split : Around old.list.items i st) (stays : Stays st now) (is : m ≡ measure_of st) where
-  written : set old.list.items i now ≡ split.front ++ now ∷ split.back
-  written = written_there old.list.items split.front st split.back i split.is split.at now
-
+module _ {R : Type 0} (old : Streams R) {i : ℕ} {st now : Stream} {m : TenantKept} (held : AreHeld old) (split : Around old.list.items i st) (stays : Stays st now) (is : m ≡ measure_of st) where
   all_stored : ◌≡◌ {A = ℕ} old.stored ((measure_of st).stored_entries + sum_by (λ o. (measure_of o).stored_entries) (split.front ++ split.back))
   all_stored = held.stored ∙ ap (sum_by (λ o. (measure_of o).stored_entries)) split.is ∙ sum_split (λ o. (measure_of o).stored_entries) split.front st split.back
 
@@ -39,43 +34,42 @@ module _ {R : Type 0} (old : Streams R) (i : ℕ) (st now : Stream) (m : TenantK
       let entries = rows_total old.list.items held.kept ∙ sym held.entries in
       let here = entries_small now (λ r. bytes_eq r.stream.tenant now.tenant && is_stored r.place) stays.kept in
       let next = stays.next in
-      let within = subst (λ l. st.chunks.memory.next ≤ sum_by (λ o. o.chunks.memory.next) l) (sym split.is) (next_within split.front st split.back) in
-      let total = held.entries in
+      let total = all_entries old held split in
       let few = held.few in
-      omega (arith, stored, short, entries, here, next, within, total, few)
+      omega (arith, stored, short, entries, here, next, total, few)
 
   pub can_settle : CanSettle old.tenants old.stored now m
   can_settle =
       let all = all_stored in
       let same = ap (λ k. k.stored_entries) is in
       record {
-        known = ap (is_known old.tenants) stays.tenant ∙ known_here old split.front st split.back held split.is;
+        known = ap (is_known old.tenants) stays.tenant ∙ known_here old held split;
         before = subst (λ k. IsWithin k (kept_of old.tenants now.tenant)) (sym is)
-            (subst (λ t. IsWithin (measure_of st) (kept_of old.tenants t)) (sym stays.tenant) (within_here old split.front st split.back held split.is));
+            (subst (λ t. IsWithin (measure_of st) (kept_of old.tenants t)) (sym stays.tenant) (within_here old held split));
         after = subst (λ k. Fits (changed (kept_of old.tenants now.tenant) k (measure_of now))) (sym is)
-            (subst (λ t. Fits (changed (kept_of old.tenants t) (measure_of st) (measure_of now))) (sym stays.tenant) (stays_fits old split.front st split.back held split.is now stays));
+            (subst (λ t. Fits (changed (kept_of old.tenants t) (measure_of st) (measure_of now))) (sym stays.tenant) (stays_fits old held split now stays));
         stored = omega (arith, all, same);
         few = few_stored;
       }
 
-  pub settled : (new : Streams R) → new.list.items ≡ set old.list.items i now
-      → ((t n : List ℕ) → find_of new.tenants t n ≡ find_of old.tenants t n)
-      → ((t : List ℕ) → posted_of new.tenants t ≡ posted_of old.tenants t)
-      → ((t : List ℕ) → is_known new.tenants t ≡ is_known old.tenants t)
-      → ((t : List ℕ) → kept_of new.tenants t ≡ cond (bytes_eq now.tenant t) (changed (kept_of old.tenants now.tenant) m (measure_of now)) (kept_of old.tenants t))
-      → new.entries ≡ old.entries → new.stored + m.stored_entries ≡ old.stored + (measure_of now).stored_entries → new.active ≡ old.active
-      → AreApart new.flights (split.front ++ now ∷ split.back) → AreHeld new
-  settled new items find posted known sums entries stored active apart =
-      stays_here old split.front st split.back held split.is new now (items ∙ written) stays find posted known
+  pub settled : (tenants : Tenants) (stored : ℕ) (flights : Slab (Unit {0}))
+      → ((t n : List ℕ) → find_of tenants t n ≡ find_of old.tenants t n)
+      → ((t : List ℕ) → posted_of tenants t ≡ posted_of old.tenants t)
+      → ((t : List ℕ) → is_known tenants t ≡ is_known old.tenants t)
+      → ((t : List ℕ) → kept_of tenants t ≡ cond (bytes_eq now.tenant t) (changed (kept_of old.tenants now.tenant) m (measure_of now)) (kept_of old.tenants t))
+      → stored + m.stored_entries ≡ old.stored + (measure_of now).stored_entries
+      → AreApart flights (split.front ++ now ∷ split.back) → AreHeld (record old { list = with_item old.list i now; tenants = tenants; stored = stored; flights = flights })
+  settled tenants stored flights find posted known sums total apart =
+      stays_here old held split (record old { list = with_item old.list i now; tenants = tenants; stored = stored; flights = flights }) now (written_in split now) stays find posted known
       (λ t. sums t ∙ (λ j. cond (bytes_eq (stays.tenant j) t) (changed (kept_of old.tenants (stays.tenant j)) (is j) (measure_of now)) (kept_of old.tenants t)))
-      entries (ap (λ k. new.stored + k.stored_entries) (sym is) ∙ stored) active apart
+      refl (ap (λ k. stored + k.stored_entries) (sym is) ∙ total) refl apart
 
   pub settled_keys : map key_of (set old.list.items i now) ≡ map key_of old.list.items
-  settled_keys = ap (map key_of) written ∙ keys_same split.front st now split.back (same_name st now stays) ∙ ap (map key_of) (sym split.is)
+  settled_keys = ap (map key_of) (written_in split now) ∙ map_same key_of split.front st now split.back (same_name st now stays) ∙ ap (map key_of) (sym split.is)
 
   -- what holds of the whole list where the stream stands apart
   pub settled_whole : (P : List Stream → List Stream → Type 0) → P (split.front ++ st ∷ split.back) (split.front ++ now ∷ split.back) → P old.list.items (set old.list.items i now)
-  settled_whole P h = subst (λ l. P l (set old.list.items i now)) (sym split.is) (subst (P (split.front ++ st ∷ split.back)) (sym written) h)
+  settled_whole P h = subst (λ l. P l (set old.list.items i now)) (sym split.is) (subst (P (split.front ++ st ∷ split.back)) (sym (written_in split now)) h)
 
 -- ---- where a claimed chunk stands
 
@@ -120,11 +114,7 @@ free_here f sts i st split none =
     let sum = ap (flights_among f) split.is ∙ sum_split (flights_in f) split.front st split.back in
     omega (arith, none, sum)
 
--- the stream that is read there
-pub listed_here : (sts : List Stream) (n i : ℕ) (st : Stream) → n ≡ length sts → i < n → st ≡ get_or sts i st → slice_get sts i ≡ Some st
-listed_here sts n i st long below read = slice_get-get_or sts i st (subst (λ k. i < k) long below) ∙ ap Some (sym read)
-
--- and the list around it
+-- the list around the stream that is read there
 pub around_here : (sts : List Stream) (n i : ℕ) (st : Stream) → n ≡ length sts → i < n → st ≡ get_or sts i st → Around sts i st
 around_here sts n i st long below read = around sts i st (subst (λ k. i < k) long below) read
 
@@ -135,7 +125,7 @@ key_here sts i st s read listed = same_Some (key_of st) s (sym (ap (option_map k
 -- a stream that has been written is listed there
 pub now_here : (sts : List Stream) (i : ℕ) (st now : Stream) → Around sts i st → slice_get (set sts i now) i ≡ Some now
 now_here sts i st now split =
-    let written = written_there sts split.front st split.back i split.is split.at now in
+    let written = written_in split now in
     let long = ap length written ∙ length-append split.front (now ∷ split.back) in
     let at = split.at in
     slice_get-get_or (set sts i now) i now (omega (arith, long, at))

@@ -1,13 +1,11 @@
 -- What is held beside the streams, after one more is listed and after one has changed.
-use Rattle.std.proofs.Common.{◌≡◌, ℕ, ◌+◌, ◌^◌, ◌≤◌, Bool, List, [], ◌∷◌, ◌++◌, length, cond, true, false, not, ◌&&◌, ◌==◌, nat_lt, Some, None, ap, sym, ◌∙◌, subst, arith, filter, append-nil}
-use Rattle.std.specs.Prelude.{All, bytes_eq, is_some, sum_by}
+use Rattle.std.proofs.Common.{◌≡◌, ℕ, ◌+◌, ◌^◌, ◌≤◌, Bool, List, [], ◌∷◌, ◌++◌, length, cond, true, false, ◌&&◌, ◌==◌, nat_lt, Some, None, ap, sym, ◌∙◌, subst, arith, filter, append-nil, All, bytes_eq, is_some, sum_by, length-append}
 use Rattle.slab.specs.Slab.{Slab, get}
-use Rattle.std.specs.List.{list_any}
-use Rattle.std.proofs.lemmas.List.Elements.{All-append, All-cons, All-head, All-nil, All-tail, All-weaker}
+use Rattle.std.proofs.lemmas.List.Elements.{All-push, All-weaker, filter-append}
+use Rattle.std.proofs.lemmas.List.Sums.{sum_by_push}
 use Rattle.ing_labels.specs.Canonical.{canonical_of}
 use Rattle.ing_labels.specs.Labels.{IsLabelSet}
-use Rattle.ing_rows.specs.Rows.{Row, empty_state, is_head, is_block, is_in_flight, is_stored, same_stream}
-use Rattle.ing_rows.specs.Gauges.{gauge_of}
+use Rattle.ing_rows.specs.Rows.{State, empty_state, same_stream}
 use Rattle.ing_rows.specs.Turns.{beside}
 use Rattle.ing_stream.specs.Contents.{flights_of}
 use Rattle.ing_shard.specs.OneStream.{Stream}
@@ -15,10 +13,11 @@ use Rattle.ing_shard.specs.Flights.{AreApart, flights_among, flights_in}
 use Rattle.ing_shard.specs.declared.streams.Streams.{Streams}
 use Rattle.ing_shard.specs.declared.tenants.TenantKept.{TenantKept}
 use Rattle.ing_shard.specs.Tenants.{find_of, is_known, kept_of, changed, listed_as, nothing_kept, posted_of}
-use Rattle.ing_shard.specs.Streams.{key_of, part_of, whole, IsKept, AreDistinct, AreHeld, listed_of, position_of, measure_of, measures_of, sum_of}
+use Rattle.ing_shard.specs.Streams.{key_of, part_of, whole, IsKept, AreDistinct, AreHeld, listed_of, position_of, measure_in, measure_of, measures_of, sum_of}
 use Rattle.ing_shard.proofs.ListedLaws.{listed_more, listed_same}
 use Rattle.ing_shard.proofs.PositionLaws.{none_others, position_more, distinct_more, position_same, distinct_same}
-use Rattle.ing_shard.proofs.SumLaws.{sum_split, chosen_split, count_split, measures_changed}
+use Rattle.ing_shard.proofs.SumLaws.{measures_changed}
+use Rattle.ing_shard.proofs.CountLaws.{chosen_split, count_split, middle, replaced, sum_split}
 
 -- ---- one more stream, without entries
 
@@ -27,17 +26,7 @@ whole_more [] st none = ap (λ p. beside p empty_state) none
 whole_more (f ∷ sts) st none = ap (beside (part_of f)) (whole_more sts st none)
 
 pub measures_nothing : (st : Stream) → part_of st ≡ empty_state → measure_of st ≡ nothing_kept
-measures_nothing st none = λ i. record {
-  live = cond (list_any (λ (r : Row). not (is_stored r.place)) (none i).rows) 1 0;
-  head_entries = (gauge_of is_head (none i).rows st.tenant).entries;
-  head_bytes = (gauge_of is_head (none i).rows st.tenant).bytes;
-  block_entries = (gauge_of is_block (none i).rows st.tenant).entries;
-  block_bytes = (gauge_of is_block (none i).rows st.tenant).bytes;
-  flight_entries = (gauge_of is_in_flight (none i).rows st.tenant).entries;
-  flight_bytes = (gauge_of is_in_flight (none i).rows st.tenant).bytes;
-  stored_entries = (gauge_of is_stored (none i).rows st.tenant).entries;
-  stored_bytes = (gauge_of is_stored (none i).rows st.tenant).bytes;
-}
+measures_nothing st none = ap (λ (p : State). measure_in p.rows st.tenant) none
 
 none_more : (b : Bool) (n r : ℕ) → n ≡ 0 → r ≡ cond b n 0 + r
 none_more true n r none = omega (arith, none)
@@ -85,41 +74,30 @@ held_more old new st held is kept next none absent find posted label_set known s
     let Known : Stream → Type 0 = λ o. is_known new.tenants o.tenant ≡ true in
     let Labelled : Stream → Type 0 = λ o. IsLabelSet o.labels in
     let nothing = measures_nothing st none in
-    let next_sum : ◌≡◌ {A = ℕ} old.entries (sum_by (λ o. o.chunks.memory.next) (sts ++ st ∷ [])) =
-    held.entries ∙ none_more true st.chunks.memory.next (sum_by (λ o. o.chunks.memory.next) sts) next
-    ∙ ap (λ l. st.chunks.memory.next + sum_by (λ o. o.chunks.memory.next) l) (sym (append-nil sts)) ∙ sym (sum_split (λ o. o.chunks.memory.next) sts st []) in
-    let counted : ◌≡◌ {A = ℕ} old.active (length (filter (λ o. nat_lt 0 o.chunks.memory.next) (sts ++ st ∷ []))) =
-    held.active ∙ none_more true (cond (nat_lt 0 st.chunks.memory.next) 1 0) (length (filter (λ o. nat_lt 0 o.chunks.memory.next) sts)) (ap (λ n. cond (nat_lt 0 n) 1 0) next)
-    ∙ ap (λ l. cond (nat_lt 0 st.chunks.memory.next) 1 0 + length (filter (λ o. nat_lt 0 o.chunks.memory.next) l)) (sym (append-nil sts)) ∙ sym (count_split (λ o. nat_lt 0 o.chunks.memory.next) sts st []) in
+    let all = held.entries in
+    let all_stored = held.stored in
+    let all_active = held.active in
     let empty = ap (λ k. k.stored_entries) nothing in
-    let stored_sum : ◌≡◌ {A = ℕ} old.stored (sum_by (λ o. (measure_of o).stored_entries) (sts ++ st ∷ [])) =
-    held.stored ∙ none_more true (measure_of st).stored_entries (sum_by (λ o. (measure_of o).stored_entries) sts) empty
-    ∙ ap (λ l. (measure_of st).stored_entries + sum_by (λ o. (measure_of o).stored_entries) l) (sym (append-nil sts)) ∙ sym (sum_split (λ o. (measure_of o).stored_entries) sts st []) in
+    let begun : Stream → Bool = λ o. nat_lt 0 o.chunks.memory.next in
+    let none_begun = ap (λ n. length (cond (nat_lt 0 n) (st ∷ []) [])) next in
+    let more_begun = ap length (filter-append begun sts (st ∷ [])) ∙ length-append (filter begun sts) (filter begun (st ∷ [])) in
     let bound = held.few in
     record {
-      kept = subst (All IsKept) (sym is) (All-append IsKept sts (st ∷ []) held.kept (All-cons IsKept st [] kept (All-nil IsKept)));
+      kept = subst (All IsKept) (sym is) (All-push IsKept sts st held.kept kept);
       distinct = subst AreDistinct (sym is) (distinct_more sts st held.distinct others);
       found = λ k. find k.tenant k.name ∙ ap (cond (same_stream s k) (Some (length sts))) (held.found k) ∙ sym (position_more sts st others k) ∙ ap (position_of k) (sym is);
-      known = subst (All Known) (sym is) (All-append Known sts (st ∷ []) (All-weaker (λ (o : Stream). is_known old.tenants o.tenant ≡ true) Known (λ o. stay o.tenant) sts held.known) (All-cons Known st [] known (All-nil Known)));
-      labelled = subst (All Labelled) (sym is) (All-append Labelled sts (st ∷ []) held.labelled (All-cons Labelled st [] label_set (All-nil Labelled)));
+      known = subst (All Known) (sym is) (All-push Known sts st (All-weaker (λ (o : Stream). is_known old.tenants o.tenant ≡ true) Known (λ o. stay o.tenant) sts held.known) known);
+      labelled = subst (All Labelled) (sym is) (All-push Labelled sts st held.labelled label_set);
       posted = λ t. posted t ∙ ap (λ l. cond (bytes_eq st.tenant t) (l ++ listed_as (length sts) st.labels ∷ []) l) (held.posted t) ∙ sym (listed_more t sts st) ∙ ap (listed_of t) (sym is);
       sums = λ t. same t ∙ held.sums t ∙ measures_more t sts st nothing ∙ ap (measures_of t) (sym is);
-      entries = entries ∙ next_sum ∙ ap (sum_by (λ o. o.chunks.memory.next)) (sym is);
-      stored = stored ∙ stored_sum ∙ ap (sum_by (λ o. (measure_of o).stored_entries)) (sym is);
-      active = active ∙ counted ∙ ap (λ l. length (filter (λ o. nat_lt 0 o.chunks.memory.next) l)) (sym is);
+      entries = subst (λ l. new.entries ≡ sum_by (λ o. o.chunks.memory.next) l) (sym is) (omega (arith, entries, all, next, sum_by_push (λ (o : Stream). o.chunks.memory.next) sts st));
+      stored = subst (λ l. new.stored ≡ sum_by (λ o. (measure_of o).stored_entries) l) (sym is) (omega (arith, stored, all_stored, empty, sum_by_push (λ (o : Stream). (measure_of o).stored_entries) sts st));
+      active = subst (λ l. new.active ≡ length (filter begun l)) (sym is) (omega (arith, active, all_active, none_begun, more_begun));
       few = omega (arith, entries, bound);
       flights = λ f. let apart = held.flights f in subst (λ n. n ≡ cond (is_some (get new.flights f)) 1 0) (flights_more f sts st unclaimed ∙ ap (flights_among f) (sym is)) (subst (λ t. flights_among f sts ≡ cond (is_some (get t f)) 1 0) (sym taken) apart);
     }
 
 -- ---- a stream has changed
-
-pub replaced : (P : Stream → Type 0) (front : List Stream) (st new : Stream) (back : List Stream) → All P (front ++ st ∷ back) → P new → All P (front ++ new ∷ back)
-replaced P [] st new back h p = All-cons P new back p (All-tail P st back h)
-replaced P (f ∷ front) st new back h p = All-cons P f (front ++ new ∷ back) (All-head P f (front ++ st ∷ back) h) (replaced P front st new back (All-tail P f (front ++ st ∷ back) h) p)
-
-pub middle : (P : Stream → Type 0) (front : List Stream) (st : Stream) (back : List Stream) → All P (front ++ st ∷ back) → P st
-middle P [] st back h = All-head P st back h
-middle P (f ∷ front) st back h = middle P front st back (All-tail P f (front ++ st ∷ back) h)
 
 -- no flight has two chunks, where the sealed chunks are the same
 pub apart_kept : {T : Type 0} (taken : Slab T) (front : List Stream) (st now : Stream) (back : List Stream) → AreApart taken (front ++ st ∷ back) → now.chunks.sealed ≡ st.chunks.sealed → AreApart taken (front ++ now ∷ back)

@@ -1,6 +1,5 @@
 -- The streams that a tenant's label index lists.
-use Rattle.std.proofs.Common.{◌≡◌, ℕ, ◌+◌, ◌<◌, Bool, List, [], ◌∷◌, ◌++◌, length, map, cond, true, false, ◌&&◌, refl, ap, sym, ◌∙◌, append-nil, arith, filter}
-use Rattle.std.specs.Prelude.{All, IfOk, Result, Ok, Err, bytes_eq}
+use Rattle.std.proofs.Common.{◌≡◌, ℕ, ◌+◌, ◌<◌, Bool, List, [], ◌∷◌, ◌++◌, length, map, cond, true, false, ◌&&◌, refl, ap, sym, ◌∙◌, append-nil, arith, filter, All, IfOk, Result, Ok, Err, bytes_eq}
 use Rattle.std.specs.List.{enumerate_from}
 use Rattle.std.proofs.lemmas.List.{map-append}
 use Rattle.std.proofs.lemmas.List.Elements.{All-cons, All-head, All-nil, All-tail, All-weaker, filter-append}

@@ -1,9 +1,8 @@
 -- Which streams are live, stream by stream.
-use Rattle.std.proofs.Common.{◌≡◌, ℕ, Bool, true, false, not, cond, ◌&&◌, ◌||◌, List, [], ◌∷◌, ◌++◌, length, filter, nat_lt, refl, sym, ap, ◌∙◌, arith, append-nil}
-use Rattle.std.specs.Prelude.{All, bytes_eq, sum_by}
+use Rattle.std.proofs.Common.{◌≡◌, ℕ, Bool, true, false, not, cond, ◌&&◌, ◌||◌, List, [], ◌∷◌, ◌++◌, length, filter, nat_lt, refl, sym, ap, ◌∙◌, arith, append-nil, All, bytes_eq, sum_by, lt-ltb}
+use Rattle.std.proofs.lemmas.List.Sums.{sum_by-cons}
 use Rattle.std.specs.List.{list_any}
-use Rattle.std.proofs.lemmas.Bool.{lt-ltb}
-use Rattle.std.proofs.lemmas.List.Elements.{All-cons, All-head, All-nil, All-tail, filter-append}
+use Rattle.std.proofs.lemmas.List.Elements.{All-head, All-tail, filter-append, All-filter}
 use Rattle.std.proofs.lemmas.Slice.Eq.{bytes_eq-Decides}
 use Rattle.ing_rows.specs.declared.place.Place.{Place}
 use Rattle.ing_rows.specs.declared.place.Place.TheVariants.{Head, Block, Flight, Stored}
@@ -11,7 +10,7 @@ use Rattle.ing_rows.specs.Gauges.{gauge_of}
 use Rattle.ing_rows.specs.Rows.{StreamKey, Row, same_stream, has_stream, is_block, is_head, is_in_flight, is_live, is_stored, live_streams, streams_of}
 use Rattle.ing_shard.specs.OneStream.{Stream}
 use Rattle.ing_shard.specs.Streams.{key_of, part_of, whole, AreDistinct, has_live, measure_of, sum_of}
-use Rattle.ing_shard.proofs.CountLaws.{same_self, sum_cons}
+use Rattle.ing_shard.proofs.CountLaws.{same_self}
 use Rattle.ing_shard.proofs.Parts.{all_rows}
 use Rattle.ing_shard.proofs.WholeLaws.{others_rows}
 
@@ -81,16 +80,9 @@ part_live st = (ap (has_stream (key_of st)) (part_streams st) ∙ in_front (key_
 -- ---- all streams
 
 chosen : (b q : Bool) (s : StreamKey) (ss : List StreamKey) (g : Stream → ℕ) (st : Stream) (sts : List Stream) → g st ≡ cond q 1 0 → length ss ≡ sum_by g sts → length (front (b && q) s ss) ≡ sum_by g (cond b (st ∷ sts) sts)
-chosen true true s ss g st sts one rest = let sum = sum_cons g st sts in omega (arith, one, rest, sum)
-chosen true false s ss g st sts one rest = let sum = sum_cons g st sts in omega (arith, one, rest, sum)
+chosen true true s ss g st sts one rest = let sum = sum_by-cons g st sts in omega (arith, one, rest, sum)
+chosen true false s ss g st sts one rest = let sum = sum_by-cons g st sts in omega (arith, one, rest, sum)
 chosen false q s ss g st sts one rest = rest
-
-still_others : (p : Row → Bool) (s : StreamKey) (rows : List Row) → All (λ r. same_stream r.stream s ≡ false) rows → All (λ r. same_stream r.stream s ≡ false) (filter p rows)
-still_others p s [] h = All-nil (λ (r : Row). same_stream r.stream s ≡ false)
-still_others p s (r ∷ rows) h = kept (p r) (All-head (λ (q : Row). same_stream q.stream s ≡ false) r rows h) (still_others p s rows (All-tail (λ (q : Row). same_stream q.stream s ≡ false) r rows h)) where
-  kept : (b : Bool) → same_stream r.stream s ≡ false → All (λ q. same_stream q.stream s ≡ false) (filter p rows) → All (λ q. same_stream q.stream s ≡ false) (cond b (r ∷ filter p rows) (filter p rows))
-  kept true here rest = All-cons (λ (q : Row). same_stream q.stream s ≡ false) r (filter p rows) here rest
-  kept false here rest = rest
 
 -- how many of a tenant's streams are live
 pub live_total : (t : List ℕ) (sts : List Stream) → AreDistinct sts → length (live_streams (whole sts).rows t) ≡ sum_of (λ k. k.live) t sts
@@ -100,7 +92,7 @@ live_total t (st ∷ sts) distinct =
     let rest = filter (is_live t) (whole sts).rows in
     ap (λ l. length (streams_of l)) (filter-append (is_live t) (part_of st).rows (whole sts).rows)
     ∙ ap length (streams_front (is_live t) s (part_of st).rows rest (all_rows s (λ r. r.stream ≡ s) (λ first block place e. refl) st.chunks)
-    (none_has s rest (still_others (is_live t) s (whole sts).rows (others_rows s sts distinct.0))))
+    (none_has s rest (All-filter (is_live t) (λ (r : Row). same_stream r.stream s ≡ false) (whole sts).rows (others_rows s sts distinct.0))))
     ∙ ap (λ b. length (front b s (streams_of rest))) (live_any t st)
     ∙ chosen (bytes_eq st.tenant t) (has_live st) s (streams_of rest) (λ o. (measure_of o).live) st (filter (λ o. bytes_eq o.tenant t) sts) refl (live_total t sts distinct.1)
 

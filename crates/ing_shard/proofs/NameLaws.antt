@@ -1,11 +1,7 @@
 -- What is found by name after a name is taken in or out.
-use Rattle.std.proofs.Common.{◌≡◌, ℕ, Bool, List, Option, Some, None, true, false, refl, ap, cond, sym, ◌∙◌}
-use Rattle.std.specs.Prelude.{bytes_eq, is_some}
+use Rattle.std.proofs.Common.{◌≡◌, ℕ, Bool, List, Option, Some, None, true, false, refl, ap, cond, sym, ◌∙◌, bytes_eq, is_some, is_eq, nat_cmp, Ordering, Less, Equal, Greater}
 use Rattle.std.specs.Option.{option_map_or, option_or}
-use Rattle.std.specs.Ordering.{is_eq, nat_cmp}
 use Rattle.std.specs.Cmp.{nat_cmp_is}
-use Rattle.std.specs.declared.cmp.Ordering.{Ordering}
-use Rattle.std.specs.declared.cmp.Ordering.TheVariants.{Less, Equal, Greater}
 use Rattle.std.specs.BTreeMap as tree
 use Rattle.std.specs.BTreeMap.{get_by_text}
 use Rattle.std.specs.Map.{update}
@@ -41,13 +37,9 @@ first_none : (h o : Option ℕ) → option_or h o ≡ None → h ≡ None
 first_none None o e = refl
 first_none (Some x) o e = e
 
-pub none_from_not_some : (h : Option ℕ) → is_some h ≡ false → h ≡ None
-none_from_not_some None e = refl
-none_from_not_some (Some x) e = cc
-
-group_none : (g : Option Named) → is_some g ≡ false → g ≡ None
-group_none None e = refl
-group_none (Some x) e = cc
+not_some : {X : Type 0} (o : Option X) → is_some o ≡ false → o ≡ None
+not_some None e = refl
+not_some (Some x) e = cc
 
 test_from_some : (b : Bool) (x : ℕ) → is_some (cond b (Some x) None) ≡ true → b ≡ true
 test_from_some true x e = refl
@@ -97,7 +89,7 @@ hashed_added name named old new hash of_name hashed same free writes n =
     ∙ added_case (bytes_eq name n) (is_eq (nat_cmp hash (name_hash n))) named.number (number_if_named n) named
     (tree.get nat_cmp old.by_hash (name_hash n)) (get_by_text old.others n)
     (ap (λ bs. cond (bytes_eq bs n) (Some named.number) None) of_name)
-    (λ e. ap (tree.get nat_cmp old.by_hash) (sym (same_number hash (name_hash n) e)) ∙ group_none (tree.get nat_cmp old.by_hash hash) free)
+    (λ e. ap (tree.get nat_cmp old.by_hash) (sym (same_number hash (name_hash n) e)) ∙ not_some (tree.get nat_cmp old.by_hash hash) free)
     (λ e. ap (λ h. is_eq (nat_cmp h (name_hash n))) hashed ∙ same_hash name n e)
 
 -- the name is not kept under its hash, and every other name is found as before
@@ -139,7 +131,7 @@ hashed_out name old new hash hashed same found writes = record {
 pub nothing_out : (name : List ℕ) (names : StreamNames) → is_some (find_hashed names name) ≡ false → IsOut name names names
 nothing_out name names none = record {
   others = refl;
-  none = none_from_not_some (find_hashed names name) none;
+  none = not_some (find_hashed names name) none;
   stay = λ n apart. refl;
 }
 

@@ -1,6 +1,5 @@
 -- The rows and marks of a stream's chunks are that stream's.
-use Rattle.std.proofs.Common.{◌≡◌, ℕ, List, [], ◌∷◌, false}
-use Rattle.std.specs.Prelude.{All}
+use Rattle.std.proofs.Common.{◌≡◌, ℕ, List, [], ◌∷◌, false, All}
 use Rattle.std.proofs.lemmas.List.Elements.{All-append, All-cons, All-nil}
 use Rattle.ing_rows.specs.declared.place.Place.{Place}
 use Rattle.ing_rows.specs.declared.place.Place.TheVariants.{Head, Block}
@@ -11,7 +10,7 @@ use Rattle.ing_sealed.specs.Slots.{Slot, slots_state}
 use Rattle.ing_stream.specs.Contents.{StreamContents, whole_state}
 use Rattle.ing_stream.proofs.Rows.{memory_all, memory_marked, slots_all, slots_marked}
 
-all_of_all : {X : Type 0} (P : X → Type 0) → ((x : X) → P x) → (xs : List X) → All P xs
+pub all_of_all : {X : Type 0} (P : X → Type 0) → ((x : X) → P x) → (xs : List X) → All P xs
 all_of_all P h [] = All-nil P
 all_of_all P h (x ∷ xs) = All-cons P x xs (h x) (all_of_all P h xs)
 

@@ -1,6 +1,5 @@
 -- Whether a selector picks a stream, told by the canonical name of its labels.
-use Rattle.std.proofs.Common.{◌≡◌, Bool, true, false, ◌&&◌, ℕ, List, ap, sym, refl, ◌∙◌}
-use Rattle.std.specs.Prelude.{bytes_eq}
+use Rattle.std.proofs.Common.{◌≡◌, Bool, true, false, ◌&&◌, ℕ, List, ap, sym, refl, ◌∙◌, bytes_eq}
 use Rattle.ing_labels.specs.Labels.{LabelMap, IsLabelSet}
 use Rattle.ing_labels.specs.Canonical.{CanonicalNamesAreExact, canonical_of}
 use Rattle.ing_labels.specs.CanonicalTests.{CanonicalNamesAreDecided, is_canonical}

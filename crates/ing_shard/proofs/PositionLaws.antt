@@ -1,34 +1,22 @@
 -- A stream's place in the list, and the list around it.
-use Rattle.std.proofs.Common.{◌≡◌, ℕ, ◌+◌, ◌<◌, Bool, List, [], ◌∷◌, ◌++◌, length, map, cond, true, false, ◌&&◌, ◌||◌, is_some, Option, Some, None, refl, ap, sym, ◌∙◌, subst, arith}
-use Rattle.std.specs.Prelude.{bytes_eq}
-use Rattle.std.proofs.Common.{get_or}
-use Rattle.std.proofs.Math.Seq.{get_or-append_seam}
-use Rattle.std.proofs.lemmas.List.{length-append}
-use Rattle.std.specs.Option.{option_map}
-use Rattle.std.proofs.lemmas.List.Elements.{All-append, All-cons, All-head, All-nil, All-tail}
+use Rattle.std.proofs.Common.{◌≡◌, ℕ, ◌+◌, ◌<◌, Bool, List, [], ◌∷◌, ◌++◌, length, map, cond, true, false, ◌||◌, is_some, Option, Some, None, refl, ap, sym, ◌∙◌, subst, arith, bytes_eq, get_or, option_map}
+use Rattle.std.proofs.lemmas.Bool.{and_parts}
+use Rattle.std.proofs.lemmas.List.{get_or_at, length-append}
+use Rattle.std.proofs.lemmas.List.Elements.{All-cons, All-head, All-nil, All-tail, All-push}
 use Rattle.std.proofs.lemmas.Slice.Eq.{bytes_eq-Decides}
 use Rattle.ing_rows.specs.declared.entry.Entry.{Entry}
 use Rattle.ing_rows.specs.Rows.{StreamKey, has_stream, same_stream}
 use Rattle.ing_shard.specs.Contents.{listed_after}
 use Rattle.ing_shard.specs.OneStream.{Stream}
 use Rattle.ing_shard.specs.Streams.{key_of, AreDistinct, position_of}
-use Rattle.ing_shard.proofs.CountLaws.{same_self}
+use Rattle.ing_shard.proofs.CountLaws.{same_self, middle, replaced}
 use Rattle.ing_shard.proofs.WholeLaws.{IsOther, AreOthers}
-
-both_left : (a b : Bool) → (a && b) ≡ true → a ≡ true
-both_left true b h = refl
-both_left false b h = h
-
-both_right : (a b : Bool) → (a && b) ≡ true → b ≡ true
-both_right true b h = h
-both_right false b h = absurd (cc)
 
 -- a stream is known by its tenant and its name
 pub same_key : (a b : StreamKey) → same_stream a b ≡ true → a ≡ b
 same_key a b h =
-    let tenant : a.tenant ≡ b.tenant = (bytes_eq-Decides a.tenant b.tenant).0 (both_left (bytes_eq a.tenant b.tenant) (bytes_eq a.name b.name) h) in
-    let name : a.name ≡ b.name = (bytes_eq-Decides a.name b.name).0 (both_right (bytes_eq a.tenant b.tenant) (bytes_eq a.name b.name) h) in
-    λ i. record { tenant = tenant i; name = name i }
+    let both = and_parts (bytes_eq a.tenant b.tenant) (bytes_eq a.name b.name) h in
+    λ i. record { tenant = (bytes_eq-Decides a.tenant b.tenant).0 both.0 i; name = (bytes_eq-Decides a.name b.name).0 both.1 i }
 
 flip_case : (a b : StreamKey) (c : Bool) → same_stream b a ≡ c → same_stream a b ≡ false → c ≡ false
 flip_case a b true holds fails = absurd (cc (sym (ap (λ k. same_stream a k) (same_key b a holds) ∙ same_self a), fails))
@@ -94,9 +82,6 @@ none_others s (st ∷ sts) is = none_case s st sts (same_stream (key_of st) s) (
 
 -- ---- one more stream at the end
 
-pub others_more : (s : StreamKey) (sts : List Stream) (st : Stream) → AreOthers s sts → IsOther s st → AreOthers s (sts ++ st ∷ [])
-others_more s sts st h k = All-append (IsOther s) sts (st ∷ []) h (All-cons (IsOther s) st [] k (All-nil (IsOther s)))
-
 last_case : (a b : Bool) (o : Option ℕ) (n : ℕ) → cond a (Some 0) (option_map (λ k. k + 1) (cond b (Some n) o)) ≡ cond a (Some 0) (cond b (Some (n + 1)) (option_map (λ k. k + 1) o))
 last_case true b o n = refl
 last_case false true o n = refl
@@ -125,7 +110,7 @@ pub distinct_more : (sts : List Stream) (new : Stream) → AreDistinct sts → A
 distinct_more [] new distinct others = (All-nil (IsOther (key_of new)), tt)
 distinct_more (st ∷ sts) new distinct others =
     let here : IsOther (key_of new) st = All-head (IsOther (key_of new)) st sts others in
-    (others_more (key_of st) sts new distinct.0 (same_flip (key_of st) (key_of new) here), distinct_more sts new distinct.1 (All-tail (IsOther (key_of new)) st sts others))
+    (All-push (IsOther (key_of st)) sts new distinct.0 (same_flip (key_of st) (key_of new) here), distinct_more sts new distinct.1 (All-tail (IsOther (key_of new)) st sts others))
 
 -- ---- a stream with its key in the place of another
 
@@ -134,8 +119,7 @@ position_same [] st new back key s = ap (λ k. cond (same_stream k s) (Some 0) (
 position_same (f ∷ front) st new back key s = ap (λ o. cond (same_stream (key_of f) s) (Some 0) (option_map (λ n. n + 1) o)) (position_same front st new back key s)
 
 others_same : (s : StreamKey) (front : List Stream) (st new : Stream) (back : List Stream) → key_of new ≡ key_of st → AreOthers s (front ++ st ∷ back) → AreOthers s (front ++ new ∷ back)
-others_same s [] st new back key h = All-cons (IsOther s) new back (ap (λ k. same_stream k s) key ∙ All-head (IsOther s) st back h) (All-tail (IsOther s) st back h)
-others_same s (f ∷ front) st new back key h = All-cons (IsOther s) f (front ++ new ∷ back) (All-head (IsOther s) f (front ++ st ∷ back) h) (others_same s front st new back key (All-tail (IsOther s) f (front ++ st ∷ back) h))
+others_same s front st new back key h = replaced (IsOther s) front st new back h (ap (λ k. same_stream k s) key ∙ middle (IsOther s) front st back h)
 
 pub distinct_same : (front : List Stream) (st new : Stream) (back : List Stream) → key_of new ≡ key_of st → AreDistinct (front ++ st ∷ back) → AreDistinct (front ++ new ∷ back)
 distinct_same [] st new back key distinct = (subst (λ k. AreOthers k back) (sym key) distinct.0, distinct.1)
@@ -151,17 +135,9 @@ splits_within s sts i n counted split =
     omega (arith, long, one, at, counted)
 
 pub splits_read : (s : StreamKey) (sts : List Stream) (i : ℕ) (split : Splits s sts i) (d : Stream) → get_or sts i d ≡ split.st
-splits_read s sts i split d = (λ j. get_or (split.is j) (sym split.at j) d) ∙ get_or-append_seam split.front split.st split.back d
+splits_read s sts i split d = ap (λ l. get_or l i d) split.is ∙ get_or_at split.front split.st split.back d i split.at
 
 -- ---- the keys of the listed streams
-
-pub keys_same : (front : List Stream) (st new : Stream) (back : List Stream) → key_of new ≡ key_of st → map key_of (front ++ new ∷ back) ≡ map key_of (front ++ st ∷ back)
-keys_same [] st new back key = ap (λ k. k ∷ map key_of back) key
-keys_same (f ∷ front) st new back key = ap (λ l. key_of f ∷ l) (keys_same front st new back key)
-
-pub keys_more : (sts : List Stream) (new : Stream) → map key_of (sts ++ new ∷ []) ≡ map key_of sts ++ key_of new ∷ []
-keys_more [] new = refl
-keys_more (st ∷ sts) new = ap (λ l. key_of st ∷ l) (keys_more sts new)
 
 either_found : (b : Bool) (o : Option ℕ) → (b || is_some o) ≡ is_some (cond b (Some 0) (option_map (λ k. k + 1) o))
 either_found true o = refl

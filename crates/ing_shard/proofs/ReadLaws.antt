@@ -1,20 +1,32 @@
 -- What is read of a shard's streams is what the whole gives.
-use Rattle.std.proofs.Common.{◌≡◌, ℕ, ◌==◌, Bool, List, [], ◌∷◌, ◌++◌, length, false, ◌&&◌, None, refl, ap, sym, ◌∙◌, subst, filter, append-nil}
-use Rattle.std.specs.Prelude.{All}
+use Rattle.std.proofs.Common.{◌≡◌, ℕ, ◌==◌, Bool, List, [], ◌∷◌, ◌++◌, length, false, ◌&&◌, None, refl, ap, sym, ◌∙◌, subst, filter, append-nil, All}
 use Rattle.std.proofs.lemmas.List.Elements.{All-weaker, filter-append}
-use Rattle.ing_rows.specs.Gauges.{gauges_of}
+use Rattle.ing_rows.specs.declared.gauges.Gauges.{Gauges}
+use Rattle.ing_rows.specs.declared.place.Place.{Place}
+use Rattle.ing_rows.specs.Gauges.{gauge_of, gauges_of}
 use Rattle.ing_rows.specs.Rows.{StreamKey, Row, State, empty_state, same_stream, is_block, is_head, is_in_flight, is_stored, live_streams, streams_of, chunk_starts}
 use Rattle.ing_rows.specs.Facts.{facts_of}
 use Rattle.ing_rows.specs.Sound.{IsSound}
+use Rattle.ing_shard.specs.OneStream.{Stream}
 use Rattle.ing_shard.specs.declared.streams.Streams.{Streams}
+use Rattle.ing_shard.specs.declared.tenants.TenantKept.{TenantKept}
 use Rattle.ing_shard.specs.Tenants.{kept_of}
-use Rattle.ing_shard.specs.Streams.{key_of, part_of, whole, facts_kept, with_live, IsKept, AreHeld, measure_of}
-use Rattle.ing_shard.proofs.CountLaws.{bytes_total, entries_total, filter_eq, filter_false, reordered, rows_total, stored_total, streams_total}
+use Rattle.ing_shard.specs.Streams.{key_of, part_of, whole, facts_kept, with_live, IsKept, AreHeld, measure_of, sum_of}
+use Rattle.ing_shard.proofs.CountLaws.{bytes_total, entries_total, filter_eq, filter_false, middle, reordered, rows_total, stored_total, streams_total}
 use Rattle.ing_shard.proofs.LiveLaws.{live_total}
 use Rattle.ing_shard.specs.Contents.{stored_count}
-use Rattle.ing_shard.proofs.HeldLaws.{middle}
 use Rattle.ing_shard.proofs.PositionLaws.{Splits}
 use Rattle.ing_shard.proofs.WholeLaws.{AreOthers, FactsGo, FactsBeside, SoundBeside, whole_front, whole_sound, whole_facts, unlisted_facts, others_rows}
+
+-- a tenant's sums as its gauges
+abbrev pub gauges_in : TenantKept → Gauges
+gauges_in kept = record {
+  streams = kept.live;
+  head = record { entries = kept.head_entries; bytes = kept.head_bytes };
+  block = record { entries = kept.block_entries; bytes = kept.block_bytes };
+  flight = record { entries = kept.flight_entries; bytes = kept.flight_bytes };
+  stored = record { entries = kept.stored_entries; bytes = kept.stored_bytes };
+}
 
 abbrev pub CountsStreams : Type 0
 CountsStreams = (st : State) → IsSound st → length (streams_of st.rows) ≡ length (filter (λ r. r.number == 0) st.rows)
@@ -70,31 +82,17 @@ module _ (go : FactsGo) (beside_facts : FactsBeside) (joined : SoundBeside) (fre
 
   -- ---- gauges
 
-  pub gauges_are : (t : List ℕ) → let kept = kept_of streams.tenants t in
-      record {
-        streams = kept.live;
-        head = record { entries = kept.head_entries; bytes = kept.head_bytes };
-        block = record { entries = kept.block_entries; bytes = kept.block_bytes };
-        flight = record { entries = kept.flight_entries; bytes = kept.flight_bytes };
-        stored = record { entries = kept.stored_entries; bytes = kept.stored_bytes };
-      }
-      ≡ gauges_of (whole streams.list.items).rows t
+  pub gauges_are : (t : List ℕ) → gauges_in (kept_of streams.tenants t) ≡ gauges_of (whole streams.list.items).rows t
   gauges_are t =
       let sts = streams.list.items in
-      let sums = held.sums t in
-      let live = sym (live_is t) in
-      let heads = ap (λ k. k.head_entries) sums ∙ sym (entries_total is_head (λ st. (measure_of st).head_entries) (λ st. refl) t sts) in
-      let head_bytes = ap (λ k. k.head_bytes) sums ∙ sym (bytes_total is_head (λ st. (measure_of st).head_bytes) (λ st. refl) t sts) in
-      let blocks = ap (λ k. k.block_entries) sums ∙ sym (entries_total is_block (λ st. (measure_of st).block_entries) (λ st. refl) t sts) in
-      let block_bytes = ap (λ k. k.block_bytes) sums ∙ sym (bytes_total is_block (λ st. (measure_of st).block_bytes) (λ st. refl) t sts) in
-      let flights = ap (λ k. k.flight_entries) sums ∙ sym (entries_total is_in_flight (λ st. (measure_of st).flight_entries) (λ st. refl) t sts) in
-      let flight_bytes = ap (λ k. k.flight_bytes) sums ∙ sym (bytes_total is_in_flight (λ st. (measure_of st).flight_bytes) (λ st. refl) t sts) in
-      let stored = ap (λ k. k.stored_entries) sums ∙ sym (entries_total is_stored (λ st. (measure_of st).stored_entries) (λ st. refl) t sts) in
-      let stored_bytes = ap (λ k. k.stored_bytes) sums ∙ sym (bytes_total is_stored (λ st. (measure_of st).stored_bytes) (λ st. refl) t sts) in
+      let entries : (at : Place → Bool) (f : TenantKept → ℕ) → f (kept_of streams.tenants t) ≡ sum_of f t sts → ((st : Stream) → f (measure_of st) ≡ (gauge_of at (part_of st).rows st.tenant).entries) → f (kept_of streams.tenants t) ≡ (gauge_of at (whole sts).rows t).entries =
+      λ at f sums is. sums ∙ sym (entries_total at (λ st. f (measure_of st)) is t sts) in
+      let bytes : (at : Place → Bool) (f : TenantKept → ℕ) → f (kept_of streams.tenants t) ≡ sum_of f t sts → ((st : Stream) → f (measure_of st) ≡ (gauge_of at (part_of st).rows st.tenant).bytes) → f (kept_of streams.tenants t) ≡ (gauge_of at (whole sts).rows t).bytes =
+      λ at f sums is. sums ∙ sym (bytes_total at (λ st. f (measure_of st)) is t sts) in
       λ i. record {
-        streams = live i;
-        head = record { entries = heads i; bytes = head_bytes i };
-        block = record { entries = blocks i; bytes = block_bytes i };
-        flight = record { entries = flights i; bytes = flight_bytes i };
-        stored = record { entries = stored i; bytes = stored_bytes i };
+        streams = sym (live_is t) i;
+        head = record { entries = entries is_head (λ k. k.head_entries) (ap (λ k. k.head_entries) (held.sums t)) (λ st. refl) i; bytes = bytes is_head (λ k. k.head_bytes) (ap (λ k. k.head_bytes) (held.sums t)) (λ st. refl) i };
+        block = record { entries = entries is_block (λ k. k.block_entries) (ap (λ k. k.block_entries) (held.sums t)) (λ st. refl) i; bytes = bytes is_block (λ k. k.block_bytes) (ap (λ k. k.block_bytes) (held.sums t)) (λ st. refl) i };
+        flight = record { entries = entries is_in_flight (λ k. k.flight_entries) (ap (λ k. k.flight_entries) (held.sums t)) (λ st. refl) i; bytes = bytes is_in_flight (λ k. k.flight_bytes) (ap (λ k. k.flight_bytes) (held.sums t)) (λ st. refl) i };
+        stored = record { entries = entries is_stored (λ k. k.stored_entries) (ap (λ k. k.stored_entries) (held.sums t)) (λ st. refl) i; bytes = bytes is_stored (λ k. k.stored_bytes) (ap (λ k. k.stored_bytes) (held.sums t)) (λ st. refl) i };
       }

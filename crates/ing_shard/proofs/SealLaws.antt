@@ -1,9 +1,8 @@
 -- Growing chunks of a shard are sealed stream by stream.
-use Rattle.std.proofs.Common.{◌≡◌, ℕ, ◌+◌, ◌<◌, Bool, List, [], ◌∷◌, ◌++◌, length, map, cond, false, not, ◌&&◌, ◌==◌, Option, Some, refl, ap, sym, ◌∙◌, subst, arith, filter, replicate, append-nil, append_assoc}
-use Rattle.std.specs.Prelude.{All, is_some, sum_by}
-use Rattle.std.proofs.lemmas.List.{length-append}
-use Rattle.std.proofs.lemmas.List.Elements.{All-cons, All-head, All-nil, All-tail, All-weaker, filter-append}
-use Rattle.std.proofs.lemmas.List.Sums.{sum_by-append}
+use Rattle.std.proofs.Common.{◌≡◌, ℕ, ◌+◌, ◌<◌, Bool, List, [], ◌∷◌, ◌++◌, length, map, cond, false, not, ◌&&◌, ◌==◌, Option, Some, refl, ap, sym, ◌∙◌, subst, arith, filter, replicate, append-nil, append_assoc, All, is_some, sum_by}
+use Rattle.std.proofs.lemmas.List.{length-append, length-map}
+use Rattle.std.proofs.lemmas.List.Elements.{All-cons, All-head, All-nil, All-tail, All-weaker, filter-append, filter_agree}
+use Rattle.std.proofs.lemmas.List.Sums.{sum_by-cons, sum_by-append}
 use Rattle.ing_labels.specs.Canonical.{canonical_of}
 use Rattle.ing_rows.specs.declared.place.SealReason.{SealReason}
 use Rattle.ing_rows.specs.declared.place.SealReason.TheVariants as reason
@@ -18,8 +17,8 @@ use Rattle.ing_shard.specs.declared.sealing.Sealing.TheVariants.{Due, Forced}
 use Rattle.ing_shard.specs.OneStream.{Stream}
 use Rattle.ing_shard.specs.Sealing.{AreSealed, AreSealedTo, IsSealed, SealsOne, count_sealed, is_sealing, op, ops_after, ops_from, sealed_among, sealed_of, why_by, why_of}
 use Rattle.ing_shard.specs.Streams.{key_of, part_of, slots_of, whole, AreDistinct, IsKept}
-use Rattle.ing_shard.proofs.Alike.{same_refl, same_trans, beside_left, beside_right}
-use Rattle.ing_shard.proofs.CountLaws.{filter_eq, filter_false, reordered, sum_cons}
+use Rattle.ing_shard.proofs.Alike.{same_refl, same_trans, beside_comm, beside_left, beside_right}
+use Rattle.ing_shard.proofs.CountLaws.{filter_eq, filter_false, reordered}
 use Rattle.ing_shard.proofs.Parts.{all_rows, all_marks}
 use Rattle.ing_shard.proofs.PositionLaws.{same_flip}
 use Rattle.ing_shard.proofs.WholeLaws.{IsOther, AreOthers, others_rows, others_marks}
@@ -93,7 +92,7 @@ whole_sealed parts counts sweeps reasons which rules (st ∷ sts) (new ∷ news)
           (same_trans (beside (part_of new) (whole news)) (beside (sealed_of which rules (part_of st)) (whole news)) (beside (sealed_of which rules (part_of st)) (sealed_of which rules (whole sts)))
           (beside_left (part_of new) (sealed_of which rules (part_of st)) (whole news) mine)
           (beside_right (sealed_of which rules (part_of st)) (whole news) (sealed_of which rules (whole sts)) rest.0)),
-      split.1 ∙ (λ i. counted i + rest.1 i) ∙ sym (sum_cons (λ (o : Stream). cond (is_sealing which (rules o.tenant) o.chunks) 1 0) st sts),
+      split.1 ∙ (λ i. counted i + rest.1 i) ∙ sym (sum_by-cons (λ (o : Stream). cond (is_sealing which (rules o.tenant) o.chunks) 1 0) st sts),
     )
 
 -- ---- what can be claimed
@@ -108,10 +107,6 @@ none_outside : (s : StreamKey) (chunk : ℕ) (rows : List Row) → All (λ r. sa
 none_outside s chunk rows others =
     none_pass (outside s chunk) rows (All-weaker (λ (r : Row). same_stream r.stream s ≡ false) (λ (r : Row). outside s chunk r ≡ false)
     (λ r other. ap (λ b. (b && (r.chunk == chunk)) && not (is_block r.place)) other) rows others)
-
-all_same : {X : Type 0} (p q : X → Bool) → ((x : X) → p x ≡ q x) → (xs : List X) → filter p xs ≡ filter q xs
-all_same p q same [] = refl
-all_same p q same (x ∷ xs) = λ i. cond (same x i) (x ∷ all_same p q same xs i) (all_same p q same xs i)
 
 none_claimable : (s : StreamKey) (st : State) (ms : List Mark) → All (λ m. same_stream m.stream s ≡ false) ms → filter (is_claimable s st) ms ≡ []
 none_claimable s st ms others =
@@ -129,23 +124,17 @@ claims_left s a b none =
     ap length (filter-append (is_claimable s (beside a b)) a.marks b.marks
     ∙ ap (λ l. filter (is_claimable s (beside a b)) a.marks ++ l) (none_claimable s (beside a b) b.marks none.1)
     ∙ append-nil (filter (is_claimable s (beside a b)) a.marks)
-    ∙ all_same (is_claimable s (beside a b)) (is_claimable s a) same a.marks)
-
-claims_right : (s : StreamKey) (a b : State) → HasNone s a → claimable_count s (beside a b) ≡ claimable_count s b
-claims_right s a b none =
-    let same : (m : Mark) → is_claimable s (beside a b) m ≡ is_claimable s b m =
-    λ m. ap (λ l. (same_stream m.stream s && is_some m.reason) && (length l == 0))
-    (filter-append (outside s m.chunk) a.rows b.rows ∙ ap (λ l. l ++ filter (outside s m.chunk) b.rows) (none_outside s m.chunk a.rows none.0)) in
-    ap length (filter-append (is_claimable s (beside a b)) a.marks b.marks
-    ∙ ap (λ l. l ++ filter (is_claimable s (beside a b)) b.marks) (none_claimable s (beside a b) a.marks none.1)
-    ∙ all_same (is_claimable s (beside a b)) (is_claimable s b) same b.marks)
+    ∙ filter_agree (is_claimable s (beside a b)) (is_claimable s a) same a.marks)
 
 -- in whatever order the rows and marks stand
 pub claims_same : (s : StreamKey) (a b : State) → IsSame a b → claimable_count s a ≡ claimable_count s b
 claims_same s a b same =
-    ap length (all_same (is_claimable s a) (is_claimable s b)
+    ap length (filter_agree (is_claimable s a) (is_claimable s b)
     (λ m. ap (λ n. (same_stream m.stream s && is_some m.reason) && (n == 0)) (reordered (outside s m.chunk) a.rows b.rows same.rows)) a.marks)
     ∙ reordered (is_claimable s b) a.marks b.marks same.marks
+
+claims_right : (s : StreamKey) (a b : State) → HasNone s a → claimable_count s (beside a b) ≡ claimable_count s b
+claims_right s a b none = claims_same s (beside a b) (beside b a) (beside_comm a b) ∙ claims_left s b a none
 
 -- a stream has of the whole what it has of its part
 abbrev ClaimsOwn : State → Stream → Type 0
@@ -198,16 +187,27 @@ more_sealed which rules [] (x ∷ sealed) st now h one = absurd h
 more_sealed which rules (d ∷ done) [] st now h one = absurd h
 more_sealed which rules (d ∷ done) (x ∷ sealed) st now h one = (h.0, more_sealed which rules done sealed st now h.1 one)
 
+-- what is the same of each is the same of all
+map_sealed : {Y : Type 0} (f : Stream → Y) (which : Sealing) (rules : List ℕ → Rules) → ((own : Rules) (st now : Stream) → IsSealed which own st now → f now ≡ f st)
+    → (sts news : List Stream) → AreSealed which rules sts news → map f news ≡ map f sts
+map_sealed f which rules same [] [] h = refl
+map_sealed f which rules same [] (new ∷ news) h = absurd h
+map_sealed f which rules same (st ∷ sts) [] h = absurd h
+map_sealed f which rules same (st ∷ sts) (new ∷ news) h = λ i. same (rules st.tenant) st new h.0 i ∷ map_sealed f which rules same sts news h.1 i
+
+pub keys_sealed : (which : Sealing) (rules : List ℕ → Rules) (sts news : List Stream) → AreSealed which rules sts news → map key_of news ≡ map key_of sts
+keys_sealed which rules = map_sealed key_of which rules (λ own st now h i. record { tenant = h.tenant i; name = canonical_of (h.labels i) })
+
+pub slots_sealed : (which : Sealing) (rules : List ℕ → Rules) (sts news : List Stream) → AreSealed which rules sts news → map slots_of news ≡ map slots_of sts
+slots_sealed which rules = map_sealed slots_of which rules (λ own st now h. h.claimed)
+
 pub same_length : (which : Sealing) (rules : List ℕ → Rules) (done sealed : List Stream) → AreSealed which rules done sealed → length sealed ≡ length done
-same_length which rules [] [] h = refl
-same_length which rules [] (x ∷ sealed) h = absurd h
-same_length which rules (d ∷ done) [] h = absurd h
-same_length which rules (d ∷ done) (x ∷ sealed) h = let rest = same_length which rules done sealed h.1 in omega (arith, rest)
+same_length which rules done sealed h = sym (length-map sealed key_of) ∙ ap length (keys_sealed which rules done sealed h) ∙ length-map done key_of
 
 among_more : (which : Sealing) (rules : List ℕ → Rules) (done : List Stream) (st : Stream) → sealed_among which rules (done ++ st ∷ []) ≡ sealed_among which rules done + cond (is_sealing which (rules st.tenant) st.chunks) 1 0
 among_more which rules done st =
     let is : Stream → ℕ = λ o. cond (is_sealing which (rules o.tenant) o.chunks) 1 0 in
-    sum_by-append is done (st ∷ []) ∙ ap (λ n. sum_by is done + n) (sum_cons is st [] ∙ omega arith)
+    sum_by-append is done (st ∷ []) ∙ ap (λ n. sum_by is done + n) (sum_by-cons is st [] ∙ omega arith)
 
 module _ (which : Sealing) (rules : List ℕ → Rules) (number count : ℕ) (olds mids : List Stream) (to : AreSealedTo which rules number count olds mids) where
   pub as_many : length mids ≡ length olds
@@ -260,15 +260,3 @@ pub sealed_same : ((rules : List ℕ → Rules) (now : ℕ) (a b : State) → Is
     → (which : Sealing) (rules : List ℕ → Rules) (a b : State) → IsSame a b → OneMarkEach a.marks → IsSame (sealed_of which rules a) (sealed_of which rules b)
 sealed_same sweeps seals (Due now) rules a b same one = sweeps rules now a b same one
 sealed_same sweeps seals Forced rules a b same one = seals force a b same one
-
-pub keys_sealed : (which : Sealing) (rules : List ℕ → Rules) (sts news : List Stream) → AreSealed which rules sts news → map key_of news ≡ map key_of sts
-keys_sealed which rules [] [] h = refl
-keys_sealed which rules [] (new ∷ news) h = absurd h
-keys_sealed which rules (st ∷ sts) [] h = absurd h
-keys_sealed which rules (st ∷ sts) (new ∷ news) h = λ i. record { tenant = h.0.tenant i; name = canonical_of (h.0.labels i) } ∷ keys_sealed which rules sts news h.1 i
-
-pub slots_sealed : (which : Sealing) (rules : List ℕ → Rules) (sts news : List Stream) → AreSealed which rules sts news → map slots_of news ≡ map slots_of sts
-slots_sealed which rules [] [] h = refl
-slots_sealed which rules [] (new ∷ news) h = absurd h
-slots_sealed which rules (st ∷ sts) [] h = absurd h
-slots_sealed which rules (st ∷ sts) (new ∷ news) h = λ i. h.0.claimed i ∷ slots_sealed which rules sts news h.1 i

@@ -1,8 +1,8 @@
 -- What is read off a shard for a query: the rows of the streams that are picked.
-use Rattle.std.proofs.Common.{◌≡◌, ℕ, zero, suc, ◌+◌, ◌≤◌, Bool, true, false, cond, List, [], ◌∷◌, ◌++◌, length, map, filter, None, Some, refl, ap, sym, ◌∙◌, append_assoc, length-append, arith, subst}
-use Rattle.std.specs.Prelude.{All, slice_get}
+use Rattle.std.proofs.Common.{◌≡◌, ℕ, ◌+◌, Bool, true, false, cond, List, [], ◌∷◌, ◌++◌, length, map, filter, Some, refl, ap, sym, ◌∙◌, append_assoc, length-append, subst, All, slice_get}
+use Rattle.ing_shard.proofs.CountLaws.{filter_const, filter_eq}
 use Rattle.std.specs.List.{enumerate_from}
-use Rattle.std.proofs.lemmas.List.Elements.{All-head, All-tail, filter-append}
+use Rattle.std.proofs.lemmas.List.Elements.{filter-append, All-weaker}
 use Rattle.ing_rows.specs.Rows.{StreamKey, Row}
 use Rattle.ing_parts.specs.declared.snapshot.Snapshot.{Snapshot}
 use Rattle.ing_parts.specs.Answers.{StandFor}
@@ -13,19 +13,11 @@ use Rattle.ing_shard.specs.Snapshots.{rows_at, rows_of}
 use Rattle.ing_shard.specs.Streams.{key_of, part_of, whole}
 use Rattle.ing_shard.proofs.Parts.{all_rows}
 
-no_rows : (b : Bool) → ◌≡◌ {A = List Row} [] (cond b [] [])
-no_rows true = refl
-no_rows false = refl
-
 -- of rows that are all of one stream, all are picked or none
 one_stream : (picked : StreamKey → Bool) (s : StreamKey) (rows : List Row) → All (λ r. r.stream ≡ s) rows → filter (λ r. picked r.stream) rows ≡ cond (picked s) rows []
-one_stream picked s [] all = no_rows (picked s)
-one_stream picked s (r ∷ rows) all =
-    let rest = one_stream picked s rows (All-tail (λ (q : Row). q.stream ≡ s) r rows all) in
-    let mine = ap picked (All-head (λ (q : Row). q.stream ≡ s) r rows all) in
-    ap (λ b. cond b (r ∷ filter (λ q. picked q.stream) rows) (filter (λ q. picked q.stream) rows)) mine
-    ∙ ap (λ l. cond (picked s) (r ∷ l) l) rest
-    ∙ elim (picked s) as (λ b. cond b (r ∷ cond b rows []) (cond b rows []) ≡ cond b (r ∷ rows) []) [ true ↦ refl | false ↦ refl ]
+one_stream picked s rows all =
+    filter_eq (λ r. picked r.stream) (λ r. picked s) rows (All-weaker (λ (r : Row). r.stream ≡ s) (λ r. picked r.stream ≡ picked s) (λ r is. ap picked is) rows all)
+    ∙ filter_const (picked s) rows
 
 -- the stream behind those in front
 behind : (front : List Stream) (st : Stream) (sts : List Stream) → slice_get (front ++ st ∷ sts) (length front) ≡ Some st
@@ -73,9 +65,3 @@ has_rows rows old new none h =
     subst (StandFor new.best.order new.best.limit (wanted new)) there
     (subst (λ o. StandFor o new.best.limit (wanted new) (within old.start old.end all)) (sym h.order)
     (subst (λ n. StandFor old.best.order n (wanted new) (within old.start old.end all)) (sym h.limit) stand))
-
--- no stream stands behind the last
-pub no_stream : {X : Type 0} (xs : List X) (n : ℕ) → length xs ≤ n → slice_get xs n ≡ None
-no_stream [] n h = refl
-no_stream (x ∷ xs) zero h = absurd (omega arith)
-no_stream (x ∷ xs) (suc n) h = no_stream xs n (omega arith)

@@ -1,6 +1,7 @@
 -- What is in flight stays in flight where one stream changes and where one more is listed; a free number is no chunk's.
-use Rattle.std.proofs.Common.{◌≡◌, ◌≢◌, ℕ, zero, suc, ◌<◌, List, [], ◌∷◌, ◌++◌, map, Ok, Err, Result, Some, refl, ap, ◌∙◌, subst, arith}
-use Rattle.std.specs.Prelude.{OnErr, OnOk, slice_get}
+use Rattle.std.proofs.Common.{◌≡◌, ◌≢◌, ℕ, zero, suc, ◌<◌, List, [], ◌∷◌, ◌++◌, map, Ok, Err, Result, Some, refl, ap, ◌∙◌, subst, arith, OnErr, OnOk, slice_get}
+use Rattle.ing_shard.proofs.CountLaws.{map_same}
+use Rattle.std.proofs.lemmas.List.Sums.{sum_by-cons}
 use Rattle.std.proofs.lemmas.Option.{same_Some}
 use Rattle.ing_rows.specs.declared.place.Place.TheVariants.{Flight}
 use Rattle.ing_rows.specs.Rows.{StreamKey}
@@ -10,9 +11,7 @@ use Rattle.ing_stream.specs.Contents.{OthersStayInFlight, StayInFlight}
 use Rattle.ing_shard.specs.OneStream.{Stream}
 use Rattle.ing_shard.specs.Flights.{Flown, flights_among, flights_in, key_in}
 use Rattle.ing_shard.specs.Streams.{FliesAmong, OthersStayAmong, StayAmong, key_of, slots_of}
-use Rattle.ing_shard.proofs.CountLaws.{sum_cons}
 use Rattle.ing_shard.proofs.FlightLaws.{flies_here}
-use Rattle.ing_shard.proofs.PositionLaws.{keys_same}
 
 -- ---- the same chunks, and one more stream
 
@@ -47,15 +46,6 @@ pub stay_begun : {T E : Type 0} (r : Result T E) (olds news : List Stream) (s : 
 stay_begun (Ok x) olds news s keys sealed err = stay_more olds news s keys sealed
 stay_begun (Err e) olds news s keys sealed err = stay_same olds news (ap (map key_of) err) (ap (map slots_of) err)
 
-pub slots_same : (front : List Stream) (st now : Stream) (back : List Stream) → now.chunks.sealed ≡ st.chunks.sealed
-    → map slots_of (front ++ now ∷ back) ≡ map slots_of (front ++ st ∷ back)
-slots_same [] st now back same = ap (λ xs. xs ∷ map slots_of back) same
-slots_same (o ∷ front) st now back same = ap (λ l. slots_of o ∷ l) (slots_same front st now back same)
-
-pub slots_more : (sts : List Stream) (new : Stream) → new.chunks.sealed ≡ [] → map slots_of (sts ++ new ∷ []) ≡ map slots_of sts ++ [] ∷ []
-slots_more [] new none = ap (λ xs. xs ∷ []) none
-slots_more (o ∷ sts) new none = ap (λ l. slots_of o ∷ l) (slots_more sts new none)
-
 -- ---- one stream changes
 
 -- what has become of the sealed chunks of a stream
@@ -80,29 +70,30 @@ read_changed Q same (o ∷ front) st now back (suc n) xs stay is =
     let read = read_changed Q same front st now back n xs stay is in
     record { slots = read.slots; listed = read.listed; stay = read.stay }
 
+-- a claimed chunk of one of them is where it was, or where it is now
+at_changed : (Q : List Slot → List Slot → Type 0) → ((xs : List Slot) → Q xs xs) → (front : List Stream) (st now : Stream) (back : List Stream) → key_of now ≡ key_of st
+    → Q st.chunks.sealed now.chunks.sealed → (f : Flown) → ((xs ys : List Slot) → Q xs ys → slice_get xs f.index ≡ Some (slot_at (Flight f.flight) f.chunk) → slice_get ys f.index ≡ Some (slot_at (Flight f.flight) f.chunk))
+    → FliesAmong f (front ++ st ∷ back) → FliesAmong f (front ++ now ∷ back)
+at_changed Q same front st now back key stay f go at =
+    let read = read_changed Q same front st now back f.stream at.slots stay at.listed in
+    record {
+      stream = ap (λ l. slice_get l f.stream) (map_same key_of front st now back key) ∙ at.stream;
+      slots = read.slots;
+      listed = read.listed;
+      stands = go at.slots read.slots read.stay at.stands;
+    }
+
 pub stay_changed : (front : List Stream) (st now : Stream) (back : List Stream) → key_of now ≡ key_of st
     → StayInFlight st.chunks.sealed now.chunks.sealed → StayAmong (front ++ st ∷ back) (front ++ now ∷ back)
 stay_changed front st now back key stay f at =
-    let read = read_changed StayInFlight (λ xs i g chunk is. is) front st now back f.stream at.slots stay at.listed in
-    record {
-      stream = ap (λ l. slice_get l f.stream) (keys_same front st now back key) ∙ at.stream;
-      slots = read.slots;
-      listed = read.listed;
-      stands = read.stay f.index f.flight f.chunk at.stands;
-    }
+    at_changed StayInFlight (λ xs i g chunk is. is) front st now back key stay f (λ xs ys go. go f.index f.flight f.chunk) at
 
 pub others_changed : (flight : ℕ) (front : List Stream) (st now : Stream) (back : List Stream) → key_of now ≡ key_of st
     → OthersStayInFlight flight st.chunks.sealed now.chunks.sealed
     → OthersStayAmong flight (front ++ st ∷ back) (front ++ now ∷ back)
 others_changed flight front st now back key stay f other at =
-    let read =
-    read_changed (OthersStayInFlight flight) (λ xs i g chunk away is. is) front st now back f.stream at.slots stay at.listed in
-    record {
-      stream = ap (λ l. slice_get l f.stream) (keys_same front st now back key) ∙ at.stream;
-      slots = read.slots;
-      listed = read.listed;
-      stands = read.stay f.index f.flight f.chunk other at.stands;
-    }
+    at_changed (OthersStayInFlight flight) (λ xs i g chunk away is. is) front st now back key stay f
+    (λ xs ys go. go f.index f.flight f.chunk other) at
 
 -- ---- numbers of flights
 
@@ -111,11 +102,11 @@ pub counted_among : (f i : ℕ) (chunk : ChunkContents) (xs : List Slot) → sli
 counted_among f i chunk xs stands [] n is = absurd (cc)
 counted_among f i chunk xs stands (st ∷ sts) zero is =
     let here = flies_here f i chunk st (ap (λ l. slice_get l i) (same_Some (slots_of st) xs is) ∙ stands) in
-    let sum = sum_cons (flights_in f) st sts in
+    let sum = sum_by-cons (flights_in f) st sts in
     omega (arith, here, sum)
 counted_among f i chunk xs stands (st ∷ sts) (suc n) is =
     let later = counted_among f i chunk xs stands sts n is in
-    let sum = sum_cons (flights_in f) st sts in
+    let sum = sum_by-cons (flights_in f) st sts in
     omega (arith, later, sum)
 
 -- no chunk in flight has a number that is free

@@ -1,9 +1,8 @@
 -- What is found of each tenant after one tenant's streams are written over.
-use Rattle.std.proofs.Common.{◌≡◌, ℕ, Bool, List, cond, true, false, [], ◌∷◌, ◌++◌, ◌&&◌, Option, Some, None, refl, ap, sym, ◌∙◌}
+use Rattle.std.proofs.Common.{◌≡◌, ℕ, Bool, List, cond, true, false, [], ◌∷◌, ◌++◌, ◌&&◌, Some, None, refl, ap, sym, ◌∙◌, bytes_eq, is_some, OnErr, OnOk, Result, Ok, Err}
 use Rattle.std.specs.Map.{update}
 use Rattle.std.specs.Option.{option_map_or}
 use Rattle.std.specs.BTreeMap.{get_by_text}
-use Rattle.std.specs.Prelude.{bytes_eq, is_some, OnErr, OnOk, Result, Ok, Err}
 use Rattle.std.proofs.lemmas.Slice.Eq.{bytes_eq-Decides}
 use Rattle.ing_shard.specs.declared.tenants.TenantStreams.{TenantStreams}
 use Rattle.ing_shard.specs.declared.tenants.Tenants.{Tenants}
@@ -37,17 +36,13 @@ at_case f t u false same = refl
 pub same_at : {X : Type 0} (f : List ℕ → X) (t u : List ℕ) → cond (bytes_eq t u) (f t) (f u) ≡ f u
 same_at f t u = at_case f t u (bytes_eq t u) (bytes_eq-Decides t u).0
 
-mapped_cond : {X Y : Type 0} (f : X → Y) (d : Y) (b : Bool) (w : X) (o : Option X) → option_map_or f (cond b (Some w) o) d ≡ cond b (f w) (option_map_or f o d)
-mapped_cond f d true w o = refl
-mapped_cond f d false w o = refl
+cond_map : {X Y : Type 0} (f : X → Y) (b : Bool) (x y : X) → f (cond b x y) ≡ cond b (f x) (f y)
+cond_map f true x y = refl
+cond_map f false x y = refl
 
 cond_same : {X : Type 0} (b : Bool) (x : X) → cond b x x ≡ x
 cond_same true x = refl
 cond_same false x = refl
-
-some_cond : {X : Type 0} (b : Bool) (w : X) (o : Option X) → is_some (cond b (Some w) o) ≡ cond b true (is_some o)
-some_cond true w o = refl
-some_cond false w o = refl
 
 both_cond : {X : Type 0} (b c : Bool) (x y : X) → cond b (cond c x y) y ≡ cond (b && c) x y
 both_cond true c x y = refl
@@ -64,15 +59,15 @@ Writes id w old new = (t : List ℕ) → get_by_text new.by_id t ≡ update byte
 
 module _ (id : List ℕ) (w : TenantStreams) (old new : Tenants) (writes : Writes id w old new) where
   pub kept_written : (t : List ℕ) → kept_of new t ≡ cond (bytes_eq id t) w.kept (kept_of old t)
-  kept_written t = ap (λ o. option_map_or (λ s. s.kept) o nothing_kept) (writes t) ∙ mapped_cond (λ (s : TenantStreams). s.kept) nothing_kept (bytes_eq id t) w (get_by_text old.by_id t)
+  kept_written t = ap (λ o. option_map_or (λ s. s.kept) o nothing_kept) (writes t) ∙ cond_map (λ o. option_map_or (λ (s : TenantStreams). s.kept) o nothing_kept) (bytes_eq id t) (Some w) (get_by_text old.by_id t)
 
   find_written : (t n : List ℕ) → find_of new t n ≡ cond (bytes_eq id t) (find_in w.by_name n) (find_of old t n)
   find_written t n =
       ap (λ o. option_map_or (λ s. find_in s.by_name n) o None) (writes t)
-      ∙ mapped_cond (λ (s : TenantStreams). find_in s.by_name n) None (bytes_eq id t) w (get_by_text old.by_id t)
+      ∙ cond_map (λ o. option_map_or (λ (s : TenantStreams). find_in s.by_name n) o None) (bytes_eq id t) (Some w) (get_by_text old.by_id t)
 
   pub known_written : (t : List ℕ) → is_known new t ≡ cond (bytes_eq id t) true (is_known old t)
-  known_written t = ap is_some (writes t) ∙ some_cond (bytes_eq id t) w (get_by_text old.by_id t)
+  known_written t = ap is_some (writes t) ∙ cond_map is_some (bytes_eq id t) (Some w) (get_by_text old.by_id t)
 
   -- a tenant that was listed is listed
   pub known_stays : (t : List ℕ) → is_known old t ≡ true → is_known new t ≡ true
@@ -82,7 +77,7 @@ module _ (id : List ℕ) (w : TenantStreams) (old new : Tenants) (writes : Write
   known_same known t = known_written t ∙ ap (λ k. cond (bytes_eq id t) k (is_known old t)) (sym known) ∙ same_at (is_known old) id t
 
   posted_written : (t : List ℕ) → posted_of new t ≡ cond (bytes_eq id t) w.postings (posted_of old t)
-  posted_written t = ap (λ o. option_map_or (λ s. s.postings) o []) (writes t) ∙ mapped_cond (λ (s : TenantStreams). s.postings) [] (bytes_eq id t) w (get_by_text old.by_id t)
+  posted_written t = ap (λ o. option_map_or (λ s. s.postings) o []) (writes t) ∙ cond_map (λ o. option_map_or (λ (s : TenantStreams). s.postings) o []) (bytes_eq id t) (Some w) (get_by_text old.by_id t)
 
   -- the same streams by their labels
   pub posted_stays : w.postings ≡ posted_of old id → (t : List ℕ) → posted_of new t ≡ posted_of old t

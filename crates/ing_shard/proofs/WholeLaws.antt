@@ -1,6 +1,5 @@
 -- A shard's state as its streams' parts side by side.
-use Rattle.std.proofs.Common.{◌≡◌, List, [], ◌∷◌, ◌++◌, length, true, false, ◌&&◌, None, ap, sym, ◌∙◌}
-use Rattle.std.specs.Prelude.{All, is_none}
+use Rattle.std.proofs.Common.{◌≡◌, List, [], ◌∷◌, ◌++◌, length, true, false, ◌&&◌, None, ap, sym, ◌∙◌, All, is_none}
 use Rattle.std.proofs.lemmas.List.Elements.{All-append, All-head, All-nil, All-tail, All-weaker}
 use Rattle.ing_rows.specs.Rows.{StreamKey, Row, Mark, State, IsSame, empty_state, same_stream, live_streams}
 use Rattle.ing_rows.specs.Facts.{facts_of}

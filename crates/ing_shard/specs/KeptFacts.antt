@@ -1,10 +1,9 @@
 -- What is kept of a stream to judge its entries, as contracts see it.
-use Rattle.std.specs.Prelude.{ℕ, ◌+◌, ◌≤◌, ◌^◌, List, [], ◌∷◌, vec_len, vec_capacity, Option, Some}
+use Rattle.std.specs.Prelude.{List, [], ◌∷◌, Option, Some}
 use Rattle.std.specs.Option.{option_map}
 use Rattle.ing_rows.specs.declared.entry.Entry.{Entry}
 use Rattle.ing_rows.specs.Facts.{Facts}
 use Rattle.ing_shard.specs.declared.judge.KeptFacts.{KeptFacts}
-use Rattle.ing_shard.specs.declared.judge.Judging.{Judging}
 
 -- the last of the entries, or the one before them
 abbrev pub last_or : Option Entry → List Entry → Option Entry
@@ -21,14 +20,3 @@ facts_since accepted kept =
       is_live = kept.is_live;
       live = kept.live;
     }
-
--- the facts of a push that is under way
-abbrev pub facts_of_judging : Judging → Facts
-facts_of_judging judging = facts_since judging.accepted.items judging.facts
-
--- so many more entries can be judged without memory, and counted
-pub record CanJudge (more : ℕ) (judging : Judging) : Type 0 where
-  pub verdicts : vec_len judging.verdicts + more ≤ vec_capacity judging.verdicts
-  pub accepted : vec_len judging.accepted + more ≤ vec_capacity judging.accepted
-  pub count : judging.facts.count + more ≤ 2 ^ 62
-  pub live : judging.facts.live + more ≤ 2 ^ 63

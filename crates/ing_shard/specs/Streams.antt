@@ -6,7 +6,7 @@ use Rattle.ing_labels.specs.Canonical.{canonical_of}
 use Rattle.ing_labels.specs.Labels.{IsLabelSet}
 use Rattle.ing_postings.specs.declared.listed.Listed.{Listed}
 use Rattle.ing_rows.specs.declared.entry.Entry.{Entry}
-use Rattle.ing_rows.specs.Rows.{StreamKey, State, empty_state, is_head, is_block, is_in_flight, is_stored, same_stream}
+use Rattle.ing_rows.specs.Rows.{StreamKey, Row, State, empty_state, is_head, is_block, is_in_flight, is_stored, same_stream}
 use Rattle.ing_rows.specs.Facts.{Facts, facts_of}
 use Rattle.ing_rows.specs.Gauges.{gauge_of}
 use Rattle.ing_rows.specs.Sound.{IsSound}
@@ -21,7 +21,7 @@ use Rattle.ing_shard.specs.Flights.{AreApart, Flown, IsAt}
 use Rattle.ing_shard.specs.declared.tenants.TenantKept.{TenantKept}
 use Rattle.ing_shard.specs.declared.streams.Streams.{Streams}
 use Rattle.ing_shard.specs.declared.tenants.Tenants.{Tenants}
-use Rattle.ing_shard.specs.Tenants.{Fits, IsWithin, changed, find_of, is_known, kept_of, listed_as, posted_of}
+use Rattle.ing_shard.specs.Tenants.{Fits, IsWithin, changed, find_of, is_known, kept_by, kept_of, listed_as, posted_of}
 
 abbrev pub key_of : Stream → StreamKey
 key_of st = record { tenant = st.tenant; name = canonical_of st.labels }
@@ -59,16 +59,15 @@ facts_kept st =
 abbrev pub with_live : ℕ → Facts → Facts
 with_live live facts = record facts { live = live }
 
--- what a stream adds to the sums over its tenant's
-abbrev pub measure_of : Stream → TenantKept
-measure_of st =
-    let rows = (part_of st).rows in
-    let head = gauge_of is_head rows st.tenant in
-    let block = gauge_of is_block rows st.tenant in
-    let flight = gauge_of is_in_flight rows st.tenant in
-    let stored = gauge_of is_stored rows st.tenant in
+-- what rows of a tenant's stream add to the sums over its tenant's
+abbrev pub measure_in : List Row → List ℕ → TenantKept
+measure_in rows tenant =
+    let head = gauge_of is_head rows tenant in
+    let block = gauge_of is_block rows tenant in
+    let flight = gauge_of is_in_flight rows tenant in
+    let stored = gauge_of is_stored rows tenant in
     record {
-      live = if has_live st then 1 else 0;
+      live = if list_any (λ r. not (is_stored r.place)) rows then 1 else 0;
       head_entries = head.entries;
       head_bytes = head.bytes;
       block_entries = block.entries;
@@ -78,6 +77,10 @@ measure_of st =
       stored_entries = stored.entries;
       stored_bytes = stored.bytes;
     }
+
+-- what a stream adds to them
+abbrev pub measure_of : Stream → TenantKept
+measure_of st = measure_in (part_of st).rows st.tenant
 
 -- sums over so many entries, of which no line is longer than memory
 pub record IsSmall (count : ℕ) (sums : TenantKept) : Type 0 where
@@ -112,18 +115,7 @@ abbrev pub sum_of : (TenantKept → ℕ) → List ℕ → List Stream → ℕ
 sum_of f tenant streams = sum_by (λ st. f (measure_of st)) (filter (λ st. bytes_eq st.tenant tenant) streams)
 
 abbrev pub measures_of : List ℕ → List Stream → TenantKept
-measures_of tenant streams =
-    record {
-      live = sum_of (λ k. k.live) tenant streams;
-      head_entries = sum_of (λ k. k.head_entries) tenant streams;
-      head_bytes = sum_of (λ k. k.head_bytes) tenant streams;
-      block_entries = sum_of (λ k. k.block_entries) tenant streams;
-      block_bytes = sum_of (λ k. k.block_bytes) tenant streams;
-      flight_entries = sum_of (λ k. k.flight_entries) tenant streams;
-      flight_bytes = sum_of (λ k. k.flight_bytes) tenant streams;
-      stored_entries = sum_of (λ k. k.stored_entries) tenant streams;
-      stored_bytes = sum_of (λ k. k.stored_bytes) tenant streams;
-    }
+measures_of tenant streams = kept_by (λ f. sum_of f tenant streams)
 
 -- ---- streams by name
 

@@ -8,19 +8,24 @@ use Rattle.ing_shard.specs.Names.{find_in}
 use Rattle.ing_shard.specs.declared.tenants.TenantKept.{TenantKept}
 use Rattle.ing_shard.specs.declared.tenants.Tenants.{Tenants}
 
+-- what each of the sums is, told by the sum that is meant
+abbrev pub kept_by : ((TenantKept → ℕ) → ℕ) → TenantKept
+kept_by each =
+    record {
+      live = each (λ k. k.live);
+      head_entries = each (λ k. k.head_entries);
+      head_bytes = each (λ k. k.head_bytes);
+      block_entries = each (λ k. k.block_entries);
+      block_bytes = each (λ k. k.block_bytes);
+      flight_entries = each (λ k. k.flight_entries);
+      flight_bytes = each (λ k. k.flight_bytes);
+      stored_entries = each (λ k. k.stored_entries);
+      stored_bytes = each (λ k. k.stored_bytes);
+    }
+
 -- of a tenant without streams
 abbrev pub nothing_kept : TenantKept
-nothing_kept = record {
-  live = 0;
-  head_entries = 0;
-  head_bytes = 0;
-  block_entries = 0;
-  block_bytes = 0;
-  flight_entries = 0;
-  flight_bytes = 0;
-  stored_entries = 0;
-  stored_bytes = 0;
-}
+nothing_kept = kept_by (λ f. 0)
 
 -- the number under which a stream is listed, by its tenant and its canonical name
 abbrev pub find_of : Tenants → List ℕ → List ℕ → Option ℕ
@@ -68,15 +73,4 @@ pub record Fits (sums : TenantKept) : Type 0 where
 
 -- the sums where one of the streams has changed
 abbrev pub changed : TenantKept → TenantKept → TenantKept → TenantKept
-changed sums before after =
-    record {
-      live = sums.live - before.live + after.live;
-      head_entries = sums.head_entries - before.head_entries + after.head_entries;
-      head_bytes = sums.head_bytes - before.head_bytes + after.head_bytes;
-      block_entries = sums.block_entries - before.block_entries + after.block_entries;
-      block_bytes = sums.block_bytes - before.block_bytes + after.block_bytes;
-      flight_entries = sums.flight_entries - before.flight_entries + after.flight_entries;
-      flight_bytes = sums.flight_bytes - before.flight_bytes + after.flight_bytes;
-      stored_entries = sums.stored_entries - before.stored_entries + after.stored_entries;
-      stored_bytes = sums.stored_bytes - before.stored_bytes + after.stored_bytes;
-    }
+changed sums before after = kept_by (λ f. f sums - f before + f after)

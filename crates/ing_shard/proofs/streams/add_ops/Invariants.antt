@@ -1,4 +1,4 @@
-use Rattle.std.specs.Prelude.{◌≡◌, ◌++◌, replicate}
+use Rattle.std.proofs.Common.{◌≡◌, ◌++◌, replicate}
 use Rattle.ing_shard.proofs.streams.add_ops.Given as goal
 
 abbrev pub invariant-loop : goal.invariant-loop

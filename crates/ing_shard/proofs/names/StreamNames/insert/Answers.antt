@@ -1,6 +1,4 @@
-use Rattle.std.proofs.Common.{Some, ap, cond, rules, refl, sym, ◌∙◌}
-use Rattle.std.specs.Prelude.{bytes_eq}
-use Rattle.std.specs.String.{string_bytes}
+use Rattle.std.proofs.Common.{Some, ap, cond, rules, refl, sym, ◌∙◌, bytes_eq, string_bytes}
 use Rattle.std.specs.BTreeMap.{get_by_text}
 use Rattle.std.proofs.lemmas.Map.Text.{btree_map_updates_text}
 use Rattle.ing_labels.specs.Canonical.{canonical_of}

@@ -1,5 +1,4 @@
-use Rattle.std.proofs.Common.{None, ap, refl, sym, subst, ◌∙◌}
-use Rattle.std.specs.Prelude.{is_some}
+use Rattle.std.proofs.Common.{None, ap, refl, sym, subst, ◌∙◌, is_some}
 use Rattle.std.proofs.lemmas.Map.Text.{btree_map_updates_text}
 use Rattle.ing_shard.specs.declared.names.StreamNames.{StreamNames}
 use Rattle.ing_shard.proofs.NameLaws.{IsOut, hashed_out, nothing_out, both_out}

@@ -1,4 +1,4 @@
-use Rattle.std.specs.Prelude.{◌≡◌, ◌++◌, drop}
+use Rattle.std.proofs.Common.{◌≡◌, ◌++◌, drop}
 use Rattle.ing_limits.specs.Ranges.{rules_for}
 use Rattle.ing_shard.specs.Sealing.{ops_after}
 use Rattle.ing_shard.proofs.streams.Streams.ops.Given as goal

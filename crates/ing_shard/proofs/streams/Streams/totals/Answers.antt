@@ -11,6 +11,4 @@ returns-clause-totals g c =
     λ i. (sym (entries_are go laws.facts laws.sound fresh laws.streams streams c.requires) i, sym (stored_are go laws.facts laws.sound fresh laws.streams streams c.requires) i)
 
 pub returns-clause-sound : goal.returns-clause-sound
-returns-clause-sound g c =
-    let laws = c.parts_are_apart.ensures in
-    sound c.order_does_not_count.ensures.facts laws.facts laws.sound c.pushes_keep_states_sound.ensures.fresh laws.streams c.args.self.now c.requires
+returns-clause-sound g c = sound c.order_does_not_count.ensures.facts c.parts_are_apart.ensures.facts c.parts_are_apart.ensures.sound c.pushes_keep_states_sound.ensures.fresh c.parts_are_apart.ensures.streams c.args.self.now c.requires
