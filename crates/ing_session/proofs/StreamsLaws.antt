@@ -4,6 +4,8 @@ use Rattle.std.specs.Prelude.{◌⊎◌, ◌↔◌, IsErrOf, Result, IfOk, OnOk,
 use Rattle.std.proofs.lemmas.Bool.{false_from_ne_true}
 use Rattle.std.proofs.lemmas.Result.{IfOk-from_err}
 use Rattle.std.proofs.lemmas.Bool.Decides.{nat_tests}
+use Rattle.ing_labels.specs.declared.fault.LabelFault.{LabelFault}
+use Rattle.ing_labels.specs.declared.fault.LabelFault.TheVariants as labels
 use Rattle.ing_labels.specs.Labels.{LabelMap, labels_of}
 use Rattle.ing_labels.specs.Canonical.{canonical_of}
 use Rattle.ing_shard.specs.declared.fault.PushFault.{PushFault}
@@ -83,3 +85,20 @@ IfOk-unless r fault P memory other = elim (is_no_memory fault) [ inl is ↦ IfOk
 
 pub OnOk-unless : {T E P : Type 0} (r : Result T E) (fault : PushFault) → (fault ≡ NoMemory → IsErr r) → (fault ≢ NoMemory → P) → OnOk r P
 OnOk-unless r fault memory other = elim (is_no_memory fault) [ inl is ↦ IfOk-from_err r _ (memory is) | inr not ↦ on_ok_any r (other not) ]
+
+-- the same of the fault of labels
+
+is_no_label_memory : (fault : LabelFault) → (fault ≡ labels.NoMemory) ⊎ (fault ≢ labels.NoMemory)
+is_no_label_memory labels.NoMemory = inl refl
+is_no_label_memory (labels.BadName at) = inr (λ e. cc)
+is_no_label_memory (labels.TwiceNamed at) = inr (λ e. cc)
+is_no_label_memory labels.NoLabels = inr (λ e. cc)
+is_no_label_memory labels.TooMany = inr (λ e. cc)
+is_no_label_memory (labels.NameTooLong at) = inr (λ e. cc)
+is_no_label_memory (labels.ValueTooLong at) = inr (λ e. cc)
+
+pub IfOk-unless_label : {T E : Type 0} (r : Result T E) (fault : LabelFault) (P : T → Type 0) → (fault ≡ labels.NoMemory → IsErr r) → (fault ≢ labels.NoMemory → IfOk r P) → IfOk r P
+IfOk-unless_label r fault P memory other = elim (is_no_label_memory fault) [ inl is ↦ IfOk-from_err r P (memory is) | inr not ↦ other not ]
+
+pub OnOk-unless_label : {T E P : Type 0} (r : Result T E) (fault : LabelFault) → (fault ≡ labels.NoMemory → IsErr r) → (fault ≢ labels.NoMemory → P) → OnOk r P
+OnOk-unless_label r fault memory other = elim (is_no_label_memory fault) [ inl is ↦ IfOk-from_err r _ (memory is) | inr not ↦ on_ok_any r (other not) ]

@@ -8,6 +8,7 @@ pub mod Held
 pub mod Lines
 pub mod Parts
 pub mod PushCommands
+pub mod PushTexts
 pub mod Queries
 pub mod QueryCommands
 pub mod Replies

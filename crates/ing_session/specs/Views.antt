@@ -4,7 +4,7 @@ use Rattle.std.specs.Borrow.{Bor}
 use Rattle.ing_session.specs.declared.command.push.Push as push
 use Rattle.ing_session.specs.declared.command.push.StreamPush.{StreamPush}
 use Rattle.ing_session.specs.declared.command.push.texts.PushTexts.{PushTexts}
-use Rattle.ing_session.specs.declared.command.push.texts.StreamTexts.{StreamTexts}
+use Rattle.ing_session.specs.declared.command.push.stream.StreamTexts.{StreamTexts}
 use Rattle.ing_session.specs.declared.command.push.texts.ValueTexts.{ValueTexts}
 use Rattle.ing_session.specs.declared.command.flush.Flush as flush
 use Rattle.ing_session.specs.declared.command.gauges.GaugesOf.{GaugesOf}
@@ -19,8 +19,10 @@ use Rattle.ing_session.specs.declared.reply.StreamReply.{StreamReply}
 use Rattle.ing_session.specs.declared.reply.StreamReply.TheVariants as replies_of_streams
 use Rattle.ing_labels.specs.Canonical.{canonical_of}
 use Rattle.serde_json.specs.Data.{Data}
+use Rattle.serde_json.specs.View.{items_view}
 use Rattle.ing_session.specs.Replies.{fault_data, judged_data, push_data, sweep_data, flush_data, gauges_data, query_data, report_data}
 use Rattle.ing_session.specs.PushCommands.{RawValue, RawStream, RawPush, PushCommand, StreamEntries}
+use Rattle.ing_session.specs.PushTexts.{values_in}
 use Rattle.ing_session.specs.SweepCommands.{SweepCommand}
 use Rattle.ing_session.specs.FlushCommands.{FlushCommand}
 use Rattle.ing_session.specs.GaugesCommands.{GaugesCommand}
@@ -37,7 +39,7 @@ value_view v = record { stamp = v.stamp.now; line = v.line.now; has_metadata = v
 
 -- the texts of a stream
 abbrev pub texts_view : StreamTexts → RawStream
-texts_view s = record { labels = map label_view s.labels.items; values = map value_view s.values.items }
+texts_view s = record { labels = map label_view s.labels.items; values = values_in (items_view s.values.now) }
 
 -- the texts of a push
 abbrev pub shape_view : PushTexts → RawPush

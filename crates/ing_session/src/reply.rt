@@ -110,7 +110,7 @@ fn write_reply(alloc: Global, out: &mut Writer, reply: &Reply) -> Result<(), All
         } => write_flush(out, *failed, *sealed, *stored),
         Reply::Gauges(gauges) => write_gauges(alloc, out, gauges),
         Reply::Refused { refusal, at } => write_fault(out, *refusal, *at),
-        Reply::Query { found, front } => write_query(alloc, out, found, *front),
+        Reply::Query { found, front } => write_query(out, found, *front),
         Reply::Report(shard) => write_report(out, shard),
     }
 }
@@ -122,6 +122,17 @@ fn write_count(out: &mut Writer, name: &str, number: u64) -> Result<(), AllocErr
 {
     out.key(name)?;
     out.u64(number)?;
+    Ok(())
+}
+
+/// Writes a member that is a number as a text, for readers that hold numbers as doubles.
+fn write_digits(out: &mut Writer, name: &str, number: u64) -> Result<(), AllocError>
+    ensures tokens { OnOk result
+        (Adds out.old out.new (member_tokens name.now (string (decimal number)))) }
+    ensures before { out.new.before ≡ out.old.before }
+{
+    out.key(name)?;
+    out.quoted_u64(number)?;
     Ok(())
 }
 
@@ -262,8 +273,7 @@ fn write_quoted(out: &mut Writer, name: &str, number: u64) -> Result<(), AllocEr
     ensures before { out.new.before ≡ out.old.before }
 {
     out.begin_object()?;
-    out.key(name)?;
-    out.quoted_u64(number)?;
+    write_digits(out, name, number)?;
     out.end_object()?;
     Ok(())
 }
@@ -336,22 +346,26 @@ fn write_gauge(alloc: Global, out: &mut Writer, name: &str, gauge: &Gauge) -> Re
         (Adds out.old out.new (member_tokens name.now (gauge_data gauge.now))) }
     ensures before { out.new.before ≡ out.old.before }
 {
-    let bytes = format!(in alloc; "{}", gauge.bytes)?;
     out.key(name)?;
     out.begin_object()?;
-    write_text(out, "bytes", bytes.as_str())?;
+    write_bytes(alloc, out, gauge.bytes)?;
     write_count(out, "entries", gauge.entries)?;
     out.end_object()?;
     Ok(())
 }
 
+/// Writes how many bytes a gauge counts, as a text.
+fn write_bytes(alloc: Global, out: &mut Writer, bytes: u128) -> Result<(), AllocError>
+    ensures tokens { OnOk result
+        (Adds out.old out.new (member_tokens (codes "bytes") (string (decimal bytes)))) }
+    ensures before { out.new.before ≡ out.old.before }
+{
+    let text = format!(in alloc; "{bytes}")?;
+    write_text(out, "bytes", text.as_str())
+}
+
 /// Writes what a query gives.
-fn write_query(
-    alloc: Global,
-    out: &mut Writer,
-    found: &[Found],
-    front: u64,
-) -> Result<(), AllocError>
+fn write_query(out: &mut Writer, found: &[Found], front: u64) -> Result<(), AllocError>
     ensures tokens { OnOk result
         (Adds out.old out.new (data_tokens (query_data found.now (front ∷ [])))) }
     ensures before { out.new.before ≡ out.old.before }
@@ -359,7 +373,7 @@ fn write_query(
     out.begin_object()?;
     out.key("query")?;
     out.begin_object()?;
-    write_entries(alloc, out, found)?;
+    write_entries(out, found)?;
     write_front(out, front)?;
     out.end_object()?;
     out.end_object()?;
@@ -380,38 +394,37 @@ fn write_front(out: &mut Writer, front: u64) -> Result<(), AllocError>
 }
 
 /// Writes the entries that a query gives.
-fn write_entries(alloc: Global, out: &mut Writer, found: &[Found]) -> Result<(), AllocError>
+fn write_entries(out: &mut Writer, found: &[Found]) -> Result<(), AllocError>
     ensures tokens { OnOk result (Adds out.old out.new
         (member_tokens (codes "entries") (array (items_of (map entry_data found.now))))) }
     ensures before { out.new.before ≡ out.old.before }
 {
     out.key("entries")?;
     out.begin_array()?;
-    write_each_entry(alloc, out, found)?;
+    write_each_entry(out, found)?;
     out.end_array()?;
     Ok(())
 }
 
-fn write_each_entry(alloc: Global, out: &mut Writer, found: &[Found]) -> Result<(), AllocError>
+fn write_each_entry(out: &mut Writer, found: &[Found]) -> Result<(), AllocError>
     ensures tokens { OnOk result (Adds out.old out.new
         (tokens_of_each (map entry_data found.now))) }
     ensures before { out.new.before ≡ out.old.before }
 {
     for entry in found {
-        write_entry(alloc, out, entry)?;
+        write_entry(out, entry)?;
     }
     Ok(())
 }
 
 /// Writes an entry that a query gives.
-fn write_entry(alloc: Global, out: &mut Writer, found: &Found) -> Result<(), AllocError>
+fn write_entry(out: &mut Writer, found: &Found) -> Result<(), AllocError>
     ensures tokens { OnOk result (Adds out.old out.new (data_tokens (entry_data found.now))) }
     ensures before { out.new.before ≡ out.old.before }
 {
-    let stamp = format!(in alloc; "{}", found.entry.stamp.nanoseconds())?;
     out.begin_object()?;
     write_text(out, "line", found.entry.line.as_str())?;
-    write_text(out, "stamp", stamp.as_str())?;
+    write_digits(out, "stamp", found.entry.stamp.nanoseconds())?;
     write_text(out, "stream", found.name.as_str())?;
     out.end_object()?;
     Ok(())

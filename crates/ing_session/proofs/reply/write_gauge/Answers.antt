@@ -6,9 +6,7 @@ returns-clause-tokens c =
     rw (
       c.in_ok-end_object.ensures.ok,
       c.in_ok-write_count.ensures.tokens,
-      c.in_ok-write_text.ensures.tokens,
+      c.in_ok-write_bytes.ensures.tokens,
       c.in_ok-begin_object.ensures.ok,
       c.in_ok-key.ensures.ok,
-      c.as_str.ensures.value,
-      c.in_ok-bytes.ensures.ok,
     ) (simp append_assoc)
