@@ -12,6 +12,7 @@ mod Gauged
 mod KeptLaws
 mod Ordered
 mod Sealed
+mod Sliced
 mod Sums
 mod Taken
 mod Together

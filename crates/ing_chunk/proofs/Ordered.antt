@@ -16,13 +16,13 @@ use Rattle.ing_chunk.proofs.Sums.{at_least, at_most, from_greatest, from_least}
 total : IsTotalOrder (then_cmp (on (λ (e : Numbered). e.entry.stamp) nat_cmp) (on (λ (e : Numbered). e.number) nat_cmp))
 total = then_total (on_total (λ (e : Numbered). e.entry.stamp) nat_cmp_total) (on_total (λ (e : Numbered). e.number) nat_cmp_total)
 
-is_order : IsStrictWeakOrder comes_before
+pub is_order : IsStrictWeakOrder comes_before
 is_order = ranks_by total (λ e. e)
 
 earlier : (a b : Numbered) → a.entry.stamp < b.entry.stamp → comes_before a b ≡ true
 earlier a b h = ap (λ t. is_lt (ordering_then (cond t Less (cond (a.entry.stamp == b.entry.stamp) Equal Greater)) (nat_cmp a.number b.number))) (lt-ltb a.entry.stamp b.entry.stamp h)
 
-not_later : (a b : Numbered) → comes_before b a ≡ false → a.entry.stamp ≤ b.entry.stamp
+pub not_later : (a b : Numbered) → comes_before b a ≡ false → a.entry.stamp ≤ b.entry.stamp
 not_later a b h = by_test (ltb b.entry.stamp a.entry.stamp) refl where
   by_test : (t : Bool) → ltb b.entry.stamp a.entry.stamp ≡ t → a.entry.stamp ≤ b.entry.stamp
   by_test true is = let before : comes_before b a ≡ true = earlier b a (ltb-true b.entry.stamp a.entry.stamp is) in absurd (cc)

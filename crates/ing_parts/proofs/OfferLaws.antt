@@ -51,6 +51,19 @@ offers_answered all answer old new h a = stand_answered old.order old.limit new.
 pub between_parts : (name : List ℕ) (start end : ℕ) (xs ys : List Numbered) → found_between name start end (xs ++ ys) ≡ found_between name start end xs ++ found_between name start end ys
 between_parts name start end xs ys = ap (within start end) (map-append (found_of name) xs ys) ∙ filter-append (is_within start end) (map (found_of name) xs) (map (found_of name) ys)
 
+-- to look for those of the range among those of the range changes nothing
+pub between_again : (name : List ℕ) (start end : ℕ) (es : List Numbered) → found_between name start end (filter (is_between start end) es) ≡ found_between name start end es
+between_again name start end [] = refl
+between_again name start end (e ∷ es) = step (is_between start end e) refl (between_again name start end es) where
+  rest : List Found
+  rest = found_between name start end es
+  inner : List Found
+  inner = found_between name start end (filter (is_between start end) es)
+  step : (t : Bool) → is_between start end e ≡ t → inner ≡ rest
+      → found_between name start end (cond t (e ∷ filter (is_between start end) es) (filter (is_between start end) es)) ≡ cond t (found_of name e ∷ rest) rest
+  step true is same = ap (λ b. cond b (found_of name e ∷ inner) inner) is ∙ ap (λ l. found_of name e ∷ l) same
+  step false is same = same
+
 -- what is left from an index on
 pub left_from : {X : Type 0} (xs : List X) (i : ℕ) (x : X) → i < length xs → x ≡ get_or xs i x → drop i xs ≡ x ∷ drop (i + 1) xs
 left_from xs i x within is = rw (add-one) (drop-cons xs i x within ∙ ap (λ y. y ∷ drop (suc i) xs) (sym is))

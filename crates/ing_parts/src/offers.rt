@@ -118,8 +118,8 @@ pub(crate) fn is_passed_over(best: &Best, span: Option<(u64, u64)>, start: u64, 
     }
 }
 
-/// Offers copies of those entries of a block of a stream whose stamp is at least the start and below the end, in nanoseconds. Its
-/// entries are looked at only where its first and last stamp do not show that none changes the answer. `AllocError` where memory
+/// Offers copies of those entries of a block of a stream whose stamp is at least the start and below the end, in nanoseconds. They
+/// alone are looked at, and only where its first and last stamp do not show that none changes the answer. `AllocError` where memory
 /// ran out.
 pub fn offer_block(
     best: &mut Best,
@@ -135,5 +135,5 @@ pub fn offer_block(
     if is_passed_over(best, block.span(), start, end) {
         return Ok(());
     }
-    offer_entries(best, alloc, name, block.entries(), start, end)
+    offer_entries(best, alloc, name, block.entries_between(start, end), start, end)
 }
