@@ -68,10 +68,14 @@ module _ (index : Index) (ms : List Match) (xs : List Listed) (list : List ℕ) 
   -- a walk over the list of such a matcher finds all that the selector picks
   pub walk_finds : Any (Narrows index list) ms → selected ms (filter_map (slice_get xs) list) ≡ selected ms xs
   walk_finds (k, x, within, is, (asks, named)) =
+      let has : Listed → Bool = λ s. has_label x.name x.value s.labels in
+      let picked : Listed → Bool = λ s. selects ms s.labels in
+      let holds = λ (s : Listed) (all : picked s ≡ true).
+      subst (λ z. match_holds s.labels z ≡ true) is (and_at (list_all (match_holds s.labels)) (match_holds s.labels) refl (λ _ _. refl) ms k x within all) in
       ap (λ ps. selected ms (filter_map (slice_get xs) ps)) (named ∙ indexed x.name x.value)
       ∙ ap (selected ms) (places_read x.name x.value xs)
-      ∙ filter_both (λ s. has_label x.name x.value s.labels) (λ s. selects ms s.labels) xs
-      ∙ filter_agree (λ s. has_label x.name x.value s.labels && selects ms s.labels) (λ s. selects ms s.labels) (λ s. weaker _ _ (λ all. sym (asks_labelled s.labels x asks) ∙ subst (λ z. match_holds s.labels z ≡ true) is (and_at (list_all (match_holds s.labels)) (match_holds s.labels) refl (λ _ _. refl) ms k x within all))) xs
+      ∙ filter_both has picked xs
+      ∙ filter_agree (λ s. has s && picked s) picked (λ s. weaker _ _ (λ all. sym (asks_labelled s.labels x asks) ∙ holds s all)) xs
 
   -- where there is no other matcher, all streams in the list are picked
   pub one_finds : length ms ≡ 1 → Any (Narrows index list) ms → filter_map (slice_get xs) list ≡ selected ms xs

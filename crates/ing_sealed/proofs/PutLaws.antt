@@ -73,7 +73,9 @@ module _ (x y : Slot) where
   apart_put : (front back : List Slot) → ((g : ℕ) → is_flight g y.place ≡ true → NoneInFlight g front) → ((g : ℕ) → is_flight g y.place ≡ true → NoneInFlight g back) → FlyApart (front ++ x ∷ back) → FlyApart (front ++ y ∷ back)
   apart_put [] back before behind h = (behind, h.1)
   apart_put (z ∷ front) back before behind h = (
-    λ g flies. all_put (λ (w : Slot). is_flight g w.place ≡ false) front x y back (h.0 g flies) (false_from_ne_true _ (λ is. both_ways _ (All-head (λ (w : Slot). is_flight g w.place ≡ false) z front (before g is)) flies)),
+    λ g flies.
+        let away = false_from_ne_true (is_flight g y.place) (λ is. both_ways _ (All-head (λ (w : Slot). is_flight g w.place ≡ false) z front (before g is)) flies) in
+        all_put (λ (w : Slot). is_flight g w.place ≡ false) front x y back (h.0 g flies) away,
     apart_put front back (λ g flies. All-tail (λ (w : Slot). is_flight g w.place ≡ false) z front (before g flies)) behind h.1,
   )
 

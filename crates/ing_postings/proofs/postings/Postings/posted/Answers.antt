@@ -10,7 +10,9 @@ use Rattle.ing_postings.proofs.postings.Postings.posted.Goals as goal
 
 pub numbers_at-requires : goal.numbers_at-requires
 numbers_at-requires c =
-    subst (λ ys. All (λ p. p < length ys) c.list_at.result.now) (sym c.deref.ensures.value) (subst (All (λ p. p < length c.self.inside.streams.items)) (sym (c.list_at.ensures ∙ c.self.invariant.index c.args.name.now c.args.value.now)) (places_within c.args.name.now c.args.value.now c.self.inside.streams.items))
+    let xs = c.self.inside.streams.items in
+    let is = c.list_at.ensures ∙ c.self.invariant.index c.args.name.now c.args.value.now in
+    subst (λ ys. All (λ p. p < length ys) c.list_at.result.now) (sym c.deref.ensures.value) (subst (All (λ p. p < length xs)) (sym is) (places_within c.args.name.now c.args.value.now xs))
 
 found : (c : goal.After-numbers_at) → IfOk c.numbers_at.result (λ found. found.items ≡ numbers_of (filter (λ s. has_label c.args.name.now c.args.value.now s.labels) c.self.inside.streams.items))
 found c =
