@@ -2,9 +2,10 @@
 use Rattle.std.proofs.Common.{◌≡◌, ℕ, suc, ◌<◌, ◌≤◌, length, get_or, Bool, true, false, cond, ◌&&◌, ◌==◌, inl, inr, List, [], ◌∷◌, ◌++◌, Option, Some, None, refl, sym, ap, ◌∙◌, append_assoc, append-nil, arith}
 use lib.Utf8.{encode}
 use Rattle.std.proofs.lemmas.Str.{encode_ascii}
+use Rattle.std.proofs.lemmas.Bool.{cases_lt}
 use Rattle.ing_labels.specs.Labels.{Pair}
 use Rattle.ing_labels.specs.CanonicalReading.{Reading, Start, Next, InName, Compared, InValue, Escaped, Matched, Comma, Closed, in_name, above_with, last_name, step, step_with, step_char, run_from}
-use Rattle.ing_labels.proofs.Chars.{far_start, far_name, far_byte, all_far, is_ascii_or_far}
+use Rattle.ing_labels.proofs.Chars.{far_start, far_name, far_byte, all_far}
 
 -- what no byte of ASCII is read as: only a value has others
 abbrev pub far : List ℕ → Reading → Option Reading
@@ -48,7 +49,7 @@ far_char (Closed ps) t c h e = absurd (cc)
 
 pub char_read : (r t : Reading) (c : ℕ) → step_char r c ≡ Some t → run_from (Some r) (encode c) ≡ Some t
 char_read r t c e =
-    elim (is_ascii_or_far c) [
+    elim (cases_lt c 128) [
       | inl h ↦ ap (run_from (Some r)) (encode_ascii c h) ∙ ap (λ bytes. step_with bytes r c) (sym (encode_ascii c h)) ∙ e
       | inr h ↦ far_char r t c h (sym (far-step (encode c) r c h) ∙ e)
     ]
@@ -71,7 +72,7 @@ first_far r (b ∷ bs) some big e = (b, bs, refl, far-step (b ∷ []) r b big �
 -- where a character can not follow, its first byte can not
 pub char_stuck : (r : Reading) (c : ℕ) → 0 < length (encode c) → step_char r c ≡ None → (b : ℕ) × (rest : List ℕ) × (encode c ≡ b ∷ rest) × (step r b ≡ None)
 char_stuck r c some e =
-    elim (is_ascii_or_far c) [
+    elim (cases_lt c 128) [
       | inl h ↦ (c, [], encode_ascii c h, ap (λ bytes. step_with bytes r c) (sym (encode_ascii c h)) ∙ e)
       | inr h ↦ first_far r (encode c) some (all_far c h 0 some) (sym (far-step (encode c) r c h) ∙ e)
     ]

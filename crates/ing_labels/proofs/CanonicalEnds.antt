@@ -1,6 +1,7 @@
 -- Where the reading of a canonical name ends.
 use Rattle.std.proofs.Common.{◌≡◌, ℕ, ◌+◌, ◌<◌, length, take, List, [], ◌∷◌, ◌++◌, Some, None, refl, sym, ap, subst, ◌∙◌, append_assoc, append-nil, arith, length-append}
 use Rattle.std.proofs.Math.Seq.{take-append_seam, take-append-add}
+use Rattle.std.proofs.lemmas.List.{nil_from_length}
 use lib.Utf8.{encode}
 use Rattle.ing_labels.specs.Labels.{Pair}
 use Rattle.ing_labels.specs.CanonicalTexts.{BeginsCanonical, IsNotCanonical, IsRead}
@@ -55,15 +56,11 @@ bad_here text old rest at c r item some e h =
       longest = λ _ some. stuck (subst BeginsCanonical longer some);
     }
 
-no_length : (xs : List ℕ) → length xs ≡ 0 → xs ≡ []
-no_length [] e = refl
-no_length (x ∷ xs) e = absurd (omega arith)
-
 -- the text ends too early
 pub bad_end : (text rest : List ℕ) (at : ℕ) (r : Reading) → length rest ≡ 0 → closed_of r ≡ None → ReadTo text rest at r → IsNotCanonical text at
 bad_end text rest at r none unfinished h =
     let inside : at + length rest ≡ length text = within_text text rest at r h in
-    let whole : h.front ≡ text = sym (append-nil h.front) ∙ ap (λ x. h.front ++ x) (sym (no_length rest none)) ∙ h.spells in
+    let whole : h.front ≡ text = sym (append-nil h.front) ∙ ap (λ x. h.front ++ x) (sym (nil_from_length rest none)) ∙ h.spells in
     record {
       refused = λ m set is. refused_end h.front r h.read unfinished m set (whole ∙ is);
       within = omega arith;
@@ -85,6 +82,6 @@ is_closed (Closed _) ps e = cc
 -- the text is read whole
 pub good_end : (text rest : List ℕ) (at : ℕ) (ps : List Pair) (r : Reading) → length rest ≡ 0 → closed_of r ≡ Some ps → ReadTo text rest at r → IsRead text ps
 good_end text rest at ps r none done h =
-    let whole : h.front ≡ text = sym (append-nil h.front) ∙ ap (λ x. h.front ++ x) (sym (no_length rest none)) ∙ h.spells in
+    let whole : h.front ≡ text = sym (append-nil h.front) ∙ ap (λ x. h.front ++ x) (sym (nil_from_length rest none)) ∙ h.spells in
     let found = labels_of_text h.front ps (h.read ∙ ap Some (is_closed r ps done)) in
     record { labels = record { in_order = found.0; labels = found.1 }; spelt = sym whole ∙ found.2 }

@@ -6,11 +6,12 @@ use Rattle.std.specs.List.{flat_map, list_all}
 use Rattle.std.specs.FinMap.{put}
 use Rattle.std.proofs.lemmas.List.Concat.{flat_map-append}
 use Rattle.std.proofs.lemmas.List.Folds.{list_all-append}
+use Rattle.std.proofs.lemmas.Bool.{and_from, and_parts}
 use Rattle.ing_labels.specs.Names.{is_name_start, is_name_byte, is_label_name}
 use Rattle.ing_labels.specs.Labels.{Pair, name_order, has_value}
 use Rattle.ing_labels.specs.Canonical.{written_byte, written_value, written_pair}
 use Rattle.ing_labels.specs.CanonicalReading.{Reading, Start, Next, InName, Compared, InValue, Escaped, Matched, Comma, Closed, last_name, above_with, in_name, in_value, step, run_from}
-use Rattle.ing_labels.proofs.Spelt.{by_cond, is_byte, name_more, written_more, plain_byte, both}
+use Rattle.ing_labels.proofs.Spelt.{by_cond, is_byte, name_more, written_more, plain_byte}
 use Rattle.ing_labels.proofs.Rising.{Rising, below_last, put_last, rising_more}
 
 -- pairs that some labels have
@@ -116,10 +117,6 @@ name_goes : (text : List ℕ) (ps : List Pair) (n : List ℕ) (b : ℕ) (o : Opt
 name_goes text ps n b None good name h e = tt
 name_goes text ps n b (Some a) good name h e = (good, name, h, ap (λ x. x ++ b ∷ []) e ∙ append_assoc (open_text ps) n (b ∷ []))
 
-both_parts : (a b : Bool) → (a && b) ≡ true → (a ≡ true) × (b ≡ true)
-both_parts true b e = (refl, e)
-both_parts false b e = absurd (cc)
-
 -- a byte more behind a part of the text
 more : (text front part : List ℕ) (b : ℕ) → text ≡ front ++ part → text ++ b ∷ [] ≡ front ++ (part ++ b ∷ [])
 more text front part b e = ap (λ x. x ++ b ∷ []) e ∙ append_assoc front part (b ∷ [])
@@ -130,8 +127,8 @@ value_more text front n v b e = more text front (n ++ 61 ∷ 34 ∷ v) b e ∙ a
 pub good_more : (ps : List Pair) (n v : List ℕ) → Good ps → is_label_name n ≡ true → has_value (n, v) ≡ true → name_order (last_name ps) n ≡ Less → Good (ps ++ (n, v) ∷ [])
 good_more ps n v good name valued above = record {
   rising = rising_more ps n v (below_last ps n good.rising above) good.rising;
-  names = list_all-append (λ e. is_label_name e.0) ps ((n, v) ∷ []) ∙ both _ _ good.names (ap (λ c. c && true) name);
-  values = list_all-append has_value ps ((n, v) ∷ []) ∙ both _ _ good.values (ap (λ c. c && true) valued);
+  names = list_all-append (λ e. is_label_name e.0) ps ((n, v) ∷ []) ∙ and_from _ _ good.names (ap (λ c. c && true) name);
+  values = list_all-append has_value ps ((n, v) ∷ []) ∙ and_from _ _ good.values (ap (λ c. c && true) valued);
 }
 
 -- a pair more
@@ -162,7 +159,7 @@ spells_step text (InName ps n above) b h =
     by_cond (Goes text b) (is_name_byte b) _ _
     (λ e. name_goes text ps n b _ h.0 (name_more n b h.1 e) (place_more above (last_name ps) n b h.2) h.3)
     (λ _. by_cond (Goes text b) (above && (b == 61)) _ _
-    (λ e. let parts = both_parts above (b == 61) e in
+    (λ e. let parts = and_parts above (b == 61) e in
     (h.0, h.1, subst (λ a. Place a (last_name ps) n) parts.0 h.2, more text (open_text ps) n b h.3 ∙ ap (λ c. open_text ps ++ (n ++ c ∷ [])) (is_byte b 61 parts.1)))
     (λ _. tt))
 spells_step text (Compared ps n) b h =

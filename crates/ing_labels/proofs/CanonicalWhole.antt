@@ -5,13 +5,14 @@ use Rattle.std.specs.Ordering.{nat_cmp, ordering_then}
 use Rattle.std.specs.List.{flat_map, join_by, list_all}
 use Rattle.std.specs.FinMap.{put, entries, from_sorted, entries-from_sorted}
 use Rattle.std.proofs.lemmas.List.Folds.{list_all-append}
+use Rattle.std.proofs.lemmas.Bool.{and_from, and_parts, not-true}
 use Rattle.ing_labels.specs.Names.{is_name_start, is_name_byte, is_label_name}
 use Rattle.ing_labels.specs.Labels.{Pair, LabelMap, IsLabelSet, name_order, has_value}
 use Rattle.ing_labels.specs.Canonical.{written_byte, written_value, written_pair, canonical_of}
 use Rattle.ing_labels.specs.CanonicalTexts.{BeginsCanonical}
 use Rattle.ing_labels.specs.CanonicalReading.{Reading, Start, Next, InName, Compared, InValue, Escaped, Matched, Comma, Closed, last_name, above_with, in_name, step, step_from, run_from, closed_of}
 use Rattle.ing_labels.proofs.Rising.{Rising, Above, below_last, put_last, last_below, rising-entries, sorted_from}
-use Rattle.ing_labels.proofs.Spelt.{both}
+use Rattle.ing_labels.proofs.Exact.{all_name_bytes}
 use Rattle.ing_labels.proofs.CanonicalSpelt.{Good, Spells, open_text, spells_from, run-none, at_seam, shorter, not_shorter, above_end}
 
 pub run-append : (o : Option Reading) (xs ys : List ℕ) → run_from o (xs ++ ys) ≡ run_from (run_from o xs) ys
@@ -21,10 +22,6 @@ run-append o (x ∷ xs) ys = run-append (step_from o x) xs ys
 -- a part, and then what follows
 run_part : (r q : Reading) (part rest : List ℕ) → run_from (Some r) part ≡ Some q → run_from (Some r) (part ++ rest) ≡ run_from (Some q) rest
 run_part r q part rest e = run-append (Some r) part rest ∙ ap (λ o. run_from o rest) e
-
-both_true : (a b : Bool) → (a && b) ≡ true → (a ≡ true) × (b ≡ true)
-both_true true b e = (refl, e)
-both_true false b e = absurd (cc)
 
 less_lt : (x b : ℕ) → nat_cmp x b ≡ Less → nat_lt x b ≡ true
 less_lt x b e = grind arith
@@ -89,7 +86,7 @@ name_step ps n above b o good e =
 run_name : (ps : List Pair) (n bs : List ℕ) → list_all is_name_byte bs ≡ true → run_from (Some (InName ps n true)) bs ≡ Some (InName ps (n ++ bs) true)
 run_name ps n [] good = ap (λ x. Some (InName ps x true)) (sym (append-nil n))
 run_name ps n (b ∷ bs) good =
-    let parts = both_true _ _ good in
+    let parts = and_parts _ _ good in
     ap (λ o. run_from o bs) (name_step ps n true b (Some true) parts.0 refl)
     ∙ run_name ps (n ++ b ∷ []) bs parts.1
     ∙ ap (λ x. Some (InName ps x true)) (append_assoc n (b ∷ []) bs)
@@ -98,7 +95,7 @@ run_tied : (ps : List Pair) (n rest bs : List ℕ) → last_name ps ≡ n ++ res
 run_tied ps n [] [] is good e = absurd (cc)
 run_tied ps n (x ∷ rest) [] is good e = absurd (cc)
 run_tied ps n rest (b ∷ bs) is good e =
-    let parts = both_true _ _ good in
+    let parts = and_parts _ _ good in
     let join = ap (λ x. Some (InName ps x true)) (append_assoc n (b ∷ []) bs) in
     elim (tied (last_name ps) n rest b bs is e) [
       | inl up ↦ ap (λ o. run_from o bs) (name_step ps n false b (Some true) parts.0 up) ∙ run_name ps (n ++ b ∷ []) bs parts.1 ∙ join
@@ -114,7 +111,7 @@ next_step ps b o good e =
 run_next : (ps : List Pair) (n : List ℕ) → is_label_name n ≡ true → name_order (last_name ps) n ≡ Less → run_from (Some (Next ps)) n ≡ Some (InName ps n true)
 run_next ps [] good e = absurd (cc)
 run_next ps (b ∷ bs) good e =
-    let parts = both_true _ _ good in
+    let parts = and_parts _ _ good in
     elim (tied (last_name ps) [] (last_name ps) b bs refl e) [
       | inl up ↦ ap (λ o. run_from o bs) (next_step ps b (Some true) parts.0 up) ∙ run_name ps (b ∷ []) bs parts.1
       | inr on ↦ ap (λ o. run_from o bs) (next_step ps b (Some false) parts.0 on.1) ∙ run_tied ps (b ∷ []) on.0 bs on.2 parts.1 on.3
@@ -130,14 +127,10 @@ run_value ps n v (b ∷ bs) =
     ∙ run_value ps n (v ++ b ∷ []) bs
     ∙ ap (λ x. Some (InValue ps n x)) (append_assoc v (b ∷ []) bs)
 
-not_true : (b : Bool) → not b ≡ true → b ≡ false
-not_true true e = sym e
-not_true false e = refl
-
 run_quote : (ps : List Pair) (n v : List ℕ) → has_value (n, v) ≡ true → step (InValue ps n v) 34 ≡ Some (Matched (put name_order n v ps))
 run_quote ps n v valued =
     let none : Option Reading = None in
-    ap (λ t. cond t none (Some (Matched (put name_order n v ps)))) (not_true _ valued)
+    ap (λ t. cond t none (Some (Matched (put name_order n v ps)))) (not-true _ valued)
 
 -- a whole pair
 run_pair : (ps : List Pair) (p : Pair) (rest : List ℕ) → is_label_name p.0 ≡ true → has_value p ≡ true → name_order (last_name ps) p.0 ≡ Less → run_from (Some (Next ps)) (written_pair p ++ rest) ≡ run_from (Some (Matched (put name_order p.0 p.1 ps))) rest
@@ -170,8 +163,8 @@ pair_more done p qs rest rising name valued =
 run_pairs : (done qs : List Pair) → Rising (done ++ qs) → list_all (λ e. is_label_name e.0) qs ≡ true → list_all has_value qs ≡ true → run_from (Some (Matched done)) (flat_map (λ p. codes ", " ++ written_pair p) qs ++ 125 ∷ []) ≡ Some (Closed (done ++ qs))
 run_pairs done [] rising names values = ap (λ x. Some (Closed x)) (sym (append-nil done))
 run_pairs done (p ∷ qs) rising names values =
-    let name = both_true _ _ names in
-    let valued = both_true _ _ values in
+    let name = and_parts _ _ names in
+    let valued = and_parts _ _ values in
     let left = flat_map (λ p. codes ", " ++ written_pair p) qs ++ 125 ∷ [] in
     let split : flat_map (λ p. codes ", " ++ written_pair p) (p ∷ qs) ++ 125 ∷ [] ≡ 44 ∷ 32 ∷ (written_pair p ++ left) = append_assoc (codes ", " ++ written_pair p) (flat_map (λ p. codes ", " ++ written_pair p) qs) (125 ∷ []) in
     let more = append_assoc done (p ∷ []) qs in
@@ -183,8 +176,8 @@ run_pairs done (p ∷ qs) rising names values =
 whole : (es : List Pair) → Rising es → list_all (λ e. is_label_name e.0) es ≡ true → list_all has_value es ≡ true → es ≢ [] → run_from (Some Start) (codes "{" ++ join_by written_pair (codes ", ") es ++ codes "}") ≡ Some (Closed es)
 whole [] rising names values some = absurd (some refl)
 whole (p ∷ qs) rising names values some =
-    let name = both_true _ _ names in
-    let valued = both_true _ _ values in
+    let name = and_parts _ _ names in
+    let valued = and_parts _ _ values in
     let left = flat_map (λ p. codes ", " ++ written_pair p) qs in
     ap (run_from (Some (Next []))) (append_assoc (written_pair p) left (125 ∷ []))
     ∙ pair_more [] p qs (left ++ 125 ∷ []) rising name.0 valued.0
@@ -199,28 +192,21 @@ run_end : (ps : List Pair) (n : List ℕ) → run_from (Some (InName ps n true))
 run_end ps n = refl
 
 name_bytes_more : (n : List ℕ) → list_all is_name_byte n ≡ true → list_all is_name_byte (n ++ 97 ∷ []) ≡ true
-name_bytes_more n good = list_all-append is_name_byte n (97 ∷ []) ∙ both _ _ good refl
-
-start_is_byte : (b : ℕ) → is_name_start b ≡ true → is_name_byte b ≡ true
-start_is_byte b good = grind arith
-
-name_bytes : (n : List ℕ) → is_label_name n ≡ true → list_all is_name_byte n ≡ true
-name_bytes [] good = refl
-name_bytes (b ∷ bs) good = let parts = both_true _ _ good in both _ _ (start_is_byte b parts.0) parts.1
+name_bytes_more n good = list_all-append is_name_byte n (97 ∷ []) ∙ and_from _ _ good refl
 
 longer_name : (n : List ℕ) → is_label_name n ≡ true → is_label_name (n ++ 97 ∷ []) ≡ true
 longer_name [] good = absurd (cc)
-longer_name (b ∷ bs) good = let parts = both_true _ _ good in both _ _ parts.0 (name_bytes_more bs parts.1)
+longer_name (b ∷ bs) good = let parts = and_parts _ _ good in and_from _ _ parts.0 (name_bytes_more bs parts.1)
 
 last_named : (ps : List Pair) → list_all (λ e. is_label_name e.0) ps ≡ true → is_label_name (last_name ps ++ 97 ∷ []) ≡ true
 last_named [] names = refl
-last_named (p ∷ []) names = longer_name p.0 (both_true _ _ names).0
-last_named (p ∷ q ∷ ps) names = last_named (q ∷ ps) (both_true _ _ names).1
+last_named (p ∷ []) names = longer_name p.0 (and_parts _ _ names).0
+last_named (p ∷ q ∷ ps) names = last_named (q ∷ ps) (and_parts _ _ names).1
 
 last_bytes : (ps : List Pair) → list_all (λ e. is_label_name e.0) ps ≡ true → list_all is_name_byte (last_name ps) ≡ true
 last_bytes [] names = refl
-last_bytes (p ∷ []) names = name_bytes p.0 (both_true _ _ names).0
-last_bytes (p ∷ q ∷ ps) names = last_bytes (q ∷ ps) (both_true _ _ names).1
+last_bytes (p ∷ []) names = all_name_bytes p.0 (and_parts _ _ names).0
+last_bytes (p ∷ q ∷ ps) names = last_bytes (q ∷ ps) (and_parts _ _ names).1
 
 -- some text ends what is read
 abbrev Ends : Reading → Type 0
@@ -235,7 +221,7 @@ tied_ends : (ps : List Pair) (n rest : List ℕ) → Good ps → last_name ps �
 tied_ends ps n rest good is =
     let end = rest ++ 97 ∷ [] in
     let all : list_all is_name_byte (n ++ rest) ≡ true = ap (list_all is_name_byte) (sym is) ∙ last_bytes ps good.names in
-    let bytes : list_all is_name_byte rest ≡ true = (both_true _ _ (sym (list_all-append is_name_byte n rest) ∙ all)).1 in
+    let bytes : list_all is_name_byte rest ≡ true = (and_parts _ _ (sym (list_all-append is_name_byte n rest) ∙ all)).1 in
     (end ++ codes "=\"a\"}", put name_order (n ++ end) (codes "a") ps, run_part (InName ps n false) (InName ps (n ++ end) true) end (codes "=\"a\"}") (run_tied ps n rest end is (name_bytes_more rest bytes) (above_end rest 97)) ∙ run_end ps (n ++ end))
 
 one_more_byte : (v : List ℕ) (b : ℕ) → not (length (v ++ b ∷ []) == 0) ≡ true

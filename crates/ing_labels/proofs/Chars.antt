@@ -1,7 +1,8 @@
 -- The bytes of a character are read as the character is.
-use Rattle.std.proofs.Common.{◌≡◌, ℕ, suc, ◌<◌, ◌≤◌, nat_lt, length, get_or, true, false, ◌==◌, ◌⊎◌, inl, inr, List, [], ◌∷◌, ◌++◌, Option, Some, None, refl, sym, ap, ◌∙◌, append_assoc, append-nil, arith}
+use Rattle.std.proofs.Common.{◌≡◌, ℕ, suc, ◌<◌, ◌≤◌, length, get_or, false, ◌==◌, inl, inr, List, [], ◌∷◌, ◌++◌, Option, Some, None, refl, sym, ap, ◌∙◌, append_assoc, append-nil, arith}
 use lib.Utf8.{encode}
 use Rattle.std.proofs.lemmas.Str.{encode_ascii, inside_one, length-encode}
+use Rattle.std.proofs.lemmas.Bool.{cases_lt}
 use Rattle.ing_labels.specs.Names.{is_name_start, is_name_byte}
 use Rattle.ing_labels.specs.declared.matcher.MatchOp.{MatchOp}
 use Rattle.ing_labels.specs.Selectors.{Match, is_space}
@@ -44,20 +45,10 @@ far_bytes ms n op v (b ∷ bs) all =
     ∙ far_bytes ms n op (v ++ b ∷ []) bs (λ k h. all (suc k) (omega arith))
     ∙ ap (λ x. Some (InValue ms n op x)) (append_assoc v (b ∷ []) bs)
 
-less : (c : ℕ) → nat_lt c 128 ≡ true → c < 128
-less c e = grind arith
-
-not_less : (c : ℕ) → nat_lt c 128 ≡ false → 128 ≤ c
-not_less c e = grind arith
-
-pub is_ascii_or_far : (c : ℕ) → (c < 128) ⊎ (128 ≤ c)
-is_ascii_or_far c =
-    elim (nat_lt c 128) as (λ b. nat_lt c 128 ≡ b → (c < 128) ⊎ (128 ≤ c)) [ true ↦ λ e. inl (less c e) | false ↦ λ e. inr (not_less c e) ] refl
-
 -- each byte of a character that is not ASCII
 pub all_far : (c : ℕ) → 128 ≤ c → (k : ℕ) → k < length (encode c) → 128 ≤ get_or (encode c) k 0
 all_far c h k within =
-    elim (is_ascii_or_far (get_or (encode c) k 0)) [
+    elim (cases_lt (get_or (encode c) k 0) 128) [
       | inl small ↦ let same = inside_one c [] (encode c) k (sym (append-nil (encode c))) within small in absurd (omega arith)
       | inr big ↦ big
     ]
@@ -77,7 +68,7 @@ far_char (Closed ms) t c h e = absurd (cc)
 
 pub char_read : (r t : Reading) (c : ℕ) → step_char r c ≡ Some t → run_from (Some r) (encode c) ≡ Some t
 char_read r t c e =
-    elim (is_ascii_or_far c) [
+    elim (cases_lt c 128) [
       | inl h ↦ ap (run_from (Some r)) (encode_ascii c h) ∙ ap (λ bytes. step_with bytes r c) (sym (encode_ascii c h)) ∙ e
       | inr h ↦ far_char r t c h (sym (far-step (encode c) r c h) ∙ e)
     ]
@@ -105,7 +96,7 @@ some_bytes c = grind (arith, length-encode c)
 -- where a character can not follow, its first byte can not
 pub char_stuck : (r : Reading) (c : ℕ) → 0 < length (encode c) → step_char r c ≡ None → (b : ℕ) × (rest : List ℕ) × (encode c ≡ b ∷ rest) × (step r b ≡ None)
 char_stuck r c some e =
-    elim (is_ascii_or_far c) [
+    elim (cases_lt c 128) [
       | inl h ↦ (c, [], encode_ascii c h, ap (λ bytes. step_with bytes r c) (sym (encode_ascii c h)) ∙ e)
       | inr h ↦ first_far r (encode c) some (all_far c h 0 some) (sym (far-step (encode c) r c h) ∙ e)
     ]

@@ -1,6 +1,7 @@
 -- A selector text is read whole, and what is read can go on as one.
-use Rattle.std.proofs.Common.{◌≡◌, ℕ, Bool, true, false, ◌&&◌, ◌⊎◌, inl, inr, List, [], ◌∷◌, ◌++◌, Option, Some, None, codes, refl, sym, ap, subst, ◌∙◌, append_assoc, append-nil, arith, IfSome}
+use Rattle.std.proofs.Common.{◌≡◌, ℕ, true, ◌⊎◌, inl, inr, List, [], ◌∷◌, ◌++◌, Option, Some, None, codes, refl, sym, ap, subst, ◌∙◌, append_assoc, append-nil, arith, IfSome}
 use Rattle.std.specs.List.{flat_map, list_all}
+use Rattle.std.proofs.lemmas.Bool.{and_parts}
 use Rattle.ing_labels.specs.Names.{is_name_start, is_name_byte, is_label_name}
 use Rattle.ing_labels.specs.Canonical.{written_byte, written_value}
 use Rattle.ing_labels.specs.declared.matcher.MatchOp.{MatchOp}
@@ -12,10 +13,6 @@ use Rattle.ing_labels.proofs.Spelt.{HaveNames, Reads, reads_from, run-none}
 pub run-append : (o : Option Reading) (xs ys : List ℕ) → run_from o (xs ++ ys) ≡ run_from (run_from o xs) ys
 run-append o [] ys = refl
 run-append o (x ∷ xs) ys = run-append (step_from o x) xs ys
-
-both_true : (a b : Bool) → (a && b) ≡ true → (a ≡ true) × (b ≡ true)
-both_true true b e = (refl, e)
-both_true false b e = absurd (cc)
 
 -- white space changes nothing
 abbrev Gap : Reading → Type 0
@@ -45,7 +42,7 @@ gap-Closed ms b w = grind arith
 run_space : (r : Reading) → Gap r → (space : List ℕ) → list_all is_space space ≡ true → run_from (Some r) space ≡ Some r
 run_space r gap [] w = refl
 run_space r gap (b ∷ bs) w =
-    let parts = both_true _ _ w in
+    let parts = and_parts _ _ w in
     ap (λ o. run_from o bs) (gap b parts.0) ∙ run_space r gap bs parts.1
 
 -- white space and a token
@@ -63,7 +60,7 @@ name_step ms n b e = grind arith
 run_name : (ms : List Match) (n bs : List ℕ) → list_all is_name_byte bs ≡ true → run_from (Some (InName ms n)) bs ≡ Some (InName ms (n ++ bs))
 run_name ms n [] good = ap (λ x. Some (InName ms x)) (sym (append-nil n))
 run_name ms n (b ∷ bs) good =
-    let parts = both_true _ _ good in
+    let parts = and_parts _ _ good in
     ap (λ o. run_from o bs) (name_step ms n b parts.0)
     ∙ run_name ms (n ++ b ∷ []) bs parts.1
     ∙ ap (λ x. Some (InName ms x)) (append_assoc n (b ∷ []) bs)
@@ -77,13 +74,13 @@ opened_step b e = grind arith
 comma_name : (ms : List Match) (n : List ℕ) → is_label_name n ≡ true → run_from (Some (Comma ms)) n ≡ Some (InName ms n)
 comma_name ms [] good = absurd (cc)
 comma_name ms (b ∷ bs) good =
-    let parts = both_true _ _ good in
+    let parts = and_parts _ _ good in
     ap (λ o. run_from o bs) (comma_step ms b parts.0) ∙ run_name ms (b ∷ []) bs parts.1
 
 opened_name : (n : List ℕ) → is_label_name n ≡ true → run_from (Some Opened) n ≡ Some (InName [] n)
 opened_name [] good = absurd (cc)
 opened_name (b ∷ bs) good =
-    let parts = both_true _ _ good in
+    let parts = and_parts _ _ good in
     ap (λ o. run_from o bs) (opened_step b parts.0) ∙ run_name [] (b ∷ []) bs parts.1
 
 one_space : (b : ℕ) → is_space b ≡ true → (b ≡ 32) ⊎ ((b ≡ 9) ⊎ ((b ≡ 10) ⊎ (b ≡ 13)))
@@ -113,7 +110,7 @@ run_op : (ms : List Match) (n : List ℕ) (op : MatchOp) (space rest text : List
 run_op ms n op [] rest text w is =
     ap (run_from (Some (InName ms n))) is ∙ run-append (Some (InName ms n)) (op_token op) rest ∙ ap (λ o. run_from o rest) (in_name_op ms n op)
 run_op ms n op (b ∷ bs) rest text w is =
-    let parts = both_true _ _ w in
+    let parts = and_parts _ _ w in
     ap (run_from (Some (InName ms n))) is
     ∙ ap (λ o. run_from o (bs ++ (op_token op ++ rest))) (in_name_space ms n b parts.0)
     ∙ run_token (Named ms n) (Compared ms n op) (gap-Named ms n) bs (op_token op) rest _ parts.1 (named_op ms n op) refl
@@ -151,7 +148,7 @@ run_rest done [] text names h =
     ∙ run_space (Closed done) (gap-Closed done) h.1 h.3
     ∙ ap (λ x. Some (Closed x)) (sym (append-nil done))
 run_rest done (m ∷ ms) text names h =
-    let parts = both_true _ _ names in
+    let parts = and_parts _ _ names in
     let found = run_match (Comma done) (gap-Comma done) done m (flat_map (λ x. (codes "," ∷ []) ++ match_tokens x) ms ++ codes "}" ∷ []) h.1 (comma_name done m.name parts.0) h.3 in
     run_token (Matched done) (Comma done) (gap-Matched done) h.0 (codes ",") h.1 text h.2 refl h.4
     ∙ found.2
@@ -167,7 +164,7 @@ runs_whole [] text is =
     ∙ run_space (Closed []) (gap-Closed []) h.3.1 h.3.3
 runs_whole (m ∷ ms) text is =
     let h = is.spelt in
-    let parts = both_true _ _ is.names in
+    let parts = and_parts _ _ is.names in
     let found = run_match Opened gap-Opened [] m (flat_map (λ x. (codes "," ∷ []) ++ match_tokens x) ms ++ codes "}" ∷ []) h.1 (opened_name m.name parts.0) h.3 in
     run_token Start Opened gap-Start h.0 (codes "{") h.1 text h.2 refl h.4
     ∙ found.2

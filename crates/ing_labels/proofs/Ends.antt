@@ -1,6 +1,7 @@
 -- Where the reading of a selector text ends.
 use Rattle.std.proofs.Common.{◌≡◌, ℕ, ◌+◌, ◌<◌, length, take, List, [], ◌∷◌, ◌++◌, Some, None, refl, sym, ap, subst, ◌∙◌, append_assoc, append-nil, arith, length-append}
 use Rattle.std.proofs.Math.Seq.{take-append_seam, take-append-add}
+use Rattle.std.proofs.lemmas.List.{nil_from_length}
 use lib.Utf8.{encode}
 use Rattle.ing_labels.specs.Selectors.{Match, IsSelectorText, BeginsSelector, IsBadSelector}
 use Rattle.ing_labels.specs.Reading.{Reading, Start, Opened, InName, Named, Bang, Compared, InValue, Escaped, Matched, Comma, Closed, step_char, run_from, closed_of}
@@ -54,15 +55,11 @@ bad_here text old rest at c r item some e h =
       longest = λ _ some. stuck (subst BeginsSelector longer some);
     }
 
-no_length : (xs : List ℕ) → length xs ≡ 0 → xs ≡ []
-no_length [] e = refl
-no_length (x ∷ xs) e = absurd (omega arith)
-
 -- the text ends too early
 pub bad_end : (text rest : List ℕ) (at : ℕ) (r : Reading) → length rest ≡ 0 → closed_of r ≡ None → ReadTo text rest at r → IsBadSelector text at
 bad_end text rest at r none unfinished h =
     let inside : at + length rest ≡ length text = within_text text rest at r h in
-    let whole : h.front ≡ text = sym (append-nil h.front) ∙ ap (λ x. h.front ++ x) (sym (no_length rest none)) ∙ h.spells in
+    let whole : h.front ≡ text = sym (append-nil h.front) ∙ ap (λ x. h.front ++ x) (sym (nil_from_length rest none)) ∙ h.spells in
     record {
       refused = λ ms is. refused_end h.front r h.read unfinished ms (subst (IsSelectorText ms) (sym whole) is);
       within = omega arith;
@@ -86,6 +83,6 @@ is_closed (Closed _) ms e = cc
 -- the text is read whole
 pub good_end : (text rest : List ℕ) (at : ℕ) (ms : List Match) (r : Reading) → length rest ≡ 0 → closed_of r ≡ Some ms → ReadTo text rest at r → IsSelectorText ms text
 good_end text rest at ms r none done h =
-    let whole : h.front ≡ text = sym (append-nil h.front) ∙ ap (λ x. h.front ++ x) (sym (no_length rest none)) ∙ h.spells in
+    let whole : h.front ≡ text = sym (append-nil h.front) ∙ ap (λ x. h.front ++ x) (sym (nil_from_length rest none)) ∙ h.spells in
     let read = h.read in
     subst (IsSelectorText ms) whole (reads h.front (Closed ms) (read ∙ ap Some (is_closed r ms done)))

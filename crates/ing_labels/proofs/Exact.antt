@@ -1,6 +1,7 @@
 -- Two label maps with equal canonical names are equal.
-use Rattle.std.proofs.Common.{◌≡◌, ◌≢◌, ℕ, ◌⊎◌, ◌&&◌, ◌||◌, Bool, true, false, List, [], ◌∷◌, ◌++◌, codes, refl, sym, ap, ◌∙◌, append_assoc, arith}
+use Rattle.std.proofs.Common.{◌≡◌, ◌≢◌, ℕ, ◌⊎◌, ◌&&◌, ◌||◌, true, List, [], ◌∷◌, ◌++◌, codes, refl, sym, ap, ◌∙◌, append_assoc, arith}
 use Rattle.std.specs.List.{flat_map, join_by, list_all}
+use Rattle.std.proofs.lemmas.Bool.{and_parts}
 use Rattle.ing_labels.specs.Names.{is_between, is_name_start, is_name_byte, is_label_name}
 use Rattle.ing_labels.specs.Labels.{Pair}
 use Rattle.ing_labels.specs.Canonical.{written_byte, written_value, written_pair}
@@ -27,10 +28,6 @@ value_exact (x ∷ xs) (y ∷ ys) r t e =
     let rest = value_exact xs ys r t first.1 in
     (ap (λ b. b ∷ xs) first.0 ∙ ap (λ bs. y ∷ bs) rest.0, rest.1)
 
-both_true : (a b : Bool) → (a && b) ≡ true → (a ≡ true) × (b ≡ true)
-both_true true b e = (refl, e)
-both_true false b e = absurd (cc)
-
 -- no byte of a name is `=`
 not_equals : (b : ℕ) → is_name_byte b ≡ true → b ≡ 61 → ⊥
 not_equals b good is = let bad : is_name_byte 61 ≡ true = ap is_name_byte (sym is) ∙ good in cc
@@ -38,20 +35,20 @@ not_equals b good is = let bad : is_name_byte 61 ≡ true = ap is_name_byte (sym
 -- a name ends at the first `=`
 name_exact : (a b : List ℕ) (r t : List ℕ) → list_all is_name_byte a ≡ true → list_all is_name_byte b ≡ true → a ++ 61 ∷ r ≡ b ++ 61 ∷ t → (a ≡ b) × (r ≡ t)
 name_exact [] [] r t f g e = (refl, cc)
-name_exact [] (y ∷ ys) r t f g e = absurd (not_equals y (both_true _ _ g).0 (cc))
-name_exact (x ∷ xs) [] r t f g e = absurd (not_equals x (both_true _ _ f).0 (cc))
+name_exact [] (y ∷ ys) r t f g e = absurd (not_equals y (and_parts _ _ g).0 (cc))
+name_exact (x ∷ xs) [] r t f g e = absurd (not_equals x (and_parts _ _ f).0 (cc))
 name_exact (x ∷ xs) (y ∷ ys) r t f g e =
     let same : x ≡ y = cc in
-    let rest = name_exact xs ys r t (both_true _ _ f).1 (both_true _ _ g).1 (cc) in
+    let rest = name_exact xs ys r t (and_parts _ _ f).1 (and_parts _ _ g).1 (cc) in
     (ap (λ b. b ∷ xs) same ∙ ap (λ bs. y ∷ bs) rest.0, rest.1)
 
 start_is_byte : (b : ℕ) → is_name_start b ≡ true → is_name_byte b ≡ true
 start_is_byte b good = ap (λ s. s || is_between 48 57 b) good
 
-all_name_bytes : (name : List ℕ) → is_label_name name ≡ true → list_all is_name_byte name ≡ true
+pub all_name_bytes : (name : List ℕ) → is_label_name name ≡ true → list_all is_name_byte name ≡ true
 all_name_bytes [] good = refl
 all_name_bytes (b ∷ bs) good =
-    let parts = both_true _ _ good in
+    let parts = and_parts _ _ good in
     ap (λ s. s && list_all is_name_byte bs) (start_is_byte b parts.0) ∙ parts.1
 
 -- a written pair, before what follows it
@@ -72,8 +69,8 @@ rest_exact [] [] f g e = refl
 rest_exact [] (q ∷ qs) f g e = absurd (cc)
 rest_exact (p ∷ ps) [] f g e = absurd (cc)
 rest_exact (p ∷ ps) (q ∷ qs) f g e =
-    let fs = both_true _ _ f in
-    let gs = both_true _ _ g in
+    let fs = and_parts _ _ f in
+    let gs = and_parts _ _ g in
     let left : after_first (p ∷ ps) ++ 125 ∷ [] ≡ 44 ∷ 32 ∷ (written_pair p ++ (after_first ps ++ 125 ∷ [])) = append_assoc (codes ", " ++ written_pair p) (after_first ps) (125 ∷ []) in
     let right : after_first (q ∷ qs) ++ 125 ∷ [] ≡ 44 ∷ 32 ∷ (written_pair q ++ (after_first qs ++ 125 ∷ [])) = append_assoc (codes ", " ++ written_pair q) (after_first qs) (125 ∷ []) in
     let first = pair_exact p q _ _ fs.0 gs.0 (cc (sym left ∙ e ∙ right)) in
@@ -85,15 +82,15 @@ not_brace : (name r : List ℕ) → is_label_name name ≡ true → 125 ∷ [] �
 not_brace [] r good e = cc
 not_brace (b ∷ bs) r good e =
     let is : 125 ≡ b = cc in
-    let bad : is_name_start 125 ≡ true = ap is_name_start is ∙ (both_true _ _ good).0 in
+    let bad : is_name_start 125 ≡ true = ap is_name_start is ∙ (and_parts _ _ good).0 in
     cc
 
 pub pairs_exact : (ps qs : List Pair) → list_all (λ p. is_label_name p.0) ps ≡ true → list_all (λ p. is_label_name p.0) qs ≡ true → join_by written_pair (codes ", ") ps ++ 125 ∷ [] ≡ join_by written_pair (codes ", ") qs ++ 125 ∷ [] → ps ≡ qs
 pairs_exact [] [] f g e = refl
-pairs_exact [] (q ∷ qs) f g e = absurd (not_brace q.0 _ (both_true _ _ g).0 (e ∙ append_assoc (written_pair q) (after_first qs) (125 ∷ []) ∙ spelled q _))
-pairs_exact (p ∷ ps) [] f g e = absurd (not_brace p.0 _ (both_true _ _ f).0 (sym e ∙ append_assoc (written_pair p) (after_first ps) (125 ∷ []) ∙ spelled p _))
+pairs_exact [] (q ∷ qs) f g e = absurd (not_brace q.0 _ (and_parts _ _ g).0 (e ∙ append_assoc (written_pair q) (after_first qs) (125 ∷ []) ∙ spelled q _))
+pairs_exact (p ∷ ps) [] f g e = absurd (not_brace p.0 _ (and_parts _ _ f).0 (sym e ∙ append_assoc (written_pair p) (after_first ps) (125 ∷ []) ∙ spelled p _))
 pairs_exact (p ∷ ps) (q ∷ qs) f g e =
-    let fs = both_true _ _ f in
-    let gs = both_true _ _ g in
+    let fs = and_parts _ _ f in
+    let gs = and_parts _ _ g in
     let first = pair_exact p q _ _ fs.0 gs.0 (sym (append_assoc (written_pair p) (after_first ps) (125 ∷ [])) ∙ e ∙ append_assoc (written_pair q) (after_first qs) (125 ∷ [])) in
     ap (λ x. x ∷ ps) first.0 ∙ ap (λ xs. q ∷ xs) (rest_exact ps qs fs.1 gs.1 first.1)

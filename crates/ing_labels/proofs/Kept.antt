@@ -1,5 +1,5 @@
 -- What a label map has of the pairs that it is made of.
-use Rattle.std.proofs.Common.{◌≡◌, ◌≢◌, ℕ, suc, zero, ◌+◌, ◌<◌, ◌≤◌, length, get_or, take, not, nat_le, nat_lt, filter, position, Some, None, Bool, true, false, cond, ◌&&◌, ◌||◌, ◌==◌, List, [], ◌∷◌, refl, sym, ap, ◌∙◌, arith}
+use Rattle.std.proofs.Common.{◌≡◌, ◌≢◌, ℕ, suc, zero, ◌+◌, ◌<◌, ◌≤◌, length, get_or, take, not, nat_le, nat_lt, filter, position, Some, None, Bool, true, false, cond, ◌&&◌, ◌==◌, List, [], ◌∷◌, refl, sym, ap, ◌∙◌, arith}
 use Rattle.std.specs.Ordering.{is_eq}
 use Rattle.std.specs.List.{list_all, Contains}
 use Rattle.std.specs.Str.{bytes_eq}
@@ -9,6 +9,7 @@ use Rattle.std.proofs.lemmas.Map.Text.{is_eq-slice_cmp}
 use Rattle.std.proofs.lemmas.Slice.Eq.{bytes_eq-Decides}
 use Rattle.std.proofs.lemmas.List.{get_or_default}
 use Rattle.std.proofs.lemmas.List.Sums.{list_all-from_AllPass}
+use Rattle.std.proofs.lemmas.Bool.{not_from_false, or_parts}
 use Rattle.ing_labels.specs.declared.fault.LabelLimits.{LabelLimits}
 use Rattle.ing_labels.specs.Labels.{name_order, Pair, has_value, is_named, with_values, first_repeated_name, first_long_name, first_long_value, HoldsPairs, KeepsLimits}
 use Rattle.ing_labels.proofs.Places.{none_passes, none_repeats}
@@ -25,9 +26,6 @@ len-from_entries-le (p ∷ ps) =
     let within = len-step (contains_key (from_entries {R = name_order} ps) p.0) _ _ (len-from_entries-le ps) in
     omega arith
 
-not_true : (b : Bool) → b ≡ false → not b ≡ true
-not_true b e = ap not e
-
 -- the pairs that pass a test, where no pair passes it and fails another
 good_kept : (q bad good : Pair → Bool) → ((p : Pair) → bad p ≡ false → good p ≡ true) → (ps : List Pair) → list_all (λ p. not (q p && bad p)) ps ≡ true → list_all good (filter q ps) ≡ true
 good_kept q bad good follows [] all = refl
@@ -41,7 +39,7 @@ good_kept q bad good follows (p ∷ ps) all =
     ] all
 
 none_bad : (p : Pair → Bool) (ps : List Pair) → position p ps ≡ None → list_all (λ x. not (p x)) ps ≡ true
-none_bad p ps e = list_all-from_AllPass (λ x. not (p x)) ps (λ k d h. not_true _ (none_passes p ps d e k h))
+none_bad p ps e = list_all-from_AllPass (λ x. not (p x)) ps (λ k d h. not_from_false _ (none_passes p ps d e k h))
 
 no_longer : (most n : ℕ) → nat_lt most n ≡ false → nat_le n most ≡ true
 no_longer most n h = grind arith
@@ -78,10 +76,6 @@ contains_found name value (p ∷ ps) e =
       ] refl e
       | false ↦ λ e. later e
     ] e
-
-or_parts : (a b : Bool) → (a || b) ≡ false → (a ≡ false) × (b ≡ false)
-or_parts true b e = absurd (cc)
-or_parts false b e = (refl, e)
 
 -- a pair whose name no pair before it has is found, where it has a value
 found_at : (ps : List Pair) (k : ℕ) (name value : List ℕ) → k < length ps → get_or ps k (name, value) ≡ (name, value) → is_named name (take k ps) ≡ false → has_value (name, value) ≡ true → find name_order name (with_values ps) ≡ Some value

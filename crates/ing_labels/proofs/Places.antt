@@ -12,6 +12,7 @@ use Rattle.std.specs.Str.{bytes_eq}
 use Rattle.std.proofs.lemmas.List.{get_or-map, take_more}
 use Rattle.std.proofs.lemmas.List.Folds.{list_any-append}
 use Rattle.std.proofs.lemmas.Map.Text.{is_eq-slice_cmp}
+use Rattle.std.proofs.lemmas.Bool.{not-true}
 use Rattle.ing_labels.specs.Labels.{Pair, texts, is_named, first_repeated_name}
 
 prefix_len-map : {X Y : Type 0} (p : Y → Bool) (f : X → Y) (xs : List X) → prefix_len p (map f xs) ≡ prefix_len (λ x. p (f x)) xs
@@ -44,14 +45,10 @@ position_none p xs d none =
     let at : position_or_len p xs ≡ length xs = position_or_len_is p xs (length xs) d (omega arith) none (λ h. absurd (omega arith)) in
     grind (arith, at)
 
-not_false : (b : Bool) → not b ≡ true → b ≡ false
-not_false true e = sym e
-not_false false e = refl
-
 pub none_passes : {X : Type 0} (p : X → Bool) (xs : List X) (d : X) → position p xs ≡ None → (k : ℕ) → k < length xs → p (get_or xs k d) ≡ false
 none_passes p xs d e k within =
     let all : length xs ≤ position_or_len p xs = grind (arith, e) in
-    not_false _ (prefix_len_passes (λ x. not (p x)) xs k d (omega arith))
+    not-true _ (prefix_len_passes (λ x. not (p x)) xs k d (omega arith))
 
 -- whether a pair before place k has the name of the pair there
 abbrev pub repeats : List Pair → ℕ → Bool

@@ -1,9 +1,10 @@
 -- A value as it is written, character by character.
 use Rattle.std.specs.List.{list_any}
-use Rattle.std.proofs.Common.{◌≡◌, ◌≢◌, ℕ, suc, ◌<◌, length, get_or, List, [], ◌∷◌, ◌++◌, refl, sym, ap, ◌∙◌, arith, append-nil, Bool, true, false, ◌||◌}
+use Rattle.std.proofs.Common.{◌≡◌, ◌≢◌, ℕ, suc, ◌<◌, length, get_or, List, [], ◌∷◌, ◌++◌, refl, sym, ap, ◌∙◌, arith, append-nil, false}
 use lib.Utf8.{encode}
 use Rattle.std.proofs.lemmas.List.Concat.{flat_map-append}
 use Rattle.std.proofs.lemmas.Str.{encode_ascii, inside_one}
+use Rattle.std.proofs.lemmas.Bool.{or_parts}
 use Rattle.ing_labels.specs.Canonical.{written_byte, is_escaped, written_value}
 
 plain_byte : (b : ℕ) → b ≢ 92 → b ≢ 34 → b ≢ 10 → written_byte b ≡ b ∷ []
@@ -35,10 +36,6 @@ written_ascii b rest small = ap (λ s. written_value (s ++ rest)) (encode_ascii 
 
 plain_from_test : (b : ℕ) → is_escaped b ≡ false → (b ≢ 92) × (b ≢ 34) × (b ≢ 10)
 plain_from_test b h = grind arith
-
-or_parts : (a b : Bool) → (a || b) ≡ false → (a ≡ false) × (b ≡ false)
-or_parts true b e = absurd (cc)
-or_parts false b e = (refl, e)
 
 -- a value with no byte that is escaped
 pub written-plain : (value : List ℕ) → list_any is_escaped value ≡ false → written_value value ≡ value

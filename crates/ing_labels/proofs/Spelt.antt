@@ -3,6 +3,7 @@ use Rattle.std.proofs.Common.{◌≡◌, ℕ, Bool, true, false, cond, ◌&&◌,
 use Rattle.std.specs.List.{flat_map, join_by, list_all}
 use Rattle.std.proofs.lemmas.List.Concat.{flat_map-append}
 use Rattle.std.proofs.lemmas.List.Folds.{list_all-append}
+use Rattle.std.proofs.lemmas.Bool.{and_from}
 use Rattle.ing_labels.specs.Names.{is_name_start, is_name_byte, is_label_name}
 use Rattle.ing_labels.specs.Canonical.{written_byte, written_value}
 use Rattle.ing_labels.specs.Selectors.{Match, is_space, Spaced, op_token, quoted, match_tokens, selector_tokens, IsSelectorText}
@@ -56,9 +57,6 @@ and_true true true = refl
 and_true true false = refl
 and_true false b = refl
 
-pub both : (a b : Bool) → a ≡ true → b ≡ true → (a && b) ≡ true
-both a b p q = ap (λ c. c && b) p ∙ q
-
 pub name_more : (n : List ℕ) (b : ℕ) → is_label_name n ≡ true → is_name_byte b ≡ true → is_label_name (n ++ b ∷ []) ≡ true
 name_more [] b h e = absurd (cc)
 name_more (x ∷ n) b h e =
@@ -67,7 +65,7 @@ name_more (x ∷ n) b h e =
     ∙ h
 
 names_more : (ms : List Match) (m : Match) → HaveNames ms → is_label_name m.name ≡ true → HaveNames (ms ++ m ∷ [])
-names_more ms m h e = list_all-append (λ x. is_label_name x.name) ms (m ∷ []) ∙ both _ _ h (ap (λ c. c && true) e)
+names_more ms m h e = list_all-append (λ x. is_label_name x.name) ms (m ∷ []) ∙ and_from _ _ h (ap (λ c. c && true) e)
 
 after_name_reads : (text : List ℕ) (ms : List Match) (n : List ℕ) (b : ℕ) → HaveNames ms → is_label_name n ≡ true → Spaced (opened ms ++ n ∷ []) text → Goes text b (after_name ms n b)
 after_name_reads text ms n b names good h =

@@ -1,5 +1,5 @@
 -- What the tests of a list of pairs say of the map that it makes.
-use Rattle.std.proofs.Common.{◌≡◌, ℕ, suc, zero, ◌<◌, ◌≤◌, Bool, true, false, cond, ◌||◌, ◌==◌, nat_lt, List, [], ◌∷◌, length, get_or, take, Option, Some, None, Result, Ok, Err, IfOk, refl, sym, ap, subst, ◌∙◌, arith}
+use Rattle.std.proofs.Common.{◌≡◌, ℕ, suc, zero, ◌<◌, ◌≤◌, Bool, true, false, cond, ◌||◌, ◌==◌, nat_lt, List, [], ◌∷◌, length, get_or, take, Option, Some, None, Result, Ok, Err, refl, sym, ap, subst, ◌∙◌, arith}
 use lib.Dec.{T}
 use Rattle.std.specs.Ordering.{is_eq}
 use Rattle.std.specs.List.{list_all}
@@ -127,10 +127,6 @@ pub entries_are_labels : (m : LabelMap) → IsLabelSet m → AreLabels (entries 
 entries_are_labels m set =
     let same = from_sorted-entries m in
     record { in_order = ap entries same; labels = subst IsLabelSet (sym same) set }
-
-pub ok_then : {X E : Type 0} (r : Result X E) (P Q : X → Type 0) → ((x : X) → P x → Q x) → IfOk r P → IfOk r Q
-ok_then (Ok x) P Q f h = f x h
-ok_then (Err e) P Q f h = tt
 
 pub not_both : (m : LabelMap) (e : LabelFault) {said : Result LabelMap LabelFault} → said ≡ Ok m → said ≡ Err e → ⊥
 not_both m e ok err = cc (sym ok ∙ err)

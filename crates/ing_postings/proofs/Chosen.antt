@@ -1,7 +1,7 @@
 -- What the walks over matchers and over places have found so far.
-use Rattle.std.proofs.Common.{◌≡◌, ℕ, ◌+◌, ◌<◌, ◌≤◌, length, get_or, take, All, Any, Option, Some, None, IfSome, IfNone, MatchOption, ◌⊎◌, inl, inr, true, false, List, [], ◌∷◌, ◌++◌, Bor, sym, ap, subst, ◌∙◌, arith, length-take}
+use Rattle.std.proofs.Common.{◌≡◌, ℕ, ◌+◌, ◌<◌, ◌≤◌, length, get_or, take, All, Any, Option, Some, None, IfSome, IfNone, MatchOption, ◌⊎◌, inl, inr, true, false, List, [], ◌∷◌, ◌++◌, Bor, sym, ap, subst, ◌∙◌, arith}
 use Rattle.std.specs.List.{filter_map, slice_get, cons_option}
-use Rattle.std.proofs.lemmas.List.{take_more, map-append, get_or-take}
+use Rattle.std.proofs.lemmas.List.{take_more, map-append}
 use Rattle.std.proofs.lemmas.List.Elements.{All-more, All-weaker, filter_map-append}
 use Rattle.ing_labels.specs.Selectors.{Match, asks_for_value}
 use Rattle.ing_postings.specs.declared.listed.Listed.{Listed}
@@ -15,18 +15,6 @@ numbers_more streams places i s within here =
     ∙ ap numbers_of (filter_map-append (slice_get streams) (take i places) (get_or places i 0 ∷ []))
     ∙ map-append (λ t. t.number) (filter_map (slice_get streams) (take i places)) (filter_map (slice_get streams) (get_or places i 0 ∷ []))
     ∙ ap (λ o. numbers_of (filter_map (slice_get streams) (take i places)) ++ numbers_of (cons_option o [])) here
-
--- what holds of each of the first n elements holds of each, where there are no more
-pub all_whole : {X : Type 0} (P : X → Type 0) (xs : List X) (n : ℕ) → length xs ≤ n → All P (take n xs) → All P xs
-all_whole P xs n end all = λ k d h. subst P (get_or-take n xs k d (omega arith)) (all k d (omega (arith, length-take n xs)))
-
-pub some_whole : {X : Type 0} (P : Bor (List ℕ) → X → Type 0) (o : Option (Bor (List ℕ))) (xs : List X) (n : ℕ) → length xs ≤ n → IfSome o (λ l. All (P l) (take n xs)) → IfSome o (λ l. All (P l) xs)
-some_whole P None xs n end all = all
-some_whole P (Some l) xs n end all = all_whole (P l) xs n end all
-
-pub none_whole : {X : Type 0} (P : X → Type 0) (o : Option (Bor (List ℕ))) (xs : List X) (n : ℕ) → length xs ≤ n → IfNone o (All P (take n xs)) → IfNone o (All P xs)
-none_whole P None xs n end all = all_whole P xs n end all
-none_whole P (Some l) xs n end all = all
 
 -- the shortest list that the first n matchers name
 pub record IsShortest (index : Index) (ms : List Match) (n : ℕ) (o : Option (Bor (List ℕ))) : Type 0 where

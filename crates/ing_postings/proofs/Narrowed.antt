@@ -1,147 +1,98 @@
 -- What a matcher for one value picks has that label.
-use Rattle.std.proofs.Common.{◌≡◌, ℕ, suc, zero, ◌<◌, length, get_or, filter, Any, All, Result, Ok, Err, IfOk, Some, Bool, true, false, cond, not, ◌&&◌, ◌||◌, ◌==◌, List, [], ◌∷◌, refl, sym, ap, subst, ◌∙◌, arith}
-use Rattle.std.specs.List.{list_any, filter_map, slice_get}
-use Rattle.std.specs.Option.{unwrap_or}
+use Rattle.std.proofs.Common.{◌≡◌, ℕ, suc, zero, ◌<◌, length, get_or, filter, Any, All, Option, Some, None, Bool, true, false, cond, not, ◌&&◌, ◌||◌, ◌==◌, List, [], ◌∷◌, refl, sym, ap, subst, ◌∙◌, arith}
+use Rattle.std.specs.List.{list_any, list_all, filter_map, slice_get}
+use Rattle.std.specs.List.Sorted.{IsStrictlyIncreasing}
+use Rattle.std.specs.Option.{unwrap_or, option_map_or}
 use Rattle.std.specs.Str.{bytes_eq}
 use Rattle.std.specs.Ordering.{is_eq}
 use lib.Dec.{T}
-use Rattle.std.specs.FinMap.{entries, entries_sorted, find, get-entries}
+use Rattle.std.specs.FinMap.{entries, entries_sorted, find, get, get-entries}
 use Rattle.std.specs.FinMap.Entries.{is_sorted}
+use Rattle.std.proofs.Math.Bool.{and-true, or-false}
+use Rattle.std.proofs.lemmas.Bool.{and_parts, and_right}
 use Rattle.std.proofs.lemmas.Cmp.{nat_list_eq_equiv}
+use Rattle.std.proofs.lemmas.List.Elements.{filter_agree}
+use Rattle.std.proofs.lemmas.List.Recursion.{and_at}
 use Rattle.std.proofs.lemmas.Map.Text.{is_eq-slice_cmp}
-use Rattle.std.proofs.lemmas.Slice.Eq.{bytes_eq-Decides}
 use Rattle.ing_labels.specs.Labels.{LabelMap, Pair, name_order}
 use Rattle.ing_labels.specs.Selectors.{Match, match_holds, selects, asks_for_value, agrees}
-use Rattle.ing_labels.specs.LabelValues.{label_value}
 use Rattle.ing_labels.specs.declared.matcher.MatchOp.{MatchOp}
 use Rattle.ing_labels.specs.declared.matcher.MatchOp.TheVariants.{Equals, Differs}
 use Rattle.ing_postings.specs.declared.listed.Listed.{Listed}
-use Rattle.ing_postings.specs.Streams.{is_pair, has_label, places_of, selected}
-use Rattle.ing_postings.specs.Index.{Index, list_at, Narrows}
-use Rattle.ing_postings.proofs.Places.{places_read, places_within}
+use Rattle.ing_postings.specs.Streams.{is_pair, has_label, selected}
+use Rattle.ing_postings.specs.Index.{Index, IsIndexOf, Narrows}
+use Rattle.ing_postings.proofs.Places.{places_read, places_within, places_rise}
 use Rattle.ing_postings.proofs.Posted.{once, rest_sorted}
 
-both : (a b : Bool) → a ≡ true → b ≡ true → (a && b) ≡ true
-both a b p q = ap (λ c. c && b) p ∙ q
-
-both_parts : (a b : Bool) → (a && b) ≡ true → (a ≡ true) × (b ≡ true)
-both_parts true b e = (refl, e)
-both_parts false b e = absurd (cc)
-
-right_of : (a b : Bool) → b ≡ true → (a || b) ≡ true
-right_of true b e = refl
-right_of false b e = e
-
--- a value that is not empty stands in an entry
-found_pair : (es : List Pair) (name value : List ℕ) → unwrap_or (find name_order name es) [] ≡ value → not (length value == 0) ≡ true → list_any (is_pair name value) es ≡ true
-found_pair [] name value is some = absurd (cc (sym some ∙ ap (λ v. not (length v == 0)) (sym is)))
-found_pair (e ∷ es) name value is some =
+-- entries in order have a pair where its name is found with its value
+pair_found : (es : List Pair) (name value : List ℕ) → T (is_sorted name_order es) → list_any (is_pair name value) es ≡ option_map_or (λ v. bytes_eq v value) (find name_order name es) false
+pair_found [] name value sorted = refl
+pair_found (e ∷ es) name value sorted =
     let tied : is_eq (name_order name e.0) ≡ bytes_eq e.0 name = is_eq-slice_cmp name e.0 ∙ nat_list_eq_equiv.symm name e.0 in
-    elim (bytes_eq e.0 name) as (λ b. is_eq (name_order name e.0) ≡ b → bytes_eq e.0 name ≡ b → (is_pair name value e || list_any (is_pair name value) es) ≡ true) [
-      | true ↦ λ h g.
-          let valued : e.1 ≡ value = sym (ap (λ b. unwrap_or (cond b (Some e.1) (find name_order name es)) []) h) ∙ is in
-          ap (λ b. b || list_any (is_pair name value) es) (both _ _ g ((bytes_eq-Decides e.1 value).1 valued))
-      | false ↦ λ h g. right_of _ _ (found_pair es name value (sym (ap (λ b. unwrap_or (cond b (Some e.1) (find name_order name es)) []) h) ∙ is) some)
-    ] tied refl
-
-pub has_looked : (m : LabelMap) (name value : List ℕ) → label_value m name ≡ value → not (length value == 0) ≡ true → has_label name value m ≡ true
-has_looked m name value is some =
-    found_pair (entries m) name value (ap (λ o. unwrap_or o []) (sym (get-entries m name)) ∙ is) some
-
-asks_equals : (op : MatchOp) (same : Bool) → agrees op true ≡ true → agrees op same ≡ true → same ≡ true
-asks_equals Equals same asks holds = holds
-asks_equals Differs same asks holds = absurd (cc)
-
-match_has : (m : LabelMap) (x : Match) → asks_for_value x ≡ true → match_holds m x ≡ true → has_label x.name x.value m ≡ true
-match_has m x asks holds =
-    let parts = both_parts _ _ asks in
-    has_looked m x.name x.value ((bytes_eq-Decides (label_value m x.name) x.value).0 (asks_equals x.op _ parts.0 holds)) parts.1
-
-one_holds : (ms : List Match) (k : ℕ) (x : Match) (m : LabelMap) → k < length ms → get_or ms k x ≡ x → selects ms m ≡ true → match_holds m x ≡ true
-one_holds [] k x m within is holds = absurd (omega arith)
-one_holds (y ∷ ms) zero x m within is holds = subst (λ z. match_holds m z ≡ true) is (both_parts _ _ holds).0
-one_holds (y ∷ ms) (suc k) x m within is holds = one_holds ms k x m (omega arith) is (both_parts _ _ holds).1
-
-filter_twice : (p q : Listed → Bool) (xs : List Listed) → ((s : Listed) → p s ≡ true → q s ≡ true) → filter p (filter q xs) ≡ filter p xs
-filter_twice p q [] weaker = refl
-filter_twice p q (x ∷ xs) weaker =
-    let rest = filter_twice p q xs weaker in
-    elim (q x) as (λ b. q x ≡ b → filter p (cond b (x ∷ filter q xs) (filter q xs)) ≡ cond (p x) (x ∷ filter p xs) (filter p xs)) [
-      | true ↦ λ h. ap (λ ss. cond (p x) (x ∷ ss) ss) rest
-      | false ↦ λ h. rest ∙ elim (p x) as (λ b. p x ≡ b → filter p xs ≡ cond b (x ∷ filter p xs) (filter p xs)) [ true ↦ λ g. absurd (cc (sym (weaker x g) ∙ h)) | false ↦ λ g. refl ] refl
+    elim (bytes_eq e.0 name) as (λ b. bytes_eq e.0 name ≡ b → (b && bytes_eq e.1 value || list_any (is_pair name value) es) ≡ option_map_or (λ v. bytes_eq v value) (cond b (Some e.1) (find name_order name es)) false) [
+      | true ↦ λ h. ap (λ b. bytes_eq e.1 value || b) (once e name value es sorted h) ∙ or-false (bytes_eq e.1 value)
+      | false ↦ λ h. pair_found es name value (rest_sorted e es sorted)
     ] refl
+    ∙ ap (λ b. option_map_or (λ v. bytes_eq v value) (cond b (Some e.1) (find name_order name es)) false) (sym tied)
 
--- a walk over the list of such a matcher finds all that the selector picks
-pub walk_finds : (index : Index) (ms : List Match) (xs : List Listed) (list : List ℕ) → ((name value : List ℕ) → list_at index name value ≡ places_of name value xs) → Any (Narrows index list) ms → selected ms (filter_map (slice_get xs) list) ≡ selected ms xs
-walk_finds index ms xs list indexed (k, x, within, is, (asks, named)) =
-    let name = x.name in
-    let value = x.value in
-    ap (λ ps. selected ms (filter_map (slice_get xs) ps)) (named ∙ indexed name value)
-    ∙ ap (selected ms) (places_read name value xs)
-    ∙ filter_twice (λ s. selects ms s.labels) (λ s. has_label name value s.labels) xs (λ s h. match_has s.labels x asks (one_holds ms k x s.labels within is h))
+-- an absent label has an empty value
+absent : (o : Option (List ℕ)) (value : List ℕ) → not (length value == 0) ≡ true → bytes_eq (unwrap_or o []) value ≡ option_map_or (λ v. bytes_eq v value) o false
+absent (Some v) value some = refl
+absent None [] some = absurd (cc)
+absent None (b ∷ value) some = refl
 
-filter_kept : (p q : Listed → Bool) (xs : List Listed) → ((s : Listed) → q s ≡ true → p s ≡ true) → filter p (filter q xs) ≡ filter q xs
-filter_kept p q [] stronger = refl
-filter_kept p q (x ∷ xs) stronger =
-    let rest = filter_kept p q xs stronger in
-    elim (q x) as (λ b. q x ≡ b → filter p (cond b (x ∷ filter q xs) (filter q xs)) ≡ cond b (x ∷ filter q xs) (filter q xs)) [
-      | true ↦ λ h. ap (λ b. cond b (x ∷ filter p (filter q xs)) (filter p (filter q xs))) (stronger x h) ∙ ap (λ ss. x ∷ ss) rest
-      | false ↦ λ h. rest
-    ] refl
+-- a matcher with a value looks for its label
+pub holds_labelled : (m : LabelMap) (x : Match) → not (length x.value == 0) ≡ true → match_holds m x ≡ agrees x.op (has_label x.name x.value m)
+holds_labelled m x some =
+    ap (agrees x.op) (absent (get m x.name) x.value some ∙ ap (λ o. option_map_or (λ v. bytes_eq v x.value) o false) (get-entries m x.name) ∙ sym (pair_found (entries m) x.name x.value (entries_sorted m)))
 
-left_of : (a b : Bool) → (a || b) ≡ true → b ≡ false → a ≡ true
-left_of true b e h = refl
-left_of false b e h = absurd (cc (sym e ∙ h))
+asks_labelled : (m : LabelMap) (x : Match) → asks_for_value x ≡ true → match_holds m x ≡ has_label x.name x.value m
+asks_labelled m x asks = holds_labelled m x (and_parts _ _ asks).1 ∙ equals x.op (and_parts _ _ asks).0 (has_label x.name x.value m) where
+  equals : (op : MatchOp) → agrees op true ≡ true → (b : Bool) → agrees op b ≡ b
+  equals Equals asks b = refl
+  equals Differs asks b = absurd (cc)
 
--- an entry is found by its name
-pair_found : (es : List Pair) (name value : List ℕ) → T (is_sorted name_order es) → list_any (is_pair name value) es ≡ true → find name_order name es ≡ Some value
-pair_found [] name value sorted has = absurd (cc)
-pair_found (e ∷ es) name value sorted has =
-    let tied : is_eq (name_order name e.0) ≡ bytes_eq e.0 name = is_eq-slice_cmp name e.0 ∙ nat_list_eq_equiv.symm name e.0 in
-    elim (bytes_eq e.0 name) as (λ b. bytes_eq e.0 name ≡ b → is_eq (name_order name e.0) ≡ b → cond (is_eq (name_order name e.0)) (Some e.1) (find name_order name es) ≡ Some value) [
-      | true ↦ λ g h.
-          let later : list_any (is_pair name value) es ≡ false = once e.0 value name value es sorted (both _ _ g ((bytes_eq-Decides value value).1 refl)) in
-          let here = (both_parts _ _ (left_of (is_pair name value e) _ has later)).1 in
-          ap (λ b. cond b (Some e.1) (find name_order name es)) h ∙ ap Some ((bytes_eq-Decides e.1 value).0 here)
-      | false ↦ λ g h.
-          let later : list_any (is_pair name value) es ≡ true = sym (ap (λ b. b && bytes_eq e.1 value || list_any (is_pair name value) es) g) ∙ has in
-          ap (λ b. cond b (Some e.1) (find name_order name es)) h ∙ pair_found es name value (rest_sorted e es sorted) later
-    ] refl tied
+pub filter_both : {X : Type 0} (f g : X → Bool) (xs : List X) → filter g (filter f xs) ≡ filter (λ p. f p && g p) xs
+filter_both f g [] = refl
+filter_both f g (x ∷ xs) =
+    elim (f x) as (λ b. filter g (cond b (x ∷ filter f xs) (filter f xs)) ≡ cond (b && g x) (x ∷ filter (λ p. f p && g p) xs) (filter (λ p. f p && g p) xs)) [
+      | true ↦ ap (λ ys. cond (g x) (x ∷ ys) ys) (filter_both f g xs)
+      | false ↦ filter_both f g xs
+    ]
 
-pub label_found : (m : LabelMap) (name value : List ℕ) → has_label name value m ≡ true → label_value m name ≡ value
-label_found m name value has = ap (λ o. unwrap_or o []) (get-entries m name ∙ pair_found (entries m) name value (entries_sorted m) has)
+weaker : (a b : Bool) → (b ≡ true → a ≡ true) → (a && b) ≡ b
+weaker a true h = and-true a ∙ h refl
+weaker a false h = and_right a false refl
 
-has_match : (m : LabelMap) (x : Match) → asks_for_value x ≡ true → has_label x.name x.value m ≡ true → match_holds m x ≡ true
-has_match m x asks has =
-    ap (agrees x.op) ((bytes_eq-Decides (label_value m x.name) x.value).1 (label_found m x.name x.value has)) ∙ (both_parts _ _ asks).0
+module _ (index : Index) (ms : List Match) (xs : List Listed) (list : List ℕ) (indexed : IsIndexOf index xs) where
+  -- a walk over the list of such a matcher finds all that the selector picks
+  pub walk_finds : Any (Narrows index list) ms → selected ms (filter_map (slice_get xs) list) ≡ selected ms xs
+  walk_finds (k, x, within, is, (asks, named)) =
+      let has : Listed → Bool = λ s. has_label x.name x.value s.labels in
+      let picked : Listed → Bool = λ s. selects ms s.labels in
+      let holds = λ (s : Listed) (all : picked s ≡ true).
+      subst (λ z. match_holds s.labels z ≡ true) is (and_at (list_all (match_holds s.labels)) (match_holds s.labels) refl (λ _ _. refl) ms k x within all) in
+      ap (λ ps. selected ms (filter_map (slice_get xs) ps)) (named ∙ indexed x.name x.value)
+      ∙ ap (selected ms) (places_read x.name x.value xs)
+      ∙ filter_both has picked xs
+      ∙ filter_agree (λ s. has s && picked s) picked (λ s. weaker _ _ (λ all. sym (asks_labelled s.labels x asks) ∙ holds s all)) xs
 
--- where there is no other matcher, all streams in the list are picked
-pub one_picks : (index : Index) (ms : List Match) (xs : List Listed) (list : List ℕ) → ((name value : List ℕ) → list_at index name value ≡ places_of name value xs) → Any (Narrows index list) ms → length ms ≡ 1
-    → selected ms (filter_map (slice_get xs) list) ≡ filter_map (slice_get xs) list
-one_picks index [] xs list indexed named one = absurd (no_element named) where
-  no_element : Any (Narrows index list) [] → ⊥
-  no_element (k, x, within, is, h) = omega (arith, within)
-one_picks index (x ∷ y ∷ ms) xs list indexed named one = absurd (omega (arith, one))
-one_picks index (x ∷ []) xs list indexed (k, y, within, is, (asks, named)) one =
-    let same : y ≡ x = first_only k within is in
-    let name = y.name in
-    let value = y.value in
-    let read : filter_map (slice_get xs) list ≡ filter (λ s. has_label name value s.labels) xs = ap (filter_map (slice_get xs)) (named ∙ indexed name value) ∙ places_read name value xs in
-    ap (selected (x ∷ [])) read
-    ∙ filter_kept (λ s. selects (x ∷ []) s.labels) (λ s. has_label name value s.labels) xs
-    (λ s h. both _ true (subst (λ z. match_holds s.labels z ≡ true) same (has_match s.labels y asks h)) refl)
-    ∙ sym read where
-      first_only : (k : ℕ) → k < length (x ∷ []) → get_or (x ∷ []) k y ≡ y → y ≡ x
-      first_only zero within is = sym is
-      first_only (suc k) within is = absurd (omega (arith, within))
+  -- where there is no other matcher, all streams in the list are picked
+  pub one_finds : length ms ≡ 1 → Any (Narrows index list) ms → filter_map (slice_get xs) list ≡ selected ms xs
+  one_finds one (k, x, within, is, (asks, named)) =
+      ap (filter_map (slice_get xs)) (named ∙ indexed x.name x.value)
+      ∙ places_read x.name x.value xs
+      ∙ filter_agree (λ s. has_label x.name x.value s.labels) (λ s. selects (x ∷ []) s.labels) (λ s. sym (and-true (match_holds s.labels x) ∙ asks_labelled s.labels x asks)) xs
+      ∙ ap (λ all. selected all xs) (alone ms k one within is) where
+        alone : (all : List Match) (k : ℕ) → length all ≡ 1 → k < length all → get_or all k x ≡ x → x ∷ [] ≡ all
+        alone [] k one within is = absurd (omega arith)
+        alone (y ∷ []) zero one within is = ap (λ z. z ∷ []) (sym is)
+        alone (y ∷ []) (suc k) one within is = absurd (omega arith)
+        alone (y ∷ z ∷ all) k one within is = absurd (omega arith)
 
--- each place in such a list is that of a stream
-pub walk_within : (index : Index) (ms : List Match) (xs : List Listed) (list : List ℕ) → ((name value : List ℕ) → list_at index name value ≡ places_of name value xs) → Any (Narrows index list) ms → All (λ p. p < length xs) list
-walk_within index ms xs list indexed (k, x, within, is, (asks, named)) =
-    let e : list ≡ places_of x.name x.value xs = named ∙ indexed x.name x.value in
-    subst (All (λ p. p < length xs)) (sym e) (places_within x.name x.value xs)
+  -- each place in such a list is that of a stream, and they rise
+  pub walk_within : Any (Narrows index list) ms → All (λ p. p < length xs) list
+  walk_within (k, x, within, is, (asks, named)) = subst (All (λ p. p < length xs)) (sym (named ∙ indexed x.name x.value)) (places_within x.name x.value xs)
 
--- what follows from what a clause says of the value in an `Ok`
-pub ok_then : {X E : Type 0} (r : Result X E) (P Q : X → Type 0) → ((x : X) → P x → Q x) → IfOk r P → IfOk r Q
-ok_then (Ok x) P Q f h = f x h
-ok_then (Err e) P Q f h = tt
+  pub walk_rises : Any (Narrows index list) ms → IsStrictlyIncreasing list
+  walk_rises (k, x, within, is, (asks, named)) = subst IsStrictlyIncreasing (sym (named ∙ indexed x.name x.value)) (places_rise x.name x.value xs)

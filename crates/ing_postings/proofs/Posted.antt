@@ -7,6 +7,7 @@ use Rattle.std.specs.List.{list_any}
 use Rattle.std.specs.Str.{bytes_eq}
 use Rattle.std.specs.FinMap.{entries, entries_sorted}
 use Rattle.std.specs.FinMap.Entries.{is_sorted, below_all}
+use Rattle.std.proofs.lemmas.Bool.{and_parts, both_ways, false_from_ne_true, or_right}
 use Rattle.std.proofs.lemmas.Cmp.{nat_list_eq_equiv}
 use Rattle.std.proofs.lemmas.Map.Text.{is_eq-slice_cmp}
 use Rattle.std.proofs.lemmas.Slice.Eq.{bytes_eq-Decides}
@@ -60,30 +61,16 @@ grown xs ys rs place true later once grew total =
 grown xs ys rs place false later once grew total =
     ap (λ zs. zs ++ cond later (place ∷ []) []) (grew ∙ append-nil xs) ∙ total
 
-later_only : (here later : Bool) → (here ≡ true → later ≡ false) → IsTrue later → here ≡ false
-later_only false later once h = refl
-later_only true later once h = sym h ∙ once refl
-
-or_later : (here later : Bool) → IsTrue later → IsTrue (here || later)
-or_later true later h = refl
-or_later false later h = h
-
-both_parts : (a b : Bool) → (a && b) ≡ true → (a ≡ true) × (b ≡ true)
-both_parts true b e = (refl, e)
-both_parts false b e = absurd (cc)
-
 -- of names in order, no later one is that of a pair
-pub once : (name value n v : List ℕ) (left : List Pair) → T (is_sorted name_order ((name, value) ∷ left)) → is_pair n v (name, value) ≡ true → list_any (is_pair n v) left ≡ false
-once name value n v left sorted h =
-    let named : name ≡ n = (bytes_eq-Decides name n).0 (both_parts _ _ h).0 in
-    subst (λ q. list_any (is_pair q v) left ≡ false) named (named_once name v left (first _ _ sorted))
+pub once : (e : Pair) (n v : List ℕ) (left : List Pair) → T (is_sorted name_order (e ∷ left)) → bytes_eq e.0 n ≡ true → list_any (is_pair n v) left ≡ false
+once e n v left sorted h = subst (λ q. list_any (is_pair q v) left ≡ false) ((bytes_eq-Decides e.0 n).0 h) (named_once e.0 v left (first _ _ sorted))
 
 pub posts_more : (all left : List Pair) (name value : List ℕ) (place : ℕ) (start old new : Index) → Posts all ((name, value) ∷ left) place start old → ((n v : List ℕ) → list_at new n v ≡ list_at old n v ++ cond (is_pair n v (name, value)) (place ∷ []) []) → ((n v : List ℕ) → is_pair n v (name, value) ≡ false → IsTrue (has_room old n v) → IsTrue (has_room new n v)) → Posts all left place start new
 posts_more all left name value place start old new before posted kept =
-    let alone : (n v : List ℕ) → is_pair n v (name, value) ≡ true → list_any (is_pair n v) left ≡ false = λ n v. once name value n v left before.sorted in
+    let alone : (n v : List ℕ) → is_pair n v (name, value) ≡ true → list_any (is_pair n v) left ≡ false = λ n v h. once (name, value) n v left before.sorted (and_parts _ _ h).0 in
     record {
       posted = λ n v. grown _ _ _ place _ _ (alone n v) (posted n v) (before.posted n v);
-      rooms = λ n v h. kept n v (later_only _ _ (alone n v) h) (before.rooms n v (or_later _ _ h));
+      rooms = λ n v h. kept n v (false_from_ne_true _ (λ e. both_ways _ (alone n v e) h)) (before.rooms n v (or_right _ _ h));
       sorted = second _ _ before.sorted;
     }
 

@@ -5,6 +5,7 @@ use Rattle.std.specs.List.{list_any}
 use Rattle.std.specs.Str.{bytes_eq}
 use Rattle.std.specs.FinMap.{entries, entries_sorted}
 use Rattle.std.specs.FinMap.Entries.{is_sorted}
+use Rattle.std.proofs.lemmas.Bool.{and_parts}
 use Rattle.std.proofs.lemmas.List.{map-append}
 use Rattle.std.proofs.lemmas.List.Elements.{filter-append}
 use Rattle.ing_labels.specs.Labels.{Pair, name_order}
@@ -21,7 +22,7 @@ one_of name value number [] sorted = refl
 one_of name value number (e ∷ es) sorted =
     let later = one_of name value number es (rest_sorted e es sorted) in
     elim (is_pair name value e) as (λ b. is_pair name value e ≡ b → map (λ p. p.number) (cond b (record { name = e.0; value = e.1; number = number } ∷ filter (λ p. bytes_eq p.name name && bytes_eq p.value value) (postings_from number es)) (filter (λ p. bytes_eq p.name name && bytes_eq p.value value) (postings_from number es))) ≡ cond (b || list_any (is_pair name value) es) (number ∷ []) []) [
-      | true ↦ λ h. ap (λ ns. number ∷ ns) (later ∙ ap (λ b. cond b (number ∷ []) []) (once e.0 e.1 name value es sorted h))
+      | true ↦ λ h. ap (λ ns. number ∷ ns) (later ∙ ap (λ b. cond b (number ∷ []) []) (once e name value es sorted (and_parts _ _ h).0))
       | false ↦ λ h. later
     ] refl
 

@@ -1,19 +1,20 @@
 -- What is kept of sealed chunks goes on where one of them changes.
-use Rattle.std.proofs.Common.{◌≡◌, ℕ, zero, suc, ◌+◌, ◌<◌, ◌≤◌, Bool, true, false, cond, not, Some, List, [], ◌∷◌, ◌++◌, map, filter, length, get_or, set, take, nat_eq, refl, sym, ap, subst, ◌∙◌, arith, length-append}
+use Rattle.std.proofs.Common.{◌≡◌, ℕ, zero, suc, ◌+◌, ◌<◌, ◌≤◌, Bool, true, false, cond, not, Some, List, [], ◌∷◌, ◌++◌, map, filter, length, get_or, set, take, refl, sym, ap, subst, ◌∙◌, arith, length-append}
 use Rattle.std.specs.Prelude.{All, slice_get}
-use Rattle.std.proofs.lemmas.Bool.Decides.{nat_tests}
-use Rattle.std.proofs.lemmas.List.{set-set, map-set, take_all, take-take, take-append-le, length-map, get_or-map}
-use Rattle.std.proofs.lemmas.List.Elements.{All-append, All-cons, All-head, All-more, All-nil, All-tail, All-take, All-set}
+use Rattle.std.proofs.lemmas.Bool.{eqb-true}
+use Rattle.std.proofs.lemmas.List.{set-set, map-set, take-take, take-append-le, length-map, get_or-map}
+use Rattle.std.proofs.lemmas.List.Elements.{All-cons, All-head, All-more, All-nil, All-push, All-tail, All-take, All-set}
 use Rattle.std.proofs.lemmas.List.Filters.{length-filter_both}
-use Rattle.std.proofs.Math.Seq.{map-set_same}
+use Rattle.std.proofs.lemmas.Option.{slice_get-get_or, slice_get_within, get_or_from_slice_get}
+use Rattle.std.proofs.Math.Seq.{map-set_same, take-append-add}
 use Rattle.ing_rows.specs.declared.place.Place.TheVariants.{Block, Flight}
 use Rattle.ing_rows.specs.Rows.{is_block, is_flight, is_stored}
 use Rattle.ing_chunk.specs.Chunks.{ChunkContents}
 use Rattle.ing_sealed.specs.declared.held.Held.{Held}
 use Rattle.ing_sealed.specs.declared.sealed_chunks.SealedChunks.TheInside.{Inside}
-use Rattle.ing_sealed.specs.Slots.{Slot, slot_at, stored_at, IsSlot, NoneInFlight, AreSlots}
+use Rattle.ing_sealed.specs.Slots.{Slot, slot_at, put_at, stored_at, IsSlot, NoneInFlight, AreSlots, Changes}
 use Rattle.ing_sealed.specs.KeptSlots.{slot_of, HoldsWhole, AreKept}
-use Rattle.ing_sealed.proofs.PutLaws.{Split, all_there, all_before, all_behind, count_around, slots_put}
+use Rattle.ing_sealed.proofs.PutLaws.{split, all_there, all_before, all_behind, count_around, slots_put}
 
 -- the same chunks at the same places
 pub kept_again : {R : Type 0} (c d : Inside R) → map slot_of d.slots.items ≡ map slot_of c.slots.items → d.oldest ≡ c.oldest → d.waiting ≡ c.waiting → d.unstored ≡ c.unstored
@@ -37,14 +38,14 @@ put_back_whole items i other now whole h = subst (All HoldsWhole) (sym (set-set 
 
 -- one that is read
 pub read_slot : {R : Type 0} (items : List (Held R)) (i : ℕ) (d : Held R) → i < length (map slot_of items) → slice_get (map slot_of items) i ≡ Some (slot_of (get_or items i d))
-read_slot [] i d h = absurd (omega arith)
-read_slot (x ∷ items) zero d h = refl
-read_slot (x ∷ items) (suc i) d h = read_slot items i d (omega arith)
+read_slot items i d low =
+    slice_get-get_or (map slot_of items) i (slot_of d) low ∙ ap Some (get_or-map slot_of items i d (slot_of d) (omega (arith, low, length-map items slot_of)))
 
-pub read_whole : {R : Type 0} (items : List (Held R)) (i : ℕ) (d : Held R) → i < length (map slot_of items) → All HoldsWhole items → HoldsWhole (get_or items i d)
-read_whole [] i d h all = absurd (omega arith)
-read_whole (x ∷ items) zero d h all = All-head HoldsWhole x items all
-read_whole (x ∷ items) (suc i) d h all = read_whole items i d (omega arith) (All-tail HoldsWhole x items all)
+pub in_list : {R : Type 0} (items : List (Held R)) (i : ℕ) (x : Slot) → slice_get (map slot_of items) i ≡ Some x → i < length items
+in_list items i x here = omega (arith, slice_get_within (map slot_of items) i x here, length-map items slot_of)
+
+pub found : {R : Type 0} (items : List (Held R)) (i : ℕ) (d : Held R) (x : Slot) → slice_get (map slot_of items) i ≡ Some x → slot_of (get_or items i d) ≡ x
+found items i d x here = sym (get_or-map slot_of items i d (slot_of d) (in_list items i x here)) ∙ get_or_from_slice_get (map slot_of items) i x (slot_of d) here
 
 -- one more that does not wait
 pub one_more : {R : Type 0} (items : List (Held R)) (i : ℕ) (d : Held R) → i < length items → is_block (slot_of (get_or items i d)).place ≡ false
@@ -53,9 +54,6 @@ one_more items i d low away h =
     let long = length-map items slot_of in
     All-more (λ (x : Slot). is_block x.place ≡ false) (map slot_of items) i (slot_of d) (omega (arith, low, long)) h
     (subst (λ (x : Slot). is_block x.place ≡ false) (sym (get_or-map slot_of items i d (slot_of d) low)) away)
-
-pub all_taken : (P : Slot → Type 0) (xs : List Slot) (n : ℕ) → length xs ≤ n → All P (take n xs) → All P xs
-all_taken P xs n long h = subst (All P) (take_all n xs long) h
 
 -- the first that waits
 pub first_there : (i : ℕ) (x : Slot) (xs ys : List Slot) → xs ≡ ys → i < length xs → All (λ y. is_block y.place ≡ false) (take i xs) → slice_get xs i ≡ Some x → is_block x.place ≡ true
@@ -68,72 +66,76 @@ first_there i x xs ys same low older read waits = (
 
 -- ---- one of them changes
 
-pub written : {R : Type 0} (items : List (Held R)) (old : List Slot) (i : ℕ) (x : Slot) (cut : Split old i x) (h : Held R) (y : Slot) → map slot_of items ≡ old → slot_of h ≡ y
-    → map slot_of (set items i h) ≡ cut.front ++ y ∷ cut.back
-written items old i x cut h y seen is = map-set slot_of items i h ∙ (λ j. set (seen j) i (is j)) ∙ cut.put y
+abbrev pub changed : {R : Type 0} (items : List (Held R)) (old : List Slot) (i : ℕ) (x : Slot) (f : Slot → Slot) (h : Held R) → map slot_of items ≡ old → slice_get old i ≡ Some x → slot_of h ≡ f x
+    → Changes f i x old (map slot_of (set items i h))
+changed items old i x f h seen here is =
+    let cut = split old i x here in
+    record { front = cut.front; back = cut.back; was = cut.is; is = map-set slot_of items i h ∙ (λ j. set (seen j) i (is j)) ∙ cut.put (f x); at = cut.at }
 
-same_flight : (g f : ℕ) → nat_eq g f ≡ true → f ≡ g
-same_flight g f h = grind (arith, nat_tests)
+-- one passes
+pub some_passes : (p : Slot → Bool) (xs : List Slot) (i : ℕ) (x : Slot) → slice_get xs i ≡ Some x → p x ≡ true → 1 ≤ length (filter p xs)
+some_passes p xs i x here passes =
+    let cut = split xs i x here in
+    let count = ap (λ l. length (filter p l)) cut.is ∙ count_around p cut.front x cut.back ∙ ap (λ b. length (filter p cut.front) + (cond b 1 0 + length (filter p cut.back))) passes in
+    omega (arith, count)
 
-take_seam : (front : List Slot) (y : Slot) (back : List Slot) (n : ℕ) → n ≡ length front + 1 → take n (front ++ y ∷ back) ≡ front ++ y ∷ []
-take_seam [] y back n h = ap (λ k. take k (y ∷ back)) h
-take_seam (z ∷ front) y back n h =
-    let more : n ≡ suc (length front + 1) = omega (arith, h) in
-    ap (λ k. take k (z ∷ front ++ y ∷ back)) more ∙ ap (λ l. z ∷ l) (take_seam front y back (length front + 1) refl)
+-- where one does not wait, fewer wait than there are
+pub few_wait : {R : Type 0} (c : Inside R) (i : ℕ) (x : Slot) → slice_get (map slot_of c.slots.items) i ≡ Some x → is_block x.place ≡ false → AreKept c → c.waiting < length c.slots.items
+few_wait c i x here away kept =
+    let others = some_passes (λ (y : Slot). not (is_block y.place)) (map slot_of c.slots.items) i x here (ap not away) in
+    let both = length-filter_both (λ (y : Slot). is_block y.place) (λ (y : Slot). not (is_block y.place)) (λ y. refl) (map slot_of c.slots.items) in
+    let long = length-map c.slots.items slot_of in
+    let waiting = kept.waiting in
+    omega (arith, others, both, long, waiting)
 
--- how many pass, and how many there are
-module _ {old : List Slot} {i : ℕ} {x : Slot} (cut : Split old i x) (y : Slot) (new : List Slot) (is : new ≡ cut.front ++ y ∷ cut.back) where
-  passing : (p : Slot → Bool) → length (filter p new) + cond (p x) 1 0 ≡ length (filter p old) + cond (p y) 1 0
+abbrev Elsewhere : Slot → Type 0
+Elsewhere x = is_block x.place ≡ false
+
+-- what is kept after one changes
+module _ {R : Type 0} (c d : Inside R) (i : ℕ) (x : Slot) (f : Slot → Slot) (h : Changes f i x (map slot_of c.slots.items) (map slot_of d.slots.items)) (kept : AreKept c) where
+  passing : (p : Slot → Bool) → length (filter p (map slot_of d.slots.items)) + cond (p x) 1 0 ≡ length (filter p (map slot_of c.slots.items)) + cond (p (f x)) 1 0
   passing p =
-      let before = ap (λ l. length (filter p l)) cut.is ∙ count_around p cut.front x cut.back in
-      let after = ap (λ l. length (filter p l)) is ∙ count_around p cut.front y cut.back in
+      let before = ap (λ l. length (filter p l)) h.was ∙ count_around p h.front x h.back in
+      let after = ap (λ l. length (filter p l)) h.is ∙ count_around p h.front (f x) h.back in
       omega (arith, before, after)
 
-  as_long : (length new ≡ length old) × (i < length new)
+  as_long : (length (map slot_of d.slots.items) ≡ length (map slot_of c.slots.items)) × (i < length (map slot_of d.slots.items))
   as_long =
-      let before = ap length cut.is ∙ length-append cut.front (x ∷ cut.back) in
-      let after = ap length is ∙ length-append cut.front (y ∷ cut.back) in
-      let at = cut.at in
+      let before = ap length h.was ∙ length-append h.front (x ∷ h.back) in
+      let after = ap length h.is ∙ length-append h.front (f x ∷ h.back) in
+      let at = h.at in
       (omega (arith, before, after), omega (arith, after))
 
--- the oldest that waits is put in flight
-module _ {R : Type 0} (c d : Inside R) (f i : ℕ) (chunk : ChunkContents) (cut : Split (map slot_of c.slots.items) i (slot_at Block chunk)) (kept : AreKept c) where
-  abbrev was : List Slot
-  was = cut.front ++ slot_at Block chunk ∷ cut.back
+  slots_before : AreSlots (h.front ++ x ∷ h.back)
+  slots_before = subst AreSlots h.was kept.slots
 
-  slots_before : AreSlots was
-  slots_before = subst AreSlots cut.is kept.slots
+  slot_before : IsSlot x
+  slot_before = all_there IsSlot h.front x h.back slots_before.each
 
-  pub claimed_kept : map slot_of d.slots.items ≡ cut.front ++ slot_at (Flight f) chunk ∷ cut.back → All HoldsWhole d.slots.items → All (λ x. is_block x.place ≡ false) cut.front
-      → NoneInFlight f (map slot_of c.slots.items) → d.oldest ≡ i + 1 → d.waiting + 1 ≡ c.waiting → d.unstored ≡ c.unstored → AreKept d
-  claimed_kept is whole older free oldest waiting unstored =
-      let x : Slot = slot_at Block chunk in
-      let y : Slot = slot_at (Flight f) chunk in
-      let slot = all_there IsSlot cut.front x cut.back slots_before.each in
-      let unused = subst (NoneInFlight f) cut.is free in
-      let long : length cut.front ≡ i = cut.at in
-      let count = passing cut y (map slot_of d.slots.items) is in
-      let all = as_long cut y (map slot_of d.slots.items) is in
+  older_before : All Elsewhere (take c.oldest (h.front ++ x ∷ h.back))
+  older_before = subst (λ l. All Elsewhere (take c.oldest l)) h.was kept.older
+
+  kept_after : (f x).first ≡ x.first → IsSlot (f x) → ((g : ℕ) → is_flight g (f x).place ≡ true → NoneInFlight g (h.front ++ x ∷ h.back)) → All HoldsWhole d.slots.items
+      → All Elsewhere (take d.oldest (h.front ++ f x ∷ h.back)) → d.oldest ≤ length (map slot_of d.slots.items)
+      → d.waiting + cond (is_block x.place) 1 0 ≡ c.waiting + cond (is_block (f x).place) 1 0
+      → d.unstored + cond (not (is_stored x.place)) 1 0 ≡ c.unstored + cond (not (is_stored (f x).place)) 1 0 → AreKept d
+  kept_after same slot free whole older within waiting unstored =
+      let waits = passing (λ z. is_block z.place) in
+      let stays = passing (λ z. not (is_stored z.place)) in
+      let before = kept.waiting in
+      let left = kept.unstored in
       record {
         slots =
-            subst AreSlots (sym is)
-            (slots_put x y cut.front cut.back refl (record { some = slot.some; sealed = λ _. slot.sealed refl; closed = refl })
-            (λ g flies. subst (λ k. NoneInFlight k cut.front) (same_flight g f flies) (all_before (λ (z : Slot). is_flight f z.place ≡ false) cut.front x cut.back unused))
-            (λ g flies. subst (λ k. NoneInFlight k cut.back) (same_flight g f flies) (all_behind (λ (z : Slot). is_flight f z.place ≡ false) cut.front x cut.back unused)) slots_before);
+            subst AreSlots (sym h.is)
+            (slots_put x (f x) h.front h.back same slot
+            (λ g flies. all_before (λ (z : Slot). is_flight g z.place ≡ false) h.front x h.back (free g flies))
+            (λ g flies. all_behind (λ (z : Slot). is_flight g z.place ≡ false) h.front x h.back (free g flies)) slots_before);
         whole = whole;
-        older =
-            subst (All (λ (z : Slot). is_block z.place ≡ false)) (sym ((λ j. take (oldest j) (is j)) ∙ take_seam cut.front y cut.back (i + 1) (omega (arith, long))))
-            (All-append (λ (z : Slot). is_block z.place ≡ false) cut.front (y ∷ []) older (All-cons (λ (z : Slot). is_block z.place ≡ false) y [] refl (All-nil (λ (z : Slot). is_block z.place ≡ false))));
-        within = omega (arith, oldest, all.1);
-        waiting = omega (arith, waiting, kept.waiting, count (λ z. is_block z.place));
-        unstored = omega (arith, unstored, kept.unstored, count (λ z. not (is_stored z.place)));
+        older = subst (λ l. All Elsewhere (take d.oldest l)) (sym h.is) older;
+        within = within;
+        waiting = omega (arith, waiting, before, waits);
+        unstored = omega (arith, unstored, left, stays);
       }
-
-  -- one waits
-  pub some_waits : 1 ≤ c.waiting
-  some_waits =
-      let count = kept.waiting ∙ ap (λ l. length (filter (λ (z : Slot). is_block z.place) l)) cut.is ∙ count_around (λ z. is_block z.place) cut.front (slot_at Block chunk) cut.back in
-      omega (arith, count)
 
 pub filter_short : (p : Slot → Bool) (xs : List Slot) → length (filter p xs) ≤ length xs
 filter_short p xs = let both = length-filter_both p (λ x. not (p x)) (λ x. refl) xs in omega (arith, both)
@@ -151,85 +153,40 @@ module _ (P : Slot → Type 0) where
   all_but (suc n) [] x y back p h = All-cons P y (take n back) p (All-tail P x (take n back) h)
   all_but (suc n) (z ∷ front) x y back p h = All-cons P z (take n (front ++ y ∷ back)) (All-head P z (take n (front ++ x ∷ back)) h) (all_but n front x y back p (All-tail P z (take n (front ++ x ∷ back)) h))
 
--- one in flight is put in blocks again, or stored
-module _ {R : Type 0} (c d : Inside R) (f i : ℕ) (chunk : ChunkContents) (cut : Split (map slot_of c.slots.items) i (slot_at (Flight f) chunk)) (kept : AreKept c) where
-  abbrev flown : Slot
-  flown = slot_at (Flight f) chunk
+-- a chunk in blocks is put in flight, or one in flight in blocks again, or it is stored
+module _ {R : Type 0} (c d : Inside R) (f i : ℕ) (chunk : ChunkContents) (kept : AreKept c) (whole : All HoldsWhole d.slots.items) where
+  pub claimed_kept : (h : Changes (put_at (Flight f)) i (slot_at Block chunk) (map slot_of c.slots.items) (map slot_of d.slots.items)) → All Elsewhere h.front
+      → NoneInFlight f (map slot_of c.slots.items) → d.oldest ≡ i + 1 → d.waiting + 1 ≡ c.waiting → d.unstored ≡ c.unstored → AreKept d
+  claimed_kept h older free oldest waiting unstored =
+      let x : Slot = slot_at Block chunk in
+      let slot = slot_before c d i x (put_at (Flight f)) h kept in
+      let all = as_long c d i x (put_at (Flight f)) h kept in
+      let at = h.at in
+      let front : take d.oldest (h.front ++ slot_at (Flight f) chunk ∷ h.back) ≡ h.front ++ slot_at (Flight f) chunk ∷ [] =
+      ap (λ n. take n (h.front ++ slot_at (Flight f) chunk ∷ h.back)) (oldest ∙ ap (λ n. n + 1) (sym at)) ∙ take-append-add h.front (slot_at (Flight f) chunk ∷ h.back) 1 in
+      kept_after c d i x (put_at (Flight f)) h kept refl (record { some = slot.some; sealed = λ _. slot.sealed refl; closed = refl })
+      (λ g flies. subst (λ k. NoneInFlight k (h.front ++ x ∷ h.back)) (sym (eqb-true g f flies)) (subst (NoneInFlight f) h.was free)) whole
+      (subst (All Elsewhere) (sym front) (All-push Elsewhere h.front (slot_at (Flight f) chunk) older refl))
+      (omega (arith, oldest, all.1)) (omega (arith, waiting)) (omega (arith, unstored))
 
-  abbrev Elsewhere : Slot → Type 0
-  Elsewhere x = is_block x.place ≡ false
-
-  flown_slots : AreSlots (cut.front ++ flown ∷ cut.back)
-  flown_slots = subst AreSlots cut.is kept.slots
-
-  flown_slot : IsSlot flown
-  flown_slot = all_there IsSlot cut.front flown cut.back flown_slots.each
-
-  flown_older : All Elsewhere (take c.oldest (cut.front ++ flown ∷ cut.back))
-  flown_older = subst (λ l. All Elsewhere (take c.oldest l)) cut.is kept.older
-
-  pub within_list : i < length c.slots.items
-  within_list = let long = length-map c.slots.items slot_of in let all = as_long cut flown (map slot_of c.slots.items) cut.is in omega (arith, long, all.1)
-
-  pub back_kept : map slot_of d.slots.items ≡ cut.front ++ slot_at Block chunk ∷ cut.back → All HoldsWhole d.slots.items → d.oldest ≤ c.oldest → d.oldest ≤ i
+  pub back_kept : Changes (put_at Block) i (slot_at (Flight f) chunk) (map slot_of c.slots.items) (map slot_of d.slots.items) → d.oldest ≤ c.oldest → d.oldest ≤ i
       → d.waiting ≡ c.waiting + 1 → d.unstored ≡ c.unstored → AreKept d
-  back_kept is whole below here waiting unstored =
-      let y : Slot = slot_at Block chunk in
-      let at = cut.at in
-      let slot = flown_slot in
-      let count = passing cut y (map slot_of d.slots.items) is in
-      let all = as_long cut y (map slot_of d.slots.items) is in
-      record {
-        slots =
-            subst AreSlots (sym is)
-            (slots_put flown y cut.front cut.back refl (record { some = slot.some; sealed = λ _. slot.sealed refl; closed = refl }) (λ g flies. absurd (cc)) (λ g flies. absurd (cc)) flown_slots);
-        whole = whole;
-        older =
-            subst (λ l. All Elsewhere (take d.oldest l)) (sym is)
-            (all_prefix Elsewhere d.oldest cut.front (flown ∷ cut.back) (y ∷ cut.back) (omega (arith, at, here)) (all_fewer Elsewhere d.oldest c.oldest (cut.front ++ flown ∷ cut.back) below flown_older));
-        within = omega (arith, all.1, here);
-        waiting = omega (arith, waiting, kept.waiting, count (λ z. is_block z.place));
-        unstored = omega (arith, unstored, kept.unstored, count (λ z. not (is_stored z.place)));
-      }
+  back_kept h below here waiting unstored =
+      let x : Slot = slot_at (Flight f) chunk in
+      let slot = slot_before c d i x (put_at Block) h kept in
+      let all = as_long c d i x (put_at Block) h kept in
+      let at = h.at in
+      kept_after c d i x (put_at Block) h kept refl (record { some = slot.some; sealed = λ _. slot.sealed refl; closed = refl }) (λ g flies. absurd (cc)) whole
+      (all_prefix Elsewhere d.oldest h.front (x ∷ h.back) (slot_at Block chunk ∷ h.back) (omega (arith, at, here)) (all_fewer Elsewhere d.oldest c.oldest (h.front ++ x ∷ h.back) below (older_before c d i x (put_at Block) h kept)))
+      (omega (arith, all.1, here)) (omega (arith, waiting)) (omega (arith, unstored))
 
-  pub stored_kept : (key : List ℕ) → map slot_of d.slots.items ≡ cut.front ++ stored_at key flown ∷ cut.back → All HoldsWhole d.slots.items → d.oldest ≡ c.oldest
+  pub stored_kept : (key : List ℕ) → Changes (stored_at key) i (slot_at (Flight f) chunk) (map slot_of c.slots.items) (map slot_of d.slots.items) → d.oldest ≡ c.oldest
       → d.waiting ≡ c.waiting → d.unstored + 1 ≡ c.unstored → AreKept d
-  stored_kept key is whole oldest waiting unstored =
-      let y : Slot = stored_at key flown in
-      let slot = flown_slot in
-      let count = passing cut y (map slot_of d.slots.items) is in
-      let all = as_long cut y (map slot_of d.slots.items) is in
+  stored_kept key h oldest waiting unstored =
+      let x : Slot = slot_at (Flight f) chunk in
+      let slot = slot_before c d i x (stored_at key) h kept in
+      let all = as_long c d i x (stored_at key) h kept in
       let low = kept.within in
-      record {
-        slots =
-            subst AreSlots (sym is)
-            (slots_put flown y cut.front cut.back refl (record { some = slot.some; sealed = λ k. absurd (cc); closed = refl }) (λ g flies. absurd (cc)) (λ g flies. absurd (cc)) flown_slots);
-        whole = whole;
-        older = subst (λ l. All Elsewhere (take d.oldest l)) (sym is) (subst (λ n. All Elsewhere (take n (cut.front ++ y ∷ cut.back))) (sym oldest) (all_but Elsewhere c.oldest cut.front flown y cut.back refl flown_older));
-        within = omega (arith, oldest, low, all.0);
-        waiting = omega (arith, waiting, kept.waiting, count (λ z. is_block z.place));
-        unstored = omega (arith, unstored, kept.unstored, count (λ z. not (is_stored z.place)));
-      }
-
-  -- one is not stored, and fewer wait than there are
-  pub some_unstored : 1 ≤ c.unstored
-  some_unstored =
-      let count = kept.unstored ∙ ap (λ l. length (filter (λ (z : Slot). not (is_stored z.place)) l)) cut.is ∙ count_around (λ z. not (is_stored z.place)) cut.front flown cut.back in
-      omega (arith, count)
-
-  pub few_wait : c.waiting < length c.slots.items
-  few_wait =
-      let long = length-map c.slots.items slot_of in
-      let parts = ap length cut.is ∙ length-append cut.front (flown ∷ cut.back) in
-      let count = kept.waiting ∙ ap (λ l. length (filter (λ (z : Slot). is_block z.place) l)) cut.is ∙ count_around (λ z. is_block z.place) cut.front flown cut.back in
-      let front = filter_short (λ (z : Slot). is_block z.place) cut.front in
-      let back = filter_short (λ (z : Slot). is_block z.place) cut.back in
-      omega (arith, long, parts, count, front, back)
-
--- the chunk in flight that was taken out
-pub landing : {R : Type 0} (items : List (Held R)) (i : ℕ) (d : Held R) (chunk : ChunkContents) (f : ℕ) (held : Held R) → held ≡ get_or items i d → i < length (map slot_of items)
-    → slice_get (map slot_of items) i ≡ Some (slot_at (Flight f) chunk) → slot_of held ≡ slot_at (Flight f) chunk
-landing items i d chunk f held is low here =
-    let read = sym (read_slot items i d low) ∙ here in
-    let there : slot_of (get_or items i d) ≡ slot_at (Flight f) chunk = cc in
-    ap slot_of is ∙ there
+      kept_after c d i x (stored_at key) h kept refl (record { some = slot.some; sealed = λ k. absurd (cc); closed = refl }) (λ g flies. absurd (cc)) whole
+      (subst (λ n. All Elsewhere (take n (h.front ++ stored_at key x ∷ h.back))) (sym oldest) (all_but Elsewhere c.oldest h.front x (stored_at key x) h.back refl (older_before c d i x (stored_at key) h kept)))
+      (omega (arith, oldest, low, all.0)) (omega (arith, waiting)) (omega (arith, unstored))

@@ -1,6 +1,5 @@
 mod ExtentLaws
 mod FoundLaws
-mod FlightLaws
 mod JoinLaws
 mod KeptLaws
 pub mod PutLaws

@@ -1,6 +1,7 @@
 -- One of several sealed chunks is replaced by itself at another place.
 use Rattle.std.proofs.Common.{◌≡◌, ℕ, zero, suc, ◌+◌, ◌<◌, Bool, true, false, cond, List, [], ◌∷◌, ◌++◌, length, filter, set, take, Some, refl, sym, ap, subst, ◌∙◌, arith, length-append}
 use Rattle.std.specs.Prelude.{All, slice_get}
+use Rattle.std.proofs.lemmas.Bool.{both_ways, false_from_ne_true}
 use Rattle.std.proofs.lemmas.List.Elements.{All-nil, All-cons, All-head, All-tail, filter-append}
 use Rattle.ing_rows.specs.Rows.{is_flight}
 use Rattle.ing_sealed.specs.Slots.{Slot, IsSlot, AreRising, NoneInFlight, FlyApart, AreSlots}
@@ -71,11 +72,12 @@ rising_put (z ∷ front) x y back same h = (
 module _ (x y : Slot) where
   apart_put : (front back : List Slot) → ((g : ℕ) → is_flight g y.place ≡ true → NoneInFlight g front) → ((g : ℕ) → is_flight g y.place ≡ true → NoneInFlight g back) → FlyApart (front ++ x ∷ back) → FlyApart (front ++ y ∷ back)
   apart_put [] back before behind h = (behind, h.1)
-  apart_put (z ∷ front) back before behind h =
-      (λ g flies. all_put (λ (w : Slot). is_flight g w.place ≡ false) front x y back (h.0 g flies) (by_cases g flies (is_flight g y.place) refl), apart_put front back (λ g flies. All-tail (λ (w : Slot). is_flight g w.place ≡ false) z front (before g flies)) behind h.1) where
-        by_cases : (g : ℕ) → is_flight g z.place ≡ true → (b : Bool) → is_flight g y.place ≡ b → b ≡ false
-        by_cases g flies false is = refl
-        by_cases g flies true is = let other = All-head (λ (w : Slot). is_flight g w.place ≡ false) z front (before g is) in absurd (cc)
+  apart_put (z ∷ front) back before behind h = (
+    λ g flies.
+        let away = false_from_ne_true (is_flight g y.place) (λ is. both_ways _ (All-head (λ (w : Slot). is_flight g w.place ≡ false) z front (before g is)) flies) in
+        all_put (λ (w : Slot). is_flight g w.place ≡ false) front x y back (h.0 g flies) away,
+    apart_put front back (λ g flies. All-tail (λ (w : Slot). is_flight g w.place ≡ false) z front (before g flies)) behind h.1,
+  )
 
   pub slots_put : (front back : List Slot) → y.first ≡ x.first → IsSlot y → ((g : ℕ) → is_flight g y.place ≡ true → NoneInFlight g front) → ((g : ℕ) → is_flight g y.place ≡ true → NoneInFlight g back)
       → AreSlots (front ++ x ∷ back) → AreSlots (front ++ y ∷ back)

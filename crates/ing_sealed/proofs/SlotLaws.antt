@@ -1,7 +1,7 @@
 -- A sealed chunk that changes its place, beside the others of its stream.
 use Rattle.std.proofs.Common.{◌≡◌, ◌≢◌, ℕ, ◌+◌, ◌<◌, Bool, true, false, not, cond, ◌&&◌, List, [], ◌∷◌, ◌++◌, length, map, filter, refl, sym, ap, subst, ◌∙◌, ⊎_elim, arith, nat_eq, is_some, length-append}
 use Rattle.std.specs.Prelude.{All, Any, IsPermutation}
-use Rattle.std.proofs.lemmas.Bool.Decides.{nat_tests}
+use Rattle.std.proofs.lemmas.Bool.{and_right, both_ways, eq-eqb, false_from_ne_true, ne_eqb}
 use Rattle.std.proofs.lemmas.Slice.Eq.{bytes_eq-Decides}
 use Rattle.std.proofs.lemmas.List.{length-map, map-append}
 use Rattle.std.proofs.lemmas.List.Elements.{All-nil, All-cons, All-head, All-tail, All-append, All-contains}
@@ -13,7 +13,7 @@ use Rattle.ing_rows.specs.Steps.{moved, is_mark_of, IsClaimable, Claims, Finishe
 use Rattle.ing_rows.specs.Flushes.{NoneOfChunk, NoneFlies, NoneOlder, NoneMarks, FlushesAreApart}
 use Rattle.ing_chunk.specs.declared.numbered.Numbered.{Numbered}
 use Rattle.ing_chunk.specs.Chunks.{row_in, block_rows, in_blocks}
-use Rattle.ing_sealed.specs.Slots.{Slot, put_at, stored_at, at_place, slot_rows, slot_marks, slot_state, slots_state, count_at, IsSlot, AreRising, NoneInFlight, FlyApart, AreSlots}
+use Rattle.ing_sealed.specs.Slots.{Slot, put_at, stored_at, at_place, slot_rows, slot_marks, slot_state, slots_state, count_at, IsSlot, AreRising, NoneInFlight, FlyApart, AreSlots, Changes}
 use Rattle.ing_sealed.proofs.PutLaws.{all_there}
 
 -- ---- the same stream, the same number
@@ -22,14 +22,7 @@ pub stream_self : (s : StreamKey) → same_stream s s ≡ true
 stream_self s = rw ((bytes_eq-Decides s.tenant s.tenant).1 refl) ((bytes_eq-Decides s.name s.name).1 refl)
 
 number_self : (n : ℕ) → nat_eq n n ≡ true
-number_self n = grind (arith, nat_tests)
-
-pub number_other : (n m : ℕ) → n ≢ m → nat_eq n m ≡ false
-number_other n m h = grind (arith, nat_tests)
-
-and_false : (b : Bool) → (b && false) ≡ false
-and_false true = refl
-and_false false = refl
+number_self n = eq-eqb n n refl
 
 -- ---- the rows of one chunk
 
@@ -71,7 +64,7 @@ module _ (s : StreamKey) (x : Slot) where
   all_of_chunk = all_placed s (λ r. is_of_chunk s x.first r ≡ true) x.place x.first (λ index e. rw (stream_self s) (number_self x.first)) 0 x.blocks
 
   pub none_of_other : (c : ℕ) → x.first ≢ c → NoneOfChunk s c (slot_state s x)
-  none_of_other c h = all_placed s (λ r. is_of_chunk s c r ≡ false) x.place x.first (λ index e. ap (λ b. same_stream s s && b) (number_other x.first c h) ∙ and_false (same_stream s s)) 0 x.blocks
+  none_of_other c h = all_placed s (λ r. is_of_chunk s c r ≡ false) x.place x.first (λ index e. and_right (same_stream s s) _ (ne_eqb x.first c h)) 0 x.blocks
 
   pub none_in_other : (f : ℕ) → is_flight f x.place ≡ false → NoneFlies f (slot_state s x)
   none_in_other f h = all_placed s (λ r. is_flight f r.place ≡ false) x.place x.first (λ index e. h) 0 x.blocks
@@ -178,7 +171,7 @@ module _ (apart : FlushesAreApart) (s : StreamKey) where
 
   marks_other : (c : ℕ) (x : Slot) → x.first ≢ c → (b : Bool) → All (λ m. is_mark_of s c m ≡ false) (cond b [] (record { stream = s; chunk = x.first; last_update = x.last_update; reason = x.reason } ∷ []))
   marks_other c x h true = All-nil (λ m. is_mark_of s c m ≡ false)
-  marks_other c x h false = All-cons (λ m. is_mark_of s c m ≡ false) _ [] (ap (λ b. same_stream s s && b) (number_other x.first c h) ∙ and_false (same_stream s s)) (All-nil (λ m. is_mark_of s c m ≡ false))
+  marks_other c x h false = All-cons (λ m. is_mark_of s c m ≡ false) _ [] (and_right (same_stream s s) _ (ne_eqb x.first c h)) (All-nil (λ m. is_mark_of s c m ≡ false))
 
   none_marks : (c : ℕ) (xs : List Slot) → All (λ x. x.first ≢ c) xs → NoneMarks s c (slots_state s xs)
   none_marks c [] h = All-nil (λ m. is_mark_of s c m ≡ false)
@@ -227,10 +220,8 @@ module _ (apart : FlushesAreApart) (s : StreamKey) where
 
   -- a chunk in front of one in flight is in another flight, or in none
   pub in_front : (f : ℕ) (x y : Slot) (front back : List Slot) → ((g : ℕ) → is_flight g y.place ≡ true → NoneInFlight g (front ++ put_at (Flight f) x ∷ back)) → is_flight f y.place ≡ false
-  in_front f x y front back h = by_cases (is_flight f y.place) refl where
-    by_cases : (b : Bool) → is_flight f y.place ≡ b → b ≡ false
-    by_cases false is = refl
-    by_cases true is = let other : is_flight f (Flight f) ≡ false = all_there (λ (z : Slot). is_flight f z.place ≡ false) front (put_at (Flight f) x) back (h f is) in let same = number_self f in absurd (cc)
+  in_front f x y front back h =
+      false_from_ne_true (is_flight f y.place) (λ is. both_ways _ (all_there (λ (z : Slot). is_flight f z.place ≡ false) front (put_at (Flight f) x) back (h f is)) (number_self f))
 
   finishes_among : (f : ℕ) (key : List ℕ) (x : Slot) (front back : List Slot) → All IsSlot (front ++ put_at (Flight f) x ∷ back) → AreRising (front ++ put_at (Flight f) x ∷ back) → FlyApart (front ++ put_at (Flight f) x ∷ back)
       → Finishes s x.first f key (slots_state s (front ++ put_at (Flight f) x ∷ back)) (slots_state s (front ++ stored_at key x ∷ back))
@@ -261,23 +252,21 @@ module _ (apart : FlushesAreApart) (s : StreamKey) where
       (none_in_other s y f (in_front f x y front back alone.0))).1
 
   -- the same of lists that are made so
-  pub claims_as : (f : ℕ) (x : Slot) (old new front back : List Slot) → old ≡ front ++ put_at Block x ∷ back → new ≡ front ++ put_at (Flight f) x ∷ back
-      → AreSlots old → All (λ y. is_block y.place ≡ false) front → NoneInFlight f old → Claims s x.first f (slots_state s old) (slots_state s new)
-  claims_as f x old new front back was is slots older free =
-      let before = subst AreSlots was slots in
-      subst (λ (p : List Slot × List Slot). Claims s x.first f (slots_state s p.0) (slots_state s p.1)) (λ i. (sym was i, sym is i))
-      (claims_among f x front back before.each before.rising older (subst (NoneInFlight f) was free))
+  pub claims_as : (f i : ℕ) (x : Slot) (old new : List Slot) → (h : Changes (put_at (Flight f)) i (put_at Block x) old new) → AreSlots old → All (λ y. is_block y.place ≡ false) h.front → NoneInFlight f old
+      → Claims s x.first f (slots_state s old) (slots_state s new)
+  claims_as f i x old new h slots older free =
+      let before = subst AreSlots h.was slots in
+      subst (λ (p : List Slot × List Slot). Claims s x.first f (slots_state s p.0) (slots_state s p.1)) (λ i. (sym h.was i, sym h.is i))
+      (claims_among f x h.front h.back before.each before.rising older (subst (NoneInFlight f) h.was free))
 
-  pub finishes_as : (f : ℕ) (key : List ℕ) (x : Slot) (old new front back : List Slot) → old ≡ front ++ put_at (Flight f) x ∷ back → new ≡ front ++ stored_at key x ∷ back
-      → AreSlots old → Finishes s x.first f key (slots_state s old) (slots_state s new)
-  finishes_as f key x old new front back was is slots =
-      let before = subst AreSlots was slots in
-      subst (λ (p : List Slot × List Slot). Finishes s x.first f key (slots_state s p.0) (slots_state s p.1)) (λ i. (sym was i, sym is i))
-      (finishes_among f key x front back before.each before.rising before.apart)
+  pub finishes_as : (f i : ℕ) (key : List ℕ) (x : Slot) (old new : List Slot) → Changes (stored_at key) i (put_at (Flight f) x) old new → AreSlots old → Finishes s x.first f key (slots_state s old) (slots_state s new)
+  finishes_as f i key x old new h slots =
+      let before = subst AreSlots h.was slots in
+      subst (λ (p : List Slot × List Slot). Finishes s x.first f key (slots_state s p.0) (slots_state s p.1)) (λ i. (sym h.was i, sym h.is i))
+      (finishes_among f key x h.front h.back before.each before.rising before.apart)
 
-  pub backs_as : (f : ℕ) (x : Slot) (old new front back : List Slot) → old ≡ front ++ put_at (Flight f) x ∷ back → new ≡ front ++ put_at Block x ∷ back
-      → AreSlots old → GivesBack f (slots_state s old) (slots_state s new)
-  backs_as f x old new front back was is slots =
-      let before = subst AreSlots was slots in
-      subst (λ (p : List Slot × List Slot). GivesBack f (slots_state s p.0) (slots_state s p.1)) (λ i. (sym was i, sym is i))
-      (backs_among f x front back before.each before.apart)
+  pub backs_as : (f i : ℕ) (x : Slot) (old new : List Slot) → Changes (put_at Block) i (put_at (Flight f) x) old new → AreSlots old → GivesBack f (slots_state s old) (slots_state s new)
+  backs_as f i x old new h slots =
+      let before = subst AreSlots h.was slots in
+      subst (λ (p : List Slot × List Slot). GivesBack f (slots_state s p.0) (slots_state s p.1)) (λ i. (sym h.was i, sym h.is i))
+      (backs_among f x h.front h.back before.each before.apart)

@@ -1,10 +1,10 @@
 use Rattle.std.proofs.Common.{◌≡◌, ◌==◌, not, true, length, filter, sym, ap, subst, ◌∙◌}
 use Rattle.std.specs.List.Sorted.{IsStrictlyIncreasing}
+use Rattle.std.proofs.lemmas.Result.{IfOk-weaker}
 use Rattle.ing_labels.specs.Selectors.{agrees}
 use Rattle.ing_postings.specs.Streams.{is_in, places_of}
-use Rattle.ing_postings.specs.Index.{list_at}
-use Rattle.ing_postings.proofs.Narrowed.{ok_then}
-use Rattle.ing_postings.proofs.Walked.{non_decreasing, places_rise, listed_picks}
+use Rattle.ing_postings.proofs.Places.{places_rise}
+use Rattle.ing_postings.proofs.Walked.{non_decreasing, listed_picks}
 use Rattle.ing_postings.proofs.choice.kept_by.Goals as goal
 
 pub listed-requires-clause-places : goal.listed-requires-clause-places
@@ -13,15 +13,15 @@ listed-requires-clause-places c = non_decreasing c.args.places.now c.requires.ri
 pub listed-requires-clause-list : goal.listed-requires-clause-list
 listed-requires-clause-list c =
     let m = c.args.matcher.now in
-    let is : c.list_at-list.result.now ≡ places_of m.name m.value c.args.streams.now = c.list_at-list.ensures ∙ ap (λ n. list_at c.args.index.now n c.value-2.result.now) c.name.ensures ∙ ap (list_at c.args.index.now m.name) c.value-2.ensures ∙ c.requires.indexed m.name m.value in
+    let is : c.list_at-list.result.now ≡ places_of m.name m.value c.args.streams.now = cc (c.requires.indexed m.name m.value) in
     non_decreasing _ (subst IsStrictlyIncreasing (sym is) (places_rise m.name m.value c.args.streams.now))
 
 pub returns : goal.returns
 returns c =
     let m = c.args.matcher.now in
-    let is : c.list_at-list.result.now ≡ places_of m.name m.value c.args.streams.now = c.list_at-list.ensures ∙ ap (λ n. list_at c.args.index.now n c.value-2.result.now) c.name.ensures ∙ ap (list_at c.args.index.now m.name) c.value-2.ensures ∙ c.requires.indexed m.name m.value in
+    let is : c.list_at-list.result.now ≡ places_of m.name m.value c.args.streams.now = cc (c.requires.indexed m.name m.value) in
     let some : not (length m.value == 0) ≡ true = ap (λ v. not (length v == 0)) (sym c.value.ensures) ∙ ap not (sym c.is_empty.ensures ∙ c.if-is_empty.false) in
-    ok_then c.listed.result _ _ (λ kept h.
+    IfOk-weaker c.listed.result _ _ (λ kept h.
     h
     ∙ ap (λ op. filter (λ p. agrees op (is_in p c.list_at-list.result.now)) c.args.places.now) c.op.ensures
     ∙ ap (λ list. filter (λ p. agrees m.op (is_in p list)) c.args.places.now) is

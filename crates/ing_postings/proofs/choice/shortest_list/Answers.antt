@@ -1,7 +1,8 @@
-use Rattle.std.proofs.Common.{◌≡◌, false, sym, ◌∙◌}
+use Rattle.std.proofs.Common.{◌≡◌, All, IfNone, IfSome, false, sym, subst, ◌∙◌}
+use Rattle.std.proofs.lemmas.List.{take_all}
 use Rattle.ing_labels.specs.Selectors.{asks_for_value}
 use Rattle.ing_postings.specs.Index.{IsNoLonger}
-use Rattle.ing_postings.proofs.Chosen.{shortest_skips, shortest_more, some_whole, none_whole}
+use Rattle.ing_postings.proofs.Chosen.{shortest_skips, shortest_more}
 use Rattle.ing_postings.proofs.choice.shortest_list.Goals as goal
 use Rattle.ing_postings.proofs.choice.shortest_list.Goals.{then-asks_for_value, else-asks_for_value}
 
@@ -13,7 +14,7 @@ loop-matcher-preserved c =
     ]
 
 pub returns-clause-shortest : goal.returns-clause-shortest
-returns-clause-shortest c = some_whole (λ list. IsNoLonger c.args.index.now list.now) _ _ _ c.loop-matcher-test.false c.loop-matcher.invariant.shortest
+returns-clause-shortest c = subst (λ ms. IfSome c.loop-matcher.shortest (λ list. All (IsNoLonger c.args.index.now list.now) ms)) (take_all c.loop-matcher.matcher-index c.args.matchers.now c.loop-matcher-test.false) c.loop-matcher.invariant.shortest
 
 pub returns-clause-none : goal.returns-clause-none
-returns-clause-none c = none_whole (λ m. asks_for_value m ≡ false) _ _ _ c.loop-matcher-test.false c.loop-matcher.invariant.none
+returns-clause-none c = subst (λ ms. IfNone c.loop-matcher.shortest (All (λ m. asks_for_value m ≡ false) ms)) (take_all c.loop-matcher.matcher-index c.args.matchers.now c.loop-matcher-test.false) c.loop-matcher.invariant.none

@@ -1,6 +1,7 @@
 use Rattle.std.proofs.Common.{refl, sym, ◌∙◌}
+use Rattle.std.proofs.lemmas.Result.{IfOk-weaker}
 use Rattle.ing_labels.specs.Labels.{texts, HoldsPairs, KeepsLimits}
-use Rattle.ing_labels.proofs.Tested.{in_order, labels_in_order, labels_of-kept, made_in_order, tested, ok_then, not_both}
+use Rattle.ing_labels.proofs.Tested.{in_order, labels_in_order, labels_of-kept, made_in_order, tested, not_both}
 use Rattle.ing_labels.proofs.label_set.Labels.of_pairs.Goals as goal
 
 pub returns-in-Some-kept_fault-clause-fault : goal.returns-in-Some-kept_fault-clause-fault
@@ -33,7 +34,7 @@ pub returns-then-names_rise-clause-limits : goal.returns-then-names_rise-clause-
 returns-then-names_rise-clause-limits c = (tested c.args.limits.now (texts c.args.pairs.now) _ (returns-then-names_rise-clause-labels c)).kept
 
 pub returns-clause-pairs : goal.returns-clause-pairs
-returns-clause-pairs c = ok_then c.of_unordered.result _ (HoldsPairs (texts c.args.pairs.now)) (λ m said. (tested _ _ m said).pairs) c.of_unordered.ensures.labels
+returns-clause-pairs c = IfOk-weaker c.of_unordered.result _ (HoldsPairs (texts c.args.pairs.now)) (λ m said. (tested _ _ m said).pairs) c.of_unordered.ensures.labels
 
 pub returns-clause-limits : goal.returns-clause-limits
-returns-clause-limits c = ok_then c.of_unordered.result _ (KeepsLimits c.args.limits.now) (λ m said. (tested c.args.limits.now (texts c.args.pairs.now) m said).kept) c.of_unordered.ensures.labels
+returns-clause-limits c = IfOk-weaker c.of_unordered.result _ (KeepsLimits c.args.limits.now) (λ m said. (tested c.args.limits.now (texts c.args.pairs.now) m said).kept) c.of_unordered.ensures.labels

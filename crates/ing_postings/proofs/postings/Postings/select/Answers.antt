@@ -4,9 +4,10 @@ use Rattle.std.specs.List.Sorted.{IsStrictlyIncreasing}
 use Rattle.ing_labels.specs.Selectors.{IsSelector, selects}
 use Rattle.ing_postings.specs.Streams.{numbers_of, selected, picks_at}
 use Rattle.ing_postings.proofs.Numbers.{rising-filter}
-use Rattle.ing_postings.proofs.Narrowed.{walk_finds, walk_within, one_picks, ok_then}
+use Rattle.ing_postings.proofs.Narrowed.{one_finds, walk_finds, walk_within, walk_rises}
 use Rattle.std.proofs.lemmas.List.Elements.{All-filter}
-use Rattle.ing_postings.proofs.Walked.{walk_rises, read_kept, none_asks}
+use Rattle.std.proofs.lemmas.Result.{IfOk-weaker}
+use Rattle.ing_postings.proofs.Walked.{read_kept, none_asks}
 use Rattle.ing_postings.proofs.postings.Postings.select.Goals as goal
 
 pub unreachable-requires : goal.unreachable-requires
@@ -22,19 +23,17 @@ returns-then-matchers-eq1-clause-found c =
     let xs = c.self.inside.streams.items in
     let ms = c.matchers-matchers.result.now in
     let places = c.in-Some.places.now in
-    let one = one_picks c.self.inside.index ms xs places c.self.invariant.index c.in-Some.ensures.named c.if-matchers-eq1.true in
-    let all = walk_finds c.self.inside.index ms xs places c.self.invariant.index c.in-Some.ensures.named in
-    ok_then c.numbers_at.result _ _ (λ found h.
+    IfOk-weaker c.numbers_at.result _ _ (λ found h.
     h
     ∙ ap (λ ys. numbers_of (filter_map (slice_get ys) places)) c.deref.ensures.value
-    ∙ ap numbers_of (sym one ∙ all)
+    ∙ ap numbers_of (one_finds c.self.inside.index ms xs places c.self.invariant.index c.if-matchers-eq1.true c.in-Some.ensures.named)
     ∙ ap (λ sel. numbers_of (selected sel xs)) c.matchers-matchers.ensures.matchers
     ∙ ap (λ ys. numbers_of (selected c.args.selector.now ys)) c.self.view_is) c.numbers_at.ensures
 
 pub returns-then-matchers-eq1-clause-rising : goal.returns-then-matchers-eq1-clause-rising
 returns-then-matchers-eq1-clause-rising c =
     let rising = subst (λ ys. IsStrictlyIncreasing (numbers_of ys)) c.self.view_is c.self.invariant.rising in
-    ok_then c.numbers_at.result _ _ (λ found h. subst IsStrictlyIncreasing (sym h) (rising-filter (λ s. selects c.args.selector.now s.labels) c.args.self.now rising)) (returns-then-matchers-eq1-clause-found c)
+    IfOk-weaker c.numbers_at.result _ _ (λ found h. subst IsStrictlyIncreasing (sym h) (rising-filter (λ s. selects c.args.selector.now s.labels) c.args.self.now rising)) (returns-then-matchers-eq1-clause-found c)
 
 pub kept_places-requires-clause-within : goal.kept_places-requires-clause-within
 kept_places-requires-clause-within c =
@@ -56,7 +55,7 @@ returns-clause-found c =
     let ms = c.matchers-matchers.result.now in
     let places = c.in-Some.places.now in
     let all = walk_finds c.self.inside.index ms xs places c.self.invariant.index c.in-Some.ensures.named in
-    ok_then c.numbers_at-2.result _ _ (λ found h.
+    IfOk-weaker c.numbers_at-2.result _ _ (λ found h.
     h
     ∙ ap (λ ys. numbers_of (filter_map (slice_get ys) c.deref-4.result.now)) c.deref-3.ensures.value
     ∙ ap (λ ps. numbers_of (filter_map (slice_get xs) ps)) (c.deref-4.ensures.value ∙ c.in_ok-kept.ensures)
@@ -68,4 +67,4 @@ returns-clause-found c =
 pub returns-clause-rising : goal.returns-clause-rising
 returns-clause-rising c =
     let rising = subst (λ ys. IsStrictlyIncreasing (numbers_of ys)) c.self.view_is c.self.invariant.rising in
-    ok_then c.numbers_at-2.result _ _ (λ found h. subst IsStrictlyIncreasing (sym h) (rising-filter (λ s. selects c.args.selector.now s.labels) c.args.self.now rising)) (returns-clause-found c)
+    IfOk-weaker c.numbers_at-2.result _ _ (λ found h. subst IsStrictlyIncreasing (sym h) (rising-filter (λ s. selects c.args.selector.now s.labels) c.args.self.now rising)) (returns-clause-found c)

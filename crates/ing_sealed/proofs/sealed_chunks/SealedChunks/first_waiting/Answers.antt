@@ -1,10 +1,10 @@
 use Rattle.std.proofs.Common.{◌≡◌, ◌<◌, length, map, get_or, false, true, sym, ap, subst, ◌∙◌, arith}
 use Rattle.std.specs.Prelude.{All}
-use Rattle.std.proofs.lemmas.List.{length-map}
+use Rattle.std.proofs.lemmas.List.{length-map, take_all}
 use Rattle.ing_rows.specs.Rows.{is_block}
 use Rattle.ing_sealed.specs.Slots.{Slot}
 use Rattle.ing_sealed.specs.KeptSlots.{slot_of}
-use Rattle.ing_sealed.proofs.KeptLaws.{one_more, all_taken, first_there, read_slot}
+use Rattle.ing_sealed.proofs.KeptLaws.{one_more, first_there, read_slot}
 use Rattle.ing_sealed.proofs.sealed_chunks.SealedChunks.first_waiting.Goals as goal
 
 pub loop-index-preserved : goal.loop-index-preserved
@@ -35,5 +35,4 @@ returns-clause-none g c =
     let many = length-map items slot_of in
     let past = c.loop-index-test.false in
     let end = c.len-index-end.ensures in
-    subst (All (λ (x : Slot). is_block x.place ≡ false)) c.self.view_is
-    (all_taken (λ (x : Slot). is_block x.place ≡ false) (map slot_of items) c.loop-index.index (omega (arith, long, many, past, end)) c.loop-index.invariant)
+    subst (All (λ (x : Slot). is_block x.place ≡ false)) (take_all c.loop-index.index (map slot_of items) (omega (arith, long, many, past, end)) ∙ c.self.view_is) c.loop-index.invariant
