@@ -12,6 +12,7 @@ mod Gauged
 mod KeptLaws
 mod Ordered
 mod Sealed
+mod Stands
 mod Sums
 mod Taken
 mod Together
