@@ -3,6 +3,8 @@ use Rattle.std.proofs.Common.{◌≡◌, ◌≢◌, ℕ, ◌+◌, ◌<◌, max, 
 use Rattle.std.specs.Prelude.{Option, All, IsPermutation}
 use Rattle.std.specs.List.{list_any}
 use Rattle.std.specs.Option.{option_map, unwrap_or}
+use Rattle.std.proofs.lemmas.List.{map-append}
+use Rattle.std.proofs.lemmas.List.Folds.{list_any_none}
 use Rattle.std.proofs.lemmas.List.Elements.{All-cons, All-head, All-tail, All-weaker}
 use Rattle.std.proofs.lemmas.List.Sorted.{IsPermutation-refl, IsPermutation-trans, IsPermutation-map, IsPermutation-cons, IsPermutation-append, IsPermutation-to_front, IsPermutation-append_comm, IsPermutation-sym, All-permutation, sum_by-IsPermutation}
 use Rattle.std.proofs.lemmas.List.Sums.{sum_by-append, sum_by-cons}
@@ -14,7 +16,7 @@ use Rattle.ing_rows.specs.Rows.{StreamKey, Row, Mark, State, size_of, size_of_ro
 use Rattle.ing_rows.specs.Steps.{is_growing, blocks_of, chunk_at, marks_at, cut, filled, accepted_as}
 use Rattle.ing_chunk.specs.declared.numbered.Numbered.{Numbered}
 use Rattle.ing_chunk.specs.Chunks.{ChunkContents, ChunksContents, size_of_entries, size_of_chunk, in_blocks, row_in, block_rows, head_rows, mark_of, chunk_state, chunks_state, growing_state, with_entry, with_block, chunk_to_grow, empty_chunk, placed, taken_with, TakesOne, AreBlocks, AreChunks, GrowsIfAny}
-use Rattle.ing_chunk.proofs.Turned.{IsInHead, IsInBlock, IsOther, Apart, to_block, stream_self, nat_self, head_row, all_head, all_block, other_rows, other_marks, not_block, size-rows, chunk_only, ended, finish, find-none, any-none, map-none, map-append}
+use Rattle.ing_chunk.proofs.Turned.{IsInHead, IsInBlock, IsOther, Apart, to_block, stream_self, nat_self, head_row, all_head, all_block, other_rows, other_marks, not_block, size-rows, chunk_only, ended, finish, find-none, map-none}
 
 -- the model's state is that of the chunks: the rows of the growing chunk's head, of its blocks, and of the other chunks
 -- stand one after another, each in whatever order
@@ -46,7 +48,7 @@ module _ (s : StreamKey) (k n now : ℕ) (m : List Mark) (others : All (IsOther 
 
   marks_now : (o : Option ChunkContents) (e : Entry) → GrowsIfAny n o → marks_at s n now ((growing_state s o).marks ++ m) ≡ mark_of s (with_entry e n now (unwrap_or o (empty_chunk n))) ∷ m
   marks_now None e good =
-      ap (λ t. cond t (map (λ q. cond (is_growing s q) (record q { last_update = now }) q) m) (record { stream = s; chunk = n; last_update = now; reason = None } ∷ m)) (any-none (is_growing s) m quiet)
+      ap (λ t. cond t (map (λ q. cond (is_growing s q) (record q { last_update = now }) q) m) (record { stream = s; chunk = n; last_update = now; reason = None } ∷ m)) (list_any_none (is_growing s) m quiet)
   marks_now (Some g) e good =
       ap (λ t. cond (t || list_any (is_growing s) m) (cond t (record (mark_of s g) { last_update = now }) (mark_of s g) ∷ map (λ q. cond (is_growing s q) (record q { last_update = now }) q) m) (record { stream = s; chunk = n; last_update = now; reason = None } ∷ mark_of s g ∷ m)) (grows g good.open_yet)
       ∙ ap (λ l. record (mark_of s g) { last_update = now } ∷ l) (map-none (is_growing s) (λ q. record q { last_update = now }) m quiet)

@@ -2,6 +2,7 @@
 use Rattle.std.proofs.Common.{◌≡◌, ◌≢◌, ℕ, ◌+◌, ◌<◌, Bool, true, false, cond, ◌&&◌, List, [], ◌∷◌, ◌++◌, length, map, filter, is_some, is_none, refl, sym, ap, subst, ◌∙◌, arith, Some, None}
 use Rattle.std.specs.Prelude.{Option, All, IsPermutation}
 use Rattle.std.specs.Option.{unwrap_or}
+use Rattle.std.proofs.lemmas.List.{map-append}
 use Rattle.std.proofs.lemmas.List.Elements.{All-nil, All-cons, All-head, All-tail, All-append, All-weaker, All-push}
 use Rattle.std.proofs.lemmas.List.Sorted.{IsPermutation-refl, IsPermutation-trans, IsPermutation-sym, IsPermutation-append, IsPermutation-append_comm, IsPermutation-to_front}
 use Rattle.ing_rows.specs.declared.place.Place.TheVariants.{Head, Block}
@@ -14,7 +15,7 @@ use Rattle.ing_chunk.specs.Chunks.{ChunkContents, ChunksContents, count_in, row_
 use Rattle.ing_chunk.specs.Parts.{AreParts}
 use Rattle.ing_chunk.proofs.Covered.{covers_closed, some_blocks, count_small, follow_push}
 use Rattle.ing_chunk.proofs.Sums.{block_count-more, block_starts-more}
-use Rattle.ing_chunk.proofs.Turned.{IsInHead, IsInBlock, to_block, all_head, all_block, other_rows, filter-none, map-all, map-none, map-append}
+use Rattle.ing_chunk.proofs.Turned.{IsInHead, IsInBlock, to_block, all_head, all_block, other_rows, filter-none, map-all, map-none}
 use Rattle.ing_chunk.proofs.Followed.{head_mapped, block_rows-more, waiting-more}
 use Rattle.ing_chunk.proofs.Taken.{waits_longer}
 

@@ -16,6 +16,7 @@ use Rattle.ing_chunk.specs.Chunks.{ChunkContents, ChunksContents, size_of_entrie
 use Rattle.ing_chunk.specs.Parts.{IsShort}
 use Rattle.ing_chunk.proofs.Covered.{covers_more, covers_closed, some_blocks, count_small, follow_push}
 use Rattle.ing_chunk.proofs.Sums.{block_size-more, block_count-more, block_starts-more, blocks-more}
+use Rattle.ing_chunk.proofs.Turned.{rows_apart}
 use Rattle.ing_chunk.proofs.Followed.{Reads, all_blocks, reads_one}
 
 -- ---- what holds of chunks is kept
@@ -163,32 +164,26 @@ reads_start s c good = record {
   b = block_rows s (chunk_to_grow c).first 0 (chunk_to_grow c).blocks;
   w = (chunks_state s c.waiting).rows;
   m = (chunks_state s c.waiting).marks;
-  rows = apart c.growing;
+  rows = rows_apart s c;
   marks = refl;
   heads = IsPermutation-refl (head_rows s (chunk_to_grow c));
   blocks = IsPermutation-refl (block_rows s (chunk_to_grow c).first 0 (chunk_to_grow c).blocks);
   others = IsPermutation-refl (chunks_state s c.waiting).rows;
   sealed = IsPermutation-refl (chunks_state s c.waiting).marks;
   many = all_blocks s (chunk_to_grow c).first (chunk_to_grow c).blocks (next_of c good).blocks;
-} where
-  apart : (o : Option ChunkContents) → (growing_state s o).rows ++ (chunks_state s c.waiting).rows ≡ head_rows s (unwrap_or o (empty_chunk c.next)) ++ (block_rows s (unwrap_or o (empty_chunk c.next)).first 0 (unwrap_or o (empty_chunk c.next)).blocks ++ (chunks_state s c.waiting).rows)
-  apart None = refl
-  apart (Some g) = append_assoc (head_rows s g) (block_rows s g.first 0 g.blocks) (chunks_state s c.waiting).rows
+}
 
 reads_same : (s : StreamKey) (c : ChunksContents) (st : State) → Reads s c st → IsSame (stream_state s c) st
 reads_same s c st reads = record {
   rows =
-      subst (λ l. IsPermutation l st.rows) (sym (apart c.growing))
+      subst (λ l. IsPermutation l st.rows) (sym (rows_apart s c))
       (subst (IsPermutation (head_rows s (chunk_to_grow c) ++ (block_rows s (chunk_to_grow c).first 0 (chunk_to_grow c).blocks ++ (chunks_state s c.waiting).rows))) (sym reads.rows)
       (IsPermutation-append (head_rows s (chunk_to_grow c)) reads.h (block_rows s (chunk_to_grow c).first 0 (chunk_to_grow c).blocks ++ (chunks_state s c.waiting).rows) (reads.b ++ reads.w) reads.heads
       (IsPermutation-append (block_rows s (chunk_to_grow c).first 0 (chunk_to_grow c).blocks) reads.b (chunks_state s c.waiting).rows reads.w reads.blocks reads.others)));
   marks =
       subst (IsPermutation ((growing_state s c.growing).marks ++ (chunks_state s c.waiting).marks)) (sym reads.marks)
       (IsPermutation-append (growing_state s c.growing).marks (growing_state s c.growing).marks (chunks_state s c.waiting).marks reads.m (IsPermutation-refl (growing_state s c.growing).marks) reads.sealed);
-} where
-  apart : (o : Option ChunkContents) → (growing_state s o).rows ++ (chunks_state s c.waiting).rows ≡ head_rows s (unwrap_or o (empty_chunk c.next)) ++ (block_rows s (unwrap_or o (empty_chunk c.next)).first 0 (unwrap_or o (empty_chunk c.next)).blocks ++ (chunks_state s c.waiting).rows)
-  apart None = refl
-  apart (Some g) = append_assoc (head_rows s g) (block_rows s g.first 0 g.blocks) (chunks_state s c.waiting).rows
+}
 
 reads_all : (rules : Rules) (s : StreamKey) (now : ℕ) (es : List Entry) (c d : ChunksContents) (st : State) → AreChunks c → c.next + length es ≤ 2 ^ 62 → rules.chunk_target_size ≤ 2 ^ 30 → All IsShort es → Takes rules now es c d → Reads s c st → Reads s d (accepted_in_turn c.next rules s now es st)
 reads_all rules s now [] c d st good room target short takes reads = subst (λ x. Reads s x st) (sym takes) reads
