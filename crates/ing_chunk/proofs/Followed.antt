@@ -128,6 +128,14 @@ head_mapped s k index block head h moved heads =
       closed [] = refl
       closed (e ∷ es) = ap (λ l. row_in s k index Block e ∷ l) (closed es)
 
+-- the rows of the blocks, with one more block, whose entries stood in the head
+pub closed_rows : (s : StreamKey) (k : ℕ) (bs : List (List Numbered)) (block head : List Numbered) (h b : List Row) → IsPermutation head block → IsPermutation (map (row_in s k (length bs) Head) head) h → IsPermutation (block_rows s k 0 bs) b → IsPermutation (block_rows s k 0 (bs ++ block ∷ [])) (map to_block h ++ b)
+closed_rows s k bs block head h b moved heads blocks =
+    let new = map (row_in s k (length bs) Block) block in
+    subst (λ l. IsPermutation l (map to_block h ++ b)) (sym (block_rows-more s k 0 bs block ∙ ap (λ i. block_rows s k 0 bs ++ map (row_in s k i Block) block) (omega arith)))
+    (IsPermutation-trans (block_rows s k 0 bs ++ new) (new ++ block_rows s k 0 bs) (map to_block h ++ b) (IsPermutation-append_comm (block_rows s k 0 bs) new)
+    (IsPermutation-append new (map to_block h) (block_rows s k 0 bs) b (head_mapped s k (length bs) block head h moved heads) blocks))
+
 module _ (rules : Rules) (s : StreamKey) (now : ℕ) (e : Entry) (c : ChunksContents) (good : AreChunks c) (st : State) (reads : Reads s c st) (block : List Numbered) where
   abbrev g : ChunkContents
   g = chunk_to_grow c
@@ -203,11 +211,7 @@ module _ (rules : Rules) (s : StreamKey) (now : ℕ) (e : Entry) (c : ChunksCont
 
   module _ (moved : IsPermutation g'.head block) where
     block_rows' : IsPermutation (block_rows s k 0 (g.blocks ++ block ∷ [])) (map to_block h' ++ reads.b)
-    block_rows' =
-        subst (λ l. IsPermutation l (map to_block h' ++ reads.b)) (sym (block_rows-more s k 0 g.blocks block ∙ ap (λ i. block_rows s k 0 g.blocks ++ map (row_in s k i Block) block) (omega arith)))
-        (IsPermutation-trans (block_rows s k 0 g.blocks ++ map (row_in s k index Block) block) (map (row_in s k index Block) block ++ block_rows s k 0 g.blocks) (map to_block h' ++ reads.b)
-        (IsPermutation-append_comm (block_rows s k 0 g.blocks) (map (row_in s k index Block) block))
-        (IsPermutation-append (map (row_in s k index Block) block) (map to_block h') (block_rows s k 0 g.blocks) reads.b (head_mapped s k index block g'.head h' moved heads') reads.blocks))
+    block_rows' = closed_rows s k g.blocks block g'.head h' reads.b moved heads' reads.blocks
 
     reads_placed : (full cuts : Bool) → Reads s (placed full cuts block g' c) (ending full cuts h')
     reads_placed true cuts = record {

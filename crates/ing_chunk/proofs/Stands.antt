@@ -13,7 +13,7 @@ use Rattle.ing_chunk.specs.KeptChunks.{AreKept, chunks_of}
 use Rattle.ing_chunk.specs.Parts.{IsShort}
 use Rattle.ing_chunk.proofs.Added.{some_grows, takes_full, takes_open}
 use Rattle.ing_chunk.proofs.Aside.{count_all, framed, takes_aside}
-use Rattle.ing_chunk.proofs.Sealed.{chunks_sealed, count_sealed}
+use Rattle.ing_chunk.proofs.Sealed.{chunks_sealed, count_sealed, sealed_is}
 use Rattle.ing_chunk.proofs.Taken.{chunks_all, next_of}
 use Rattle.ing_chunk.proofs.Together.{takes_run}
 
@@ -29,9 +29,9 @@ stands_all rules now es c d stands room target short takes = record {
 -- the entries of the chunks that wait come before the first of the chunk that grows, after a seal too
 pub balance_sealed : (why : SealReason) (c d : ChunksContents) → AreChunks c → SealsGrowing why c d → sum_by count_in d.waiting + (chunk_to_grow c).first ≡ sum_by count_in c.waiting + (chunk_to_grow d).first
 balance_sealed why c d good seals =
-    ap (λ (x : ChunksContents). sum_by count_in x.waiting + (chunk_to_grow c).first) seals.is
-    ∙ omega (arith, sum_by_push count_in c.waiting seals.done, count_sealed why c d good seals, ap (λ (x : ChunkContents). x.first) (some_grows c seals.chunk seals.grows))
-    ∙ ap (λ (x : ChunksContents). sum_by count_in c.waiting + (chunk_to_grow x).first) (sym seals.is)
+    ap (λ (x : ChunksContents). sum_by count_in x.waiting + (chunk_to_grow c).first) (sealed_is why c d good seals)
+    ∙ omega (arith, sum_by_push count_in c.waiting (record seals.sealed.0 { reason = Some why }), count_sealed why c d good seals, ap (λ (x : ChunkContents). x.first) (some_grows c seals.chunk seals.grows))
+    ∙ ap (λ (x : ChunksContents). sum_by count_in c.waiting + (chunk_to_grow x).first) (sym (sealed_is why c d good seals))
 
 pub stands_sealed : (why : SealReason) (c d : ChunksContents) → CanStand c → SealsGrowing why c d → CanStand d
 stands_sealed why c d stands seals = record {

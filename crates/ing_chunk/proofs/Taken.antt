@@ -1,5 +1,5 @@
 -- Accepted entries, put into the chunks of their stream one after another.
-use Rattle.std.proofs.Common.{◌≡◌, ◌≢◌, ℕ, ◌+◌, ◌<◌, ◌≤◌, ◌^◌, Bool, true, false, List, [], ◌∷◌, ◌++◌, length, refl, sym, ap, subst, ◌∙◌, arith, nat_le, append_assoc, Some, None, length-append, cond, min, nat_eq}
+use Rattle.std.proofs.Common.{◌≡◌, ◌≢◌, ℕ, ◌+◌, ◌<◌, ◌≤◌, ◌^◌, Bool, true, false, List, [], ◌∷◌, ◌++◌, length, is_none, refl, sym, ap, subst, ◌∙◌, arith, nat_le, append_assoc, Some, None, length-append, cond, min, nat_eq}
 use Rattle.std.proofs.lemmas.Bool.Decides.{nat_tests}
 use Rattle.std.proofs.lemmas.List.Sums.{sum_by_push}
 use Rattle.std.specs.Prelude.{Option, All, IsPermutation}
@@ -13,7 +13,7 @@ use Rattle.ing_rows.specs.Rows.{StreamKey, State, IsSame}
 use Rattle.ing_rows.specs.Steps.{accepted_as, accepted_in_turn}
 use Rattle.ing_chunk.specs.declared.numbered.Numbered.{Numbered}
 use Rattle.ing_chunk.specs.Chunks.{ChunkContents, ChunksContents, size_of_entries, size_of_chunk, count_in, block_rows, head_rows, chunks_state, growing_state, stream_state, with_entry, with_block, chunk_to_grow, empty_chunk, placed, TakesOne, Takes, AreBlocks, AreChunks, IsWaiting, Waits, GrowsIfAny, starts_in, Covers, Follow}
-use Rattle.ing_chunk.specs.Parts.{IsShort}
+use Rattle.ing_chunk.specs.Parts.{AreParts, IsShort}
 use Rattle.ing_chunk.proofs.Covered.{covers_more, covers_closed, some_blocks, count_small, follow_push}
 use Rattle.ing_chunk.proofs.Sums.{block_size-more, block_count-more, block_starts-more, blocks-more}
 use Rattle.ing_chunk.proofs.Turned.{rows_apart}
@@ -38,6 +38,21 @@ next_of c good = of_growing c.growing good.growing where
 
 pub waits_longer : (first later : ℕ) (cs : List ChunkContents) → first ≤ later → Waits first cs → Waits later cs
 waits_longer first later cs h all = All-weaker (IsWaiting first) (IsWaiting later) (λ w x. record { older = omega (arith, x.older); whole = x.whole; begins = x.begins }) cs all
+
+-- one more whole chunk waits, and none grows
+pub one_waits : (c : ChunksContents) → AreChunks c → (next : ℕ) (done : ChunkContents) → done.first ≡ (chunk_to_grow c).first → done.first + count_in done ≡ next → 0 < count_in done → next ≤ 2 ^ 62 → is_none done.reason ≡ false → done.head ≡ [] → done.blocks ≢ [] → AreParts done.first done.blocks → count_in done < 2 ^ 32 → starts_in done ≡ 1
+    → AreChunks (record { next = next; waiting = c.waiting ++ done ∷ []; growing = None })
+one_waits c good next done first to some small sealed closed blocks parts few begins = record {
+  growing = tt;
+  waiting =
+      All-push (IsWaiting next) c.waiting done (waits_longer (chunk_to_grow c).first next c.waiting (omega arith) good.waiting)
+      (record { older = omega arith; whole = record { sealed = sealed; closed = closed; some = blocks; parts = parts; few = few; last = omega arith }; begins = begins });
+  in_turn = record {
+    base = good.in_turn.base;
+    follow = subst (λ n. Follow good.in_turn.base n (c.waiting ++ done ∷ [])) (omega arith) (follow_push good.in_turn.base (chunk_to_grow c).first c.waiting done good.in_turn.follow first);
+  };
+  few = small;
+}
 
 placed_next : (full cuts : Bool) (block : List Numbered) (g : ChunkContents) (c : ChunksContents) → (placed full cuts block g c).next ≡ c.next + 1
 placed_next true cuts block g c = refl
@@ -87,30 +102,8 @@ module _ (e : Entry) (now : ℕ) (c : ChunksContents) (good : AreChunks c) (room
       let known = next_of c good in
       let many = block_count-more g.blocks g.head block moved in
       let done : ChunkContents = record (with_block block g) { reason = Some Full } in
-      let to : (chunk_to_grow c).first + count_in done ≡ c.next + 1 = omega (arith, many, more, known.up_to) in
-      record {
-        growing = tt;
-        waiting =
-            All-push (IsWaiting (c.next + 1)) c.waiting done
-            (waits_longer g.first (c.next + 1) c.waiting (omega (arith, known.up_to)) good.waiting)
-            (record {
-              older = omega (arith, known.up_to);
-              whole = record {
-                sealed = refl;
-                closed = refl;
-                some = some_blocks g.blocks block;
-                parts = covers_with.parts;
-                few = omega (arith, to, known.up_to, known.small, count_small (chunk_to_grow c));
-                last = omega (arith, to);
-              };
-              begins = begins_closed;
-            });
-        in_turn = record {
-          base = good.in_turn.base;
-          follow = subst (λ n. Follow good.in_turn.base n (c.waiting ++ done ∷ [])) to (follow_push good.in_turn.base (chunk_to_grow c).first c.waiting done good.in_turn.follow refl);
-        };
-        few = omega arith;
-      }
+      let to : done.first + count_in done ≡ c.next + 1 = omega (arith, many, more, known.up_to) in
+      one_waits c good (c.next + 1) done refl to (omega (arith, to, known.up_to)) (omega arith) refl refl (some_blocks g.blocks block) covers_with.parts (omega (arith, to, known.up_to, known.small, count_small (chunk_to_grow c))) begins_closed
   placed_chunks false true small =
       let known = next_of c good in
       let many = block_count-more g.blocks g.head block moved in
