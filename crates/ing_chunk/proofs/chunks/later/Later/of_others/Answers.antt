@@ -11,12 +11,9 @@ returns c =
     let d = chunks_of fields in
     let begun : SealsChunk Full (empty_chunk c.args.next) c.seal.new.self = subst (λ (x : ChunkContents). SealsChunk Full x c.seal.new.self) c.begin-tail.ensures c.seal.ensures in
     let tail = sealed_nothing c.args.next c.seal.new.self begun in
-    let takes : Takes c.args.rules.now c.args.now c.args.entries.items (record { next = c.args.next; waiting = []; growing = None }) d =
-    subst (λ (x : ChunksContents). Takes c.args.rules.now c.args.now c.args.entries.items (record { next = c.args.next; waiting = []; growing = None }) x) (sym c.others.view_is)
-    (subst (λ (x : ChunksContents). Takes c.args.rules.now c.args.now c.args.entries.items x c.add_all.new.self) c.from_number-others.ensures c.in_ok-add_all.ensures) in
     let kept = c.others.invariant in
     record {
-      continues = λ size reached. continues_full c.args.rules.now c.args.now size c.args.entries.items c.args.next d _ refl reached tail refl refl takes;
+      continues = λ size reached. continues_full c.args.rules.now c.args.now size c.args.entries.items c.args.next d c.add_all.new.self c.from_number-others.result c.others.view_is c.from_number-others.ensures _ refl reached tail refl refl c.in_ok-add_all.ensures;
       counted = record {
         count = λ _. omega (arith, kept.count, ap count_in tail);
         size = λ _. omega (arith, kept.size, ap size_of_chunk tail);
