@@ -233,28 +233,24 @@ module _ (rules : Rules) (now size : ℕ) (es : List Entry) (next : ℕ) (d seen
 
 -- ---- once the growing chunk has gone on
 
-module _ (now : ℕ) (es : List Entry) (later : Later) (old : ChunksContents) (good : AreChunks old) (g grown : ChunkContents) (some : old.growing ≡ Some g)
+module _ (now : ℕ) (es : List Entry) (later : Later) (old seen : ChunksContents) (was : old ≡ seen) (good : AreChunks old) (g grown : ChunkContents) (some : old.growing ≡ Some g)
     (gone : (closed : ChunkContents) × Closes (with_run (numbered_from (g.first + count_in g) es) now g) closed × (grown ≡ joined closed later.tail)) where
-  closes_next : Closes (with_run (numbered_from old.next es) now g) gone.0
-  closes_next = subst (λ n. Closes (with_run (numbered_from n es) now g) gone.0) (up_to_next old g good some) gone.1
-
-  pub goes_on_growing : is_none later.tail.reason ≡ true → GoesOn now es later old (record { next = later.next; waiting = old.waiting; growing = Some grown })
-  goes_on_growing open_yet = record {
+  goes_on : (new : ChunksContents) → new ≡ put_behind gone.0 old.waiting later → GoesOn now es later seen new
+  goes_on new is = record {
     chunk = g;
-    grows = some;
+    grows = ap (λ (x : ChunksContents). x.growing) (sym was) ∙ some;
     closed = gone.0;
-    closes = closes_next;
-    is = (λ i. record { next = later.next; waiting = old.waiting; growing = Some (gone.2 i) }) ∙ ap (λ b. put_as b gone.0 old.waiting later) (sym open_yet);
+    closes = subst (λ n. Closes (with_run (numbered_from n es) now g) gone.0) (up_to_next old g good some ∙ ap (λ (x : ChunksContents). x.next) was) gone.1;
+    is = is ∙ ap (λ (x : ChunksContents). put_behind gone.0 x.waiting later) was;
   }
 
-  pub goes_on_sealed : is_none later.tail.reason ≡ false → GoesOn now es later old (record { next = later.next; waiting = old.waiting ++ grown ∷ later.sealed.items; growing = later.growing })
-  goes_on_sealed sealed = record {
-    chunk = g;
-    grows = some;
-    closed = gone.0;
-    closes = closes_next;
-    is = (λ i. record { next = later.next; waiting = old.waiting ++ gone.2 i ∷ later.sealed.items; growing = later.growing }) ∙ ap (λ b. put_as b gone.0 old.waiting later) (sym sealed);
-  }
+  pub goes_on_growing : is_none later.tail.reason ≡ true → GoesOn now es later seen (record { next = later.next; waiting = old.waiting; growing = Some grown })
+  goes_on_growing open_yet =
+      goes_on (record { next = later.next; waiting = old.waiting; growing = Some grown })
+      ((λ i. record { next = later.next; waiting = old.waiting; growing = Some (gone.2 i) }) ∙ ap (λ b. put_as b gone.0 old.waiting later) (sym open_yet))
+
+  pub goes_on_sealed : is_none later.tail.reason ≡ false → (new : ChunksContents) → new ≡ record { next = later.next; waiting = old.waiting ++ grown ∷ later.sealed.items; growing = later.growing } → GoesOn now es later seen new
+  goes_on_sealed sealed new is = goes_on new (is ∙ (λ i. record { next = later.next; waiting = old.waiting ++ gone.2 i ∷ later.sealed.items; growing = later.growing }) ∙ ap (λ b. put_as b gone.0 old.waiting later) (sym sealed))
 
   module _ (any : 0 < length es) where
     abbrev ends : ℕ
