@@ -1,13 +1,9 @@
 -- One accepted entry: what the code's steps come to.
-use Rattle.std.proofs.Common.{◌≡◌, ℕ, ◌+◌, Bool, true, false, List, [], ◌∷◌, ◌++◌, length, refl, sym, ap, subst, ◌∙◌, arith, Some, None, length-append}
-use Rattle.std.specs.Prelude.{IsPermutation}
+use Rattle.std.proofs.Common.{◌≡◌, ℕ, ◌+◌, true, false, [], ◌∷◌, ◌++◌, sym, ap, subst, ◌∙◌, Some, None}
 use Rattle.std.specs.Option.{unwrap_or}
 use Rattle.ing_rows.specs.declared.entry.Entry.{Entry}
 use Rattle.ing_rows.specs.declared.rules.Rules.{Rules}
-use Rattle.ing_chunk.specs.declared.numbered.Numbered.{Numbered}
-use Rattle.ing_chunk.specs.Chunks.{ChunkContents, ChunksContents, count_in, with_entry, chunk_to_grow, empty_chunk, settled, placed, is_full, is_to_cut, Settles, TakesOne, AreChunks}
-use Rattle.ing_chunk.proofs.Sums.{block_count-more}
-use Rattle.ing_chunk.proofs.Taken.{next_of}
+use Rattle.ing_chunk.specs.Chunks.{ChunkContents, ChunksContents, with_entry, chunk_to_grow, empty_chunk, settled, placed, is_full, is_to_cut, Settles, TakesOne}
 
 module _ (rules : Rules) (now : ℕ) (e : Entry) (c : ChunksContents) (g done : ChunkContents) (grew : g ≡ with_entry e c.next now (chunk_to_grow c)) (settles : Settles rules g done) where
   settles' : Settles rules (with_entry e c.next now (chunk_to_grow c)) done

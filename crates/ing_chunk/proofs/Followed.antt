@@ -1,13 +1,12 @@
 -- The model's state follows the chunks of a stream, acceptance by acceptance.
-use Rattle.std.proofs.Common.{◌≡◌, ◌≢◌, ℕ, ◌+◌, ◌<◌, max, Bool, true, false, cond, ◌||◌, List, [], ◌∷◌, ◌++◌, length, map, find, is_none, refl, sym, ap, subst, ◌∙◌, arith, nat_le, append_assoc, append-nil, Some, None, length-append}
+use Rattle.std.proofs.Common.{◌≡◌, ◌≢◌, ℕ, ◌+◌, ◌<◌, max, Bool, true, false, cond, List, [], ◌∷◌, ◌++◌, length, map, find, is_none, refl, sym, ap, subst, ◌∙◌, arith, nat_le, append_assoc, append-nil, Some, None, length-append}
 use Rattle.std.specs.Prelude.{Option, All, IsPermutation}
-use Rattle.std.specs.List.{list_any}
 use Rattle.std.specs.Option.{option_map, unwrap_or}
 use Rattle.std.proofs.lemmas.List.{map-append}
 use Rattle.std.proofs.lemmas.List.Folds.{list_any_none}
 use Rattle.std.proofs.lemmas.List.Elements.{All-cons, All-head, All-tail, All-weaker}
 use Rattle.std.proofs.lemmas.List.Sorted.{IsPermutation-refl, IsPermutation-trans, IsPermutation-map, IsPermutation-cons, IsPermutation-append, IsPermutation-to_front, IsPermutation-append_comm, IsPermutation-sym, All-permutation, sum_by-IsPermutation}
-use Rattle.std.proofs.lemmas.List.Sums.{sum_by-append, sum_by-cons}
+use Rattle.std.proofs.lemmas.List.Sums.{sum_by-cons}
 use Rattle.ing_rows.specs.declared.entry.Entry.{Entry}
 use Rattle.ing_rows.specs.declared.place.Place.TheVariants.{Head, Block}
 use Rattle.ing_rows.specs.declared.place.SealReason.TheVariants.{Full}
@@ -15,7 +14,8 @@ use Rattle.ing_rows.specs.declared.rules.Rules.{Rules}
 use Rattle.ing_rows.specs.Rows.{StreamKey, Row, Mark, State, size_of, size_of_rows, is_of_chunk, rows_of_chunk}
 use Rattle.ing_rows.specs.Steps.{is_growing, blocks_of, chunk_at, marks_at, cut, filled, accepted_as}
 use Rattle.ing_chunk.specs.declared.numbered.Numbered.{Numbered}
-use Rattle.ing_chunk.specs.Chunks.{ChunkContents, ChunksContents, size_of_entries, size_of_chunk, in_blocks, row_in, block_rows, head_rows, mark_of, chunk_state, chunks_state, growing_state, with_entry, with_block, chunk_to_grow, empty_chunk, placed, taken_with, TakesOne, AreBlocks, AreChunks, GrowsIfAny}
+use Rattle.ing_chunk.specs.Chunks.{ChunkContents, ChunksContents, size_of_entries, size_of_chunk, in_blocks, row_in, block_rows, head_rows, mark_of, chunk_state, chunks_state, growing_state, with_entry, with_block, chunk_to_grow, empty_chunk, placed, taken_with, TakesOne, AreBlocks, AreChunks, GrowsIfAny, is_full, is_to_cut}
+use Rattle.ing_chunk.proofs.Sums.{size-append}
 use Rattle.ing_chunk.proofs.Turned.{IsInHead, IsInBlock, IsOther, Apart, to_block, stream_self, nat_self, head_row, all_head, all_block, other_rows, other_marks, not_block, size-rows, chunk_only, ended, finish, find-none, map-none}
 
 -- the model's state is that of the chunks: the rows of the growing chunk's head, of its blocks, and of the other chunks
@@ -50,8 +50,7 @@ module _ (s : StreamKey) (k n now : ℕ) (m : List Mark) (others : All (IsOther 
   marks_now None e good =
       ap (λ t. cond t (map (λ q. cond (is_growing s q) (record q { last_update = now }) q) m) (record { stream = s; chunk = n; last_update = now; reason = None } ∷ m)) (list_any_none (is_growing s) m quiet)
   marks_now (Some g) e good =
-      ap (λ t. cond (t || list_any (is_growing s) m) (cond t (record (mark_of s g) { last_update = now }) (mark_of s g) ∷ map (λ q. cond (is_growing s q) (record q { last_update = now }) q) m) (record { stream = s; chunk = n; last_update = now; reason = None } ∷ mark_of s g ∷ m)) (grows g good.open_yet)
-      ∙ ap (λ l. record (mark_of s g) { last_update = now } ∷ l) (map-none (is_growing s) (λ q. record q { last_update = now }) m quiet)
+      rw (grows g good.open_yet) (ap (λ l. record (mark_of s g) { last_update = now } ∷ l) (map-none (is_growing s) (λ q. record q { last_update = now }) m quiet))
 
 -- heads have no block
 heads_no_blocks : (s : StreamKey) (k index : ℕ) (h b : List Row) → All (IsInHead s k index) h → blocks_of (h ++ b) ≡ blocks_of b
@@ -72,18 +71,12 @@ more_blocks s k index (r ∷ q ∷ h) b all many some =
 pub size_of_mapped : (f : Numbered → Row) → ((x : Numbered) → (f x).entry ≡ x.entry) → (es : List Numbered) → size_of_rows (map f es) ≡ size_of_entries es
 size_of_mapped f same [] = refl
 size_of_mapped f same (e ∷ es) =
-    sum_by-cons (λ (q : Row). size_of q.entry) (f e) (map f es)
-    ∙ ap (λ n. size_of (f e).entry + n) (size_of_mapped f same es)
-    ∙ ap (λ (x : Entry). size_of x + size_of_entries es) (same e)
-    ∙ sym (sum_by-cons (λ (q : Numbered). size_of q.entry) e es)
+    omega (arith, sum_by-cons (λ (q : Row). size_of q.entry) (f e) (map f es), size_of_mapped f same es, ap size_of (same e), sum_by-cons (λ (q : Numbered). size_of q.entry) e es)
 
 pub size_of_blocks : (s : StreamKey) (k index : ℕ) (bs : List (List Numbered)) → size_of_rows (block_rows s k index bs) ≡ size_of_entries (in_blocks bs)
 size_of_blocks s k index [] = refl
 size_of_blocks s k index (b ∷ bs) =
-    size-rows (map (row_in s k index Block) b) (block_rows s k (index + 1) bs)
-    ∙ ap (λ n. n + size_of_rows (block_rows s k (index + 1) bs)) (size_of_mapped (row_in s k index Block) (λ x. refl) b)
-    ∙ ap (λ n. size_of_entries b + n) (size_of_blocks s k (index + 1) bs)
-    ∙ sym (sum_by-append (λ (q : Numbered). size_of q.entry) b (in_blocks bs))
+    omega (arith, size-rows (map (row_in s k index Block) b) (block_rows s k (index + 1) bs), size_of_mapped (row_in s k index Block) (λ x. refl) b, size_of_blocks s k (index + 1) bs, size-append b (in_blocks bs))
 
 pub block_rows-more : (s : StreamKey) (k index : ℕ) (bs : List (List Numbered)) (b : List Numbered) → block_rows s k index (bs ++ b ∷ []) ≡ block_rows s k index bs ++ map (row_in s k (index + length bs) Block) b
 block_rows-more s k index [] b = append-nil (map (row_in s k index Block) b) ∙ ap (λ i. map (row_in s k i Block) b) (omega arith)
@@ -265,8 +258,7 @@ module _ (rules : Rules) (s : StreamKey) (now : ℕ) (e : Entry) (c : ChunksCont
 
 pub reads_one : (rules : Rules) (s : StreamKey) (now : ℕ) (e : Entry) (c d : ChunksContents) (st : State) → AreChunks c → TakesOne rules now e c d → Reads s c st → Reads s d (accepted_as c.next rules s e now st)
 reads_one rules s now e c d st good takes reads =
+    let g = with_entry e c.next now (chunk_to_grow c) in
     subst (λ x. Reads s x (accepted_as c.next rules s e now st)) (sym takes.is)
     (subst (Reads s (taken_with takes.block rules now e c)) (sym (accepted_is rules s now e c good st reads takes.block))
-    (reads_placed rules s now e c good st reads takes.block takes.reorders
-    (nat_le rules.chunk_target_size (size_of_chunk (with_entry e c.next now (chunk_to_grow c))))
-    (nat_le rules.chunk_block_size (size_of_entries (with_entry e c.next now (chunk_to_grow c)).head))))
+    (reads_placed rules s now e c good st reads takes.block takes.reorders (is_full rules g) (is_to_cut rules g)))

@@ -1,21 +1,20 @@
 -- Sealing the growing chunk of a stream, in its chunks and in the model's state alike.
 use Rattle.std.proofs.Common.{◌≡◌, ◌≢◌, ℕ, ◌+◌, ◌<◌, Bool, true, false, cond, ◌&&◌, List, [], ◌∷◌, ◌++◌, length, map, filter, is_some, is_none, refl, sym, ap, subst, ◌∙◌, arith, Some, None, get_or}
 use Rattle.std.specs.Prelude.{Option, All, IsPermutation}
-use Rattle.std.specs.Option.{unwrap_or}
 use Rattle.std.proofs.lemmas.List.{map-append}
-use Rattle.std.proofs.lemmas.List.Elements.{All-nil, All-cons, All-head, All-tail, All-append, All-weaker, All-push}
-use Rattle.std.proofs.lemmas.List.Sorted.{IsPermutation-refl, IsPermutation-trans, IsPermutation-sym, IsPermutation-append, IsPermutation-append_comm, IsPermutation-append_left, IsPermutation-to_front}
+use Rattle.std.proofs.lemmas.List.Elements.{All-head, All-tail, All-append, All-weaker}
+use Rattle.std.proofs.lemmas.List.Sorted.{IsPermutation-refl, IsPermutation-trans, IsPermutation-append_comm, IsPermutation-append_left, IsPermutation-to_front}
 use Rattle.ing_rows.specs.declared.place.Place.TheVariants.{Head, Block}
 use Rattle.ing_rows.specs.declared.place.SealReason.{SealReason}
 use Rattle.ing_rows.specs.Rows.{StreamKey, Row, Mark, State, is_head, is_of_chunk}
 use Rattle.ing_rows.specs.Events.{sealed_count}
 use Rattle.ing_rows.specs.Steps.{given, moved, seal_of, is_sealed_now, seal_mark, Seals}
 use Rattle.ing_chunk.specs.declared.numbered.Numbered.{Numbered}
-use Rattle.ing_chunk.specs.Chunks.{ChunkContents, ChunksContents, count_in, row_in, block_rows, head_rows, mark_of, chunk_state, chunks_state, growing_state, stream_state, chunk_to_grow, empty_chunk, closes, Closes, SealsGrowing, AreChunks, IsWaiting, Waits, Grows, GrowsIfAny, starts_in, in_blocks, Covers, IsWhole, Follow}
+use Rattle.ing_chunk.specs.Chunks.{ChunkContents, ChunksContents, count_in, row_in, block_rows, head_rows, mark_of, chunks_state, growing_state, stream_state, chunk_to_grow, closes, Closes, SealsGrowing, AreChunks, Waits, Grows, GrowsIfAny, starts_in, in_blocks, Covers}
 use Rattle.ing_chunk.specs.Parts.{AreParts}
 use Rattle.std.proofs.lemmas.Bool.{and_right}
 use Rattle.ing_chunk.proofs.Added.{some_grows}
-use Rattle.ing_chunk.proofs.Covered.{covers_closed, some_blocks, count_small, follow_push}
+use Rattle.ing_chunk.proofs.Covered.{covers_closed, some_blocks, count_small}
 use Rattle.ing_chunk.proofs.Sums.{block_count-more, block_starts-more}
 use Rattle.ing_chunk.proofs.Turned.{all_mark, all_marks, IsInHead, IsInBlock, to_block, all_head, all_block, other_rows, filter-none, map-all, map-none}
 use Rattle.ing_chunk.proofs.Followed.{closed_rows, waiting-more}

@@ -1,5 +1,5 @@
 -- Accepted entries, put into the chunks of their stream one after another.
-use Rattle.std.proofs.Common.{◌≡◌, ◌≢◌, ℕ, ◌+◌, ◌<◌, ◌≤◌, ◌^◌, Bool, true, false, List, [], ◌∷◌, ◌++◌, length, is_none, refl, sym, ap, subst, ◌∙◌, arith, nat_le, append_assoc, Some, None, length-append, cond, min, nat_eq}
+use Rattle.std.proofs.Common.{◌≡◌, ◌≢◌, ℕ, ◌+◌, ◌<◌, ◌≤◌, ◌^◌, Bool, true, false, List, [], ◌∷◌, ◌++◌, length, is_none, refl, sym, ap, subst, ◌∙◌, arith, nat_le, Some, None, length-append, cond, min, nat_eq}
 use Rattle.std.proofs.lemmas.Bool.Decides.{nat_tests}
 use Rattle.std.proofs.lemmas.List.Sums.{sum_by_push}
 use Rattle.std.specs.Prelude.{Option, All, IsPermutation}
@@ -12,7 +12,7 @@ use Rattle.ing_rows.specs.declared.rules.Rules.{Rules}
 use Rattle.ing_rows.specs.Rows.{StreamKey, State, IsSame}
 use Rattle.ing_rows.specs.Steps.{accepted_as, accepted_in_turn}
 use Rattle.ing_chunk.specs.declared.numbered.Numbered.{Numbered}
-use Rattle.ing_chunk.specs.Chunks.{ChunkContents, ChunksContents, size_of_entries, size_of_chunk, count_in, block_rows, head_rows, chunks_state, growing_state, stream_state, with_entry, with_block, chunk_to_grow, empty_chunk, placed, TakesOne, Takes, AreBlocks, AreChunks, IsWaiting, Waits, GrowsIfAny, starts_in, Covers, Follow}
+use Rattle.ing_chunk.specs.Chunks.{ChunkContents, ChunksContents, size_of_chunk, count_in, block_rows, head_rows, chunks_state, growing_state, stream_state, with_entry, with_block, chunk_to_grow, empty_chunk, placed, TakesOne, Takes, AreBlocks, AreChunks, is_full, is_to_cut, IsWaiting, Waits, GrowsIfAny, starts_in, Covers, Follow}
 use Rattle.ing_chunk.specs.Parts.{AreParts, IsShort}
 use Rattle.ing_chunk.proofs.Covered.{covers_more, covers_closed, some_blocks, count_small, follow_push}
 use Rattle.ing_chunk.proofs.Sums.{block_size-more, block_count-more, block_starts-more, blocks-more}
@@ -62,8 +62,7 @@ placed_next false false block g c = refl
 pub next_one : (rules : Rules) (now : ℕ) (e : Entry) (c d : ChunksContents) → TakesOne rules now e c d → d.next ≡ c.next + 1
 next_one rules now e c d takes =
     let g = with_entry e c.next now (chunk_to_grow c) in
-    ap (λ (x : ChunksContents). x.next) takes.is
-    ∙ placed_next (nat_le rules.chunk_target_size (size_of_chunk g)) (nat_le rules.chunk_block_size (size_of_entries g.head)) takes.block g c
+    ap (λ (x : ChunksContents). x.next) takes.is ∙ placed_next (is_full rules g) (is_to_cut rules g) takes.block g c
 
 -- the first number is that of the first entry alone
 first_is : (n first count begun : ℕ) (b : Bool) → nat_eq n first ≡ b → first + count ≡ n → begun ≡ min 1 count → begun + cond b 1 0 ≡ 1
@@ -143,11 +142,8 @@ below_target target size h below = let less : size < target = grind (arith, nat_
 
 pub chunks_one : (rules : Rules) (now : ℕ) (e : Entry) (c d : ChunksContents) → AreChunks c → c.next < 2 ^ 62 → rules.chunk_target_size ≤ 2 ^ 30 → IsShort e → TakesOne rules now e c d → AreChunks d
 chunks_one rules now e c d good room target short takes =
-    subst AreChunks (sym takes.is)
-    (placed_chunks e now c good room short takes.block takes.reorders
-    (nat_le rules.chunk_target_size (size_of_chunk (with_entry e c.next now (chunk_to_grow c))))
-    (nat_le rules.chunk_block_size (size_of_entries (with_entry e c.next now (chunk_to_grow c)).head))
-    (below_target rules.chunk_target_size (size_of_chunk (with_entry e c.next now (chunk_to_grow c))) target))
+    let g = with_entry e c.next now (chunk_to_grow c) in
+    subst AreChunks (sym takes.is) (placed_chunks e now c good room short takes.block takes.reorders (is_full rules g) (is_to_cut rules g) (below_target rules.chunk_target_size (size_of_chunk g) target))
 
 -- ---- the state follows
 

@@ -1,14 +1,13 @@
 -- Entries that reach no size go into the head together.
-use Rattle.std.proofs.Common.{◌≡◌, ℕ, ◌+◌, ◌<◌, false, List, [], ◌∷◌, ◌++◌, length, nat_le, refl, sym, ap, subst, ◌∙◌, arith, append_assoc, Some}
+use Rattle.std.proofs.Common.{◌≡◌, ℕ, ◌+◌, ◌<◌, false, List, [], ◌∷◌, ◌++◌, length, nat_le, refl, sym, ap, subst, ◌∙◌, arith, append_assoc, length-append, Some}
 use Rattle.std.proofs.lemmas.Bool.Decides.{nat_tests}
 use Rattle.std.proofs.lemmas.List.Sorted.{IsPermutation-refl}
-use Rattle.std.proofs.lemmas.List.Sums.{sum_by-cons}
+use Rattle.std.proofs.lemmas.List.Sums.{sum_by-cons, sum_by_push}
 use Rattle.ing_rows.specs.declared.entry.Entry.{Entry}
 use Rattle.ing_rows.specs.declared.rules.Rules.{Rules}
 use Rattle.ing_rows.specs.Rows.{size_of}
 use Rattle.ing_chunk.specs.declared.numbered.Numbered.{Numbered}
 use Rattle.ing_chunk.specs.Chunks.{ChunkContents, ChunksContents, size_of_entries, size_of_chunk, size_of_all, with_entry, with_run, numbered_from, settled, is_full, is_to_cut, Settles, TakesOne, Takes}
-use Rattle.ing_chunk.proofs.Sums.{size-append}
 use Rattle.ing_chunk.proofs.Added.{takes_open, some_grows}
 
 pub not_reached : (size limit : ℕ) → size < limit → nat_le limit size ≡ false
@@ -22,7 +21,7 @@ module _ (rules : Rules) (now : ℕ) where
       → TakesOne rules now e c (record { next = c.next + 1; waiting = c.waiting; growing = Some (with_entry e c.next now g) })
   takes_in_head e c g some head whole =
       let more : ChunkContents = with_entry e c.next now g in
-      let size : size_of_entries (g.head ++ record { number = c.next; entry = e } ∷ []) ≡ size_of_entries g.head + size_of e = size-append g.head (record { number = c.next; entry = e } ∷ []) ∙ ap (λ n. size_of_entries g.head + n) (sum_by-cons (λ (x : Numbered). size_of x.entry) (record { number = c.next; entry = e }) [] ∙ omega arith) in
+      let size : size_of_entries (g.head ++ record { number = c.next; entry = e } ∷ []) ≡ size_of_entries g.head + size_of e = sum_by_push (λ (x : Numbered). size_of x.entry) g.head (record { number = c.next; entry = e }) in
       let full : is_full rules more ≡ false = not_reached (size_of_chunk more) rules.chunk_target_size (omega (arith, size)) in
       let cut : is_to_cut rules more ≡ false = not_reached (size_of_entries more.head) rules.chunk_block_size (omega (arith, size)) in
       takes_open rules now e c more more (ap (with_entry e c.next now) (sym (some_grows c g some))) (stays more full cut) full
@@ -37,7 +36,7 @@ module _ (rules : Rules) (now : ℕ) where
       let size = sum_by-cons size_of e (f ∷ es) in
       let more : ChunkContents = with_entry e c.next now g in
       let mid : ChunksContents = record { next = c.next + 1; waiting = c.waiting; growing = Some more } in
-      let bigger : size_of_entries (g.head ++ record { number = c.next; entry = e } ∷ []) ≡ size_of_entries g.head + size_of e = size-append g.head (record { number = c.next; entry = e } ∷ []) ∙ ap (λ n. size_of_entries g.head + n) (sum_by-cons (λ (x : Numbered). size_of x.entry) (record { number = c.next; entry = e }) [] ∙ omega arith) in
+      let bigger : size_of_entries (g.head ++ record { number = c.next; entry = e } ∷ []) ≡ size_of_entries g.head + size_of e = sum_by_push (λ (x : Numbered). size_of x.entry) g.head (record { number = c.next; entry = e }) in
       let rest = takes_run (f ∷ es) mid more (omega arith) refl (omega (arith, size, bigger)) (omega (arith, size, bigger)) in
       let next : c.next + 1 + length (f ∷ es) ≡ c.next + length (e ∷ f ∷ es) = omega arith in
       let joined : more.head ++ numbered_from (c.next + 1) (f ∷ es) ≡ g.head ++ numbered_from c.next (e ∷ f ∷ es) = append_assoc g.head (record { number = c.next; entry = e } ∷ []) (numbered_from (c.next + 1) (f ∷ es)) in (
@@ -49,3 +48,6 @@ module _ (rules : Rules) (now : ℕ) where
 pub length_numbered : (n : ℕ) (es : List Entry) → length (numbered_from n es) ≡ length es
 length_numbered n [] = refl
 length_numbered n (e ∷ es) = omega (arith, length_numbered (n + 1) es)
+
+pub length_run : (n : ℕ) (head new : List Numbered) (es : List Entry) → new ≡ head ++ numbered_from n es → length new ≡ length head + length es
+length_run n head new es is = omega (arith, ap length is, length-append head (numbered_from n es), length_numbered n es)

@@ -1,5 +1,5 @@
 -- One accepted entry, put into the chunks of its stream and into the model's state alike.
-use Rattle.std.proofs.Common.{◌≡◌, ℕ, ◌+◌, ◌<◌, Bool, true, false, cond, ◌&&◌, ◌||◌, List, [], ◌∷◌, ◌++◌, length, map, filter, find, refl, sym, ap, ◌∙◌, arith, nat_eq, nat_le, bytes_eq, append_assoc, append-nil, Some, None, get_or, subst}
+use Rattle.std.proofs.Common.{◌≡◌, ℕ, ◌+◌, ◌<◌, Bool, true, false, cond, ◌&&◌, List, [], ◌∷◌, ◌++◌, length, map, filter, find, refl, sym, ap, ◌∙◌, arith, nat_eq, nat_le, append_assoc, append-nil, Some, None, get_or, subst}
 use Rattle.std.specs.Prelude.{All, Option}
 use Rattle.std.specs.Option.{unwrap_or}
 use Rattle.std.proofs.lemmas.Bool.Decides.{nat_tests}
@@ -85,9 +85,12 @@ module _ (P : Row → Type 0) (s : StreamKey) where
       let closed = subst (λ l. All P (map (row_in s c.first (length c.blocks) Head) l ++ block_rows s c.first 0 c.blocks)) (sym here.whole.closed) (all_closed c.first 0 (h c here) c.blocks) in
       All-append P (chunk_state s c).rows (chunks_state s cs).rows closed (all_waiting k cs (All-tail (IsWaiting k) c cs waits) h)
 
+  pub all_chunk : (c : ChunkContents) → ((i : ℕ) (e : Numbered) → P (row_in s c.first i Head e) × P (row_in s c.first i Block e)) → All P (chunk_state s c).rows
+  all_chunk c h = All-append P (head_rows s c) (block_rows s c.first 0 c.blocks) (all_placed c.first (length c.blocks) Head (λ e. (h (length c.blocks) e).0) c.head) (all_closed c.first 0 (λ i e. (h i e).1) c.blocks)
+
   pub all_growing : (o : Option ChunkContents) → ((g : ChunkContents) → o ≡ Some g → (i : ℕ) (e : Numbered) → P (row_in s g.first i Head e) × P (row_in s g.first i Block e)) → All P (growing_state s o).rows
   all_growing None h = All-nil P
-  all_growing (Some g) h = All-append P (head_rows s g) (block_rows s g.first 0 g.blocks) (all_placed g.first (length g.blocks) Head (λ e. (h g refl (length g.blocks) e).0) g.head) (all_closed g.first 0 (λ i e. (h g refl i e).1) g.blocks)
+  all_growing (Some g) h = all_chunk g (h g refl)
 
 module _ (P : Mark → Type 0) (s : StreamKey) where
   pub all_marks : (k : ℕ) (cs : List ChunkContents) → Waits k cs → ((c : ChunkContents) → IsWaiting k c → P (mark_of s c)) → All P (chunks_state s cs).marks

@@ -1,6 +1,6 @@
-use Rattle.std.proofs.Common.{[], None, refl, ap, sym, subst, arith}
+use Rattle.std.proofs.Common.{refl, ap, subst, arith}
 use Rattle.ing_rows.specs.declared.place.SealReason.TheVariants.{Full}
-use Rattle.ing_chunk.specs.Chunks.{ChunkContents, ChunksContents, SealsChunk, Takes, count_in, empty_chunk, size_of_chunk}
+use Rattle.ing_chunk.specs.Chunks.{ChunkContents, SealsChunk, count_in, empty_chunk, size_of_chunk}
 use Rattle.ing_chunk.specs.KeptChunks.{chunks_of}
 use Rattle.ing_chunk.proofs.Behind.{continues_full, sealed_nothing}
 use Rattle.ing_chunk.proofs.chunks.later.Later.of_others.Goals as goal

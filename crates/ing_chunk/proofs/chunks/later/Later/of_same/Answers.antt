@@ -1,10 +1,9 @@
-use Rattle.std.proofs.Common.{◌≡◌, ◌<◌, List, [], ◌∷◌, ◌++◌, length, get_or, take, drop, None, refl, ap, sym, subst, ◌∙◌, arith, true, is_none}
+use Rattle.std.proofs.Common.{◌≡◌, ◌<◌, List, [], ◌∷◌, ◌++◌, length, get_or, take, drop, refl, ap, sym, ◌∙◌, arith, true, is_none}
 use Rattle.std.specs.Prelude.{sum_by}
 use Rattle.std.specs.Option.{unwrap_or}
 use Rattle.std.proofs.lemmas.Grind.{common_steps}
 use Rattle.std.proofs.lemmas.List.Sums.{sum_by-cons}
-use Rattle.ing_chunk.specs.Behind.{TakesBehind}
-use Rattle.ing_chunk.specs.Chunks.{ChunkContents, ChunksContents, chunk_to_grow, count_in, size_of_chunk}
+use Rattle.ing_chunk.specs.Chunks.{ChunkContents, chunk_to_grow, count_in, size_of_chunk}
 use Rattle.ing_chunk.specs.KeptChunks.{chunks_of}
 use Rattle.ing_chunk.proofs.Behind.{continues_growing, continues_sealed}
 use Rattle.ing_chunk.proofs.Taken.{next_of}
