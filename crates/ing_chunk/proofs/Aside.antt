@@ -1,5 +1,5 @@
 -- Entries that are put into a copy beside the chunks that wait.
-use Rattle.std.proofs.Common.{◌≡◌, ℕ, ◌+◌, ◌≤◌, ◌^◌, Bool, true, false, List, [], ◌∷◌, ◌++◌, length, refl, sym, ap, subst, ◌∙◌, arith, append_assoc, append-nil, length-append, None}
+use Rattle.std.proofs.Common.{◌≡◌, ℕ, ◌+◌, ◌≤◌, ◌^◌, Bool, true, false, List, [], ◌∷◌, ◌++◌, length, refl, sym, ap, subst, ◌∙◌, arith, append_assoc, length-append, None}
 use Rattle.std.specs.Prelude.{All, sum_by}
 use Rattle.std.proofs.lemmas.List.Elements.{All-nil, All-head, All-tail}
 use Rattle.std.proofs.lemmas.List.Sums.{sum_by_push}
@@ -54,7 +54,5 @@ count_all rules now (e ∷ es) c d good room target short (mid, one, rest) =
     let next = next_one rules now e c mid one in
     omega (arith, count_one rules now e c mid good one, count_all rules now es mid d (chunks_one rules now e c mid good (omega arith) target (All-head IsShort e es short) one) (omega arith) target (All-tail IsShort e es short) rest)
 
-pub takes_aside : (rules : Rules) (now : ℕ) (es : List Entry) (c start aside new : ChunksContents) → start ≡ record c { waiting = [] } → Takes rules now es start aside → new ≡ framed c.waiting aside → Takes rules now es c new
-takes_aside rules now es c start aside new begun takes is =
-    let whole : framed c.waiting start ≡ c = ap (framed c.waiting) begun ∙ (λ i. record c { waiting = append-nil c.waiting i }) in
-    subst (λ x. Takes rules now es c x) (sym is) (subst (λ x. Takes rules now es x (framed c.waiting aside)) whole (takes_framed rules now es c.waiting start aside takes))
+pub takes_same : (rules : Rules) (now : ℕ) (es : List Entry) {a b c d : ChunksContents} → a ≡ b → c ≡ d → Takes rules now es a c → Takes rules now es b d
+takes_same rules now es {b = b} {c = c} p q h = subst (Takes rules now es b) q (subst (λ x. Takes rules now es x c) p h)

@@ -12,7 +12,7 @@ use Rattle.ing_chunk.specs.Chunks.{AreChunks, ChunkContents, ChunksContents, IsW
 use Rattle.ing_chunk.specs.Behind.{CanStand, GoesOn, IsCounted, HasRoom, Reaches, IsClosed, Continues, TakesBehind, behind, behind_as, closed_into, is_reached, joined, put_as, put_behind, rules_as}
 use Rattle.ing_chunk.specs.declared.chunks.later.Later.{Later}
 use Rattle.std.proofs.lemmas.List.Elements.{All-head}
-use Rattle.ing_chunk.proofs.Aside.{count_all, framed, takes_framed}
+use Rattle.ing_chunk.proofs.Aside.{count_all, framed, takes_framed, takes_same}
 use Rattle.ing_chunk.proofs.Stands.{stands_all, up_to_next}
 use Rattle.ing_chunk.proofs.Taken.{next_of}
 use Rattle.std.proofs.lemmas.List.Sorted.{IsPermutation-refl}
@@ -203,9 +203,7 @@ module _ (rules : Rules) (now size : ℕ) (es : List Entry) (next : ℕ) (d seen
       ap (framed (before ++ full ∷ [])) (sym was)
       ∙ (λ i. record { next = (sym next_is) i; waiting = (append_assoc before (full ∷ []) d.waiting ∙ (λ j. before ++ (sym whole) j ∷ (sym sealed) j)) i; growing = (sym growing) i })
       ∙ ap (λ b. put_as b g before later) (sym (ap (λ (x : ChunkContents). is_none x.reason) tail)) in
-      both from to (takes_framed rules now es (before ++ full ∷ []) start seen takes) where
-        both : {a b c d : ChunksContents} → a ≡ b → c ≡ d → Takes rules now es a c → Takes rules now es b d
-        both {b = b} {c = c} p q h = subst (Takes rules now es b) q (subst (λ x. Takes rules now es x c) p h)
+      takes_same rules now es from to (takes_framed rules now es (before ++ full ∷ []) start seen takes)
 
   module _ (below : size < rules.chunk_target_size) (good : AreChunks d) (takes : TakesBehind rules now size es start seen) where
     continues : ((g : ChunkContents) (before : List ChunkContents) → behind g before d ≡ put_behind g before later) → Continues rules now size next es later
@@ -213,8 +211,7 @@ module _ (rules : Rules) (now size : ℕ) (es : List Entry) (next : ℕ) (d seen
         let none : ChunksContents = record { next = next; waiting = []; growing = None } in
         let from : behind g before none ≡ closed_into (nat_le rules.chunk_target_size size) g next before =
         (λ i. record { next = next; waiting = before; growing = Some (joined_nothing now next g closed i) }) ∙ ap (λ b. closed_into b g next before) (sym (not_reached size rules.chunk_target_size below)) in
-        subst (λ x. Takes rules now es x (put_behind g before later)) (ap (behind g before) begun ∙ from)
-        (subst (Takes rules now es (behind g before start)) (ap (behind g before) (sym was) ∙ to g before) (takes g before closed sized))
+        takes_same rules now es (ap (behind g before) begun ∙ from) (ap (behind g before) (sym was) ∙ to g before) (takes g before closed sized)
 
     -- the chunk itself goes on to grow
     pub continues_growing : d.waiting ≡ [] → later.tail ≡ chunk_to_grow d → Continues rules now size next es later

@@ -1,5 +1,5 @@
 -- The model's state follows the chunks of a stream, acceptance by acceptance.
-use Rattle.std.proofs.Common.{◌≡◌, ◌≢◌, ℕ, ◌+◌, ◌<◌, max, Bool, true, false, cond, List, [], ◌∷◌, ◌++◌, length, map, find, is_none, refl, sym, ap, subst, ◌∙◌, arith, nat_le, append_assoc, append-nil, Some, None, length-append}
+use Rattle.std.proofs.Common.{◌≡◌, ◌≢◌, ℕ, ◌+◌, max, Bool, true, false, cond, List, [], ◌∷◌, ◌++◌, length, map, find, is_none, refl, sym, ap, subst, ◌∙◌, arith, nat_le, append_assoc, append-nil, Some, None, length-append}
 use Rattle.std.specs.Prelude.{Option, All, IsPermutation}
 use Rattle.std.specs.Option.{option_map, unwrap_or}
 use Rattle.std.proofs.lemmas.List.{map-append}
@@ -60,11 +60,9 @@ heads_no_blocks s k index (r ∷ h) b all =
     ∙ heads_no_blocks s k index h b (All-tail (IsInHead s k index) r h all)
 
 -- a closed head is one more block
-more_blocks : (s : StreamKey) (k index : ℕ) (h b : List Row) → All (IsInHead s k index) h → blocks_of b ≡ index → 0 < length h → blocks_of (map to_block h ++ b) ≡ index + 1
-more_blocks s k index [] b all many some = absurd (omega arith)
-more_blocks s k index (r ∷ []) b all many some = omega (arith, (All-head (IsInHead s k index) r [] all).block)
-more_blocks s k index (r ∷ q ∷ h) b all many some =
-    omega (arith, (All-head (IsInHead s k index) r (q ∷ h) all).block, more_blocks s k index (q ∷ h) b (All-tail (IsInHead s k index) r (q ∷ h) all) many (omega arith))
+more_blocks : (s : StreamKey) (k index : ℕ) (h b : List Row) → All (IsInHead s k index) h → blocks_of b ≡ index → max (index + 1) (blocks_of (map to_block h ++ b)) ≡ index + 1
+more_blocks s k index [] b all many = omega (arith, many)
+more_blocks s k index (r ∷ h) b all many = omega (arith, (All-head (IsInHead s k index) r h all).block, more_blocks s k index h b (All-tail (IsInHead s k index) r h all) many)
 
 -- ---- rows and sizes
 
@@ -89,17 +87,14 @@ blocks_of-block s k index [] rows some = absurd (some refl)
 blocks_of-block s k index (e ∷ []) rows some = refl
 blocks_of-block s k index (e ∷ f ∷ b) rows some = omega (arith, blocks_of-block s k index (f ∷ b) rows (λ none. cc))
 
-blocks_of-blocks : (s : StreamKey) (k index : ℕ) (bs : List (List Numbered)) → AreBlocks bs → 0 < length bs → blocks_of (block_rows s k index bs) ≡ index + length bs
-blocks_of-blocks s k index [] all some = absurd (omega arith)
-blocks_of-blocks s k index (b ∷ []) all some = blocks_of-block s k index b [] (All-head (λ (x : List Numbered). x ≢ []) b [] all) ∙ omega arith
-blocks_of-blocks s k index (b ∷ c ∷ bs) all some =
-    blocks_of-block s k index b (block_rows s k (index + 1) (c ∷ bs)) (All-head (λ (x : List Numbered). x ≢ []) b (c ∷ bs) all)
-    ∙ ap (max (index + 1)) (blocks_of-blocks s k (index + 1) (c ∷ bs) (All-tail (λ (x : List Numbered). x ≢ []) b (c ∷ bs) all) (omega arith))
-    ∙ omega arith
+blocks_of-blocks : (s : StreamKey) (k index : ℕ) (bs : List (List Numbered)) → AreBlocks bs → max index (blocks_of (block_rows s k index bs)) ≡ index + length bs
+blocks_of-blocks s k index [] all = omega arith
+blocks_of-blocks s k index (b ∷ bs) all =
+    let here = blocks_of-block s k index b (block_rows s k (index + 1) bs) (All-head (λ (x : List Numbered). x ≢ []) b bs all) in
+    omega (arith, here, blocks_of-blocks s k (index + 1) bs (All-tail (λ (x : List Numbered). x ≢ []) b bs all))
 
 pub all_blocks : (s : StreamKey) (k : ℕ) (bs : List (List Numbered)) → AreBlocks bs → blocks_of (block_rows s k 0 bs) ≡ length bs
-all_blocks s k [] all = refl
-all_blocks s k (b ∷ bs) all = blocks_of-blocks s k 0 (b ∷ bs) all (omega arith) ∙ omega arith
+all_blocks s k bs all = omega (arith, blocks_of-blocks s k 0 bs all)
 
 -- ---- the chunks that wait, and one more
 
@@ -240,7 +235,7 @@ module _ (rules : Rules) (s : StreamKey) (now : ℕ) (e : Entry) (c : ChunksCont
       blocks = block_rows';
       others = reads.others;
       sealed = reads.sealed;
-      many = more_blocks s k index h' reads.b in_heads' reads.many (omega arith) ∙ sym (length-append g.blocks (block ∷ []));
+      many = more_blocks s k index reads.h reads.b in_heads reads.many ∙ sym (length-append g.blocks (block ∷ []));
     }
     reads_placed false false = record {
       h = h';

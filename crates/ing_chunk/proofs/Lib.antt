@@ -1,6 +1,5 @@
 mod Added
 mod Aside
-mod Begun
 mod Behind
 pub mod Between
 mod Claimed

@@ -6,7 +6,7 @@ use Rattle.std.proofs.lemmas.List.Elements.{All-head, All-tail, All-append, All-
 use Rattle.std.proofs.lemmas.List.Sorted.{IsPermutation-refl, IsPermutation-trans, IsPermutation-append_comm, IsPermutation-append_left, IsPermutation-to_front}
 use Rattle.ing_rows.specs.declared.place.Place.TheVariants.{Head, Block}
 use Rattle.ing_rows.specs.declared.place.SealReason.{SealReason}
-use Rattle.ing_rows.specs.Rows.{StreamKey, Row, Mark, State, is_head, is_of_chunk}
+use Rattle.ing_rows.specs.Rows.{StreamKey, Row, Mark, is_head, is_of_chunk}
 use Rattle.ing_rows.specs.Events.{sealed_count}
 use Rattle.ing_rows.specs.Steps.{given, moved, seal_of, is_sealed_now, seal_mark, Seals}
 use Rattle.ing_chunk.specs.declared.numbered.Numbered.{Numbered}
@@ -16,7 +16,7 @@ use Rattle.std.proofs.lemmas.Bool.{and_right}
 use Rattle.ing_chunk.proofs.Added.{some_grows}
 use Rattle.ing_chunk.proofs.Covered.{covers_closed, some_blocks, count_small}
 use Rattle.ing_chunk.proofs.Sums.{block_count-more, block_starts-more}
-use Rattle.ing_chunk.proofs.Turned.{all_mark, all_marks, IsInHead, IsInBlock, to_block, all_head, all_block, other_rows, filter-none, map-all, map-none}
+use Rattle.ing_chunk.proofs.Turned.{all_closed, all_mark, all_marks, all_placed, all_waiting, head_row, to_block, filter-none, map-all, map-none}
 use Rattle.ing_chunk.proofs.Followed.{closed_rows, waiting-more}
 use Rattle.ing_chunk.proofs.Taken.{one_waits}
 
@@ -94,15 +94,6 @@ module _ (f : Mark → Option SealReason) where
   quiet_marks (m ∷ ms) h =
       λ i. given (All-head (λ (m : Mark). seal_of f m ≡ None) m ms h i) m ∷ quiet_marks ms (All-tail (λ (m : Mark). seal_of f m ≡ None) m ms h) i
 
-  none_moves : (ms : List Mark) → All (λ m. seal_of f m ≡ None) ms → (rows : List Row) → moved (λ r. is_head r.place && is_sealed_now f ms r) Block rows ≡ rows
-  none_moves ms h rows = map-none (λ r. is_head r.place && is_sealed_now f ms r) to_block rows (λ i d below. let r = get_or rows i d in and_right (is_head r.place) (is_sealed_now f ms r) (quiet_now ms r h))
-
-  pub quiet_state : (st : State) → All (λ m. seal_of f m ≡ None) st.marks → Seals f st st
-  quiet_state st h = record {
-    rows = subst (IsPermutation st.rows) (sym (none_moves st.marks h st.rows)) (IsPermutation-refl st.rows);
-    marks = subst (IsPermutation st.marks) (sym (quiet_marks st.marks h)) (IsPermutation-refl st.marks);
-  }
-
   -- none of them is sealed
   pub quiet_count : (ms : List Mark) → All (λ m. seal_of f m ≡ None) ms → sealed_count f ms ≡ 0
   quiet_count ms h = ap length (filter-none (λ m. is_some (seal_of f m)) ms (All-weaker (λ (m : Mark). seal_of f m ≡ None) (λ (m : Mark). is_some (seal_of f m) ≡ false) (λ m none. ap is_some none) ms h))
@@ -123,48 +114,30 @@ module _ (f : Mark → Option SealReason) (why : SealReason) (c d : ChunksConten
   abbrev ws : List Row
   ws = (chunks_state s c.waiting).rows
 
-  known : Grows c.next g
-  known = subst (GrowsIfAny c.next) seals.grows good.growing
-
   waits : Waits g.first c.waiting
   waits = subst (λ (x : ChunkContents). Waits x.first c.waiting) (some_grows c g seals.grows) good.waiting
 
   sealed_mark : seal_of f (mark_of s g) ≡ Some why
-  sealed_mark = ap (λ b. cond b (f (mark_of s g)) None) (ap is_none known.open_yet) ∙ reason
+  sealed_mark = ap (λ b. cond b (f (mark_of s g)) None) (ap is_none (subst (GrowsIfAny c.next) seals.grows good.growing).open_yet) ∙ reason
 
   quiet : All (λ m. seal_of f m ≡ None) ms
   quiet = waiting_quiet f s g.first c.waiting waits
 
-  now_sealed : (r : Row) → is_of_chunk s g.first r ≡ true → is_sealed_now f (mark_of s g ∷ ms) r ≡ true
-  now_sealed r h = ap (λ b. cond b (is_some (seal_of f (mark_of s g))) (is_sealed_now f ms r)) h ∙ ap is_some sealed_mark
-
-  -- a row that is in no head, or of no chunk that is sealed now
+  -- the rows in heads of chunks that are sealed now
   abbrev moves : Row → Bool
   moves r = is_head r.place && is_sealed_now f (mark_of s g ∷ ms) r
 
   heads_move : All (λ r. moves r ≡ true) (head_rows s g)
   heads_move =
-      All-weaker (IsInHead s g.first (length g.blocks)) (λ (r : Row). moves r ≡ true)
-      (λ r x. ap (λ b. b && is_sealed_now f (mark_of s g ∷ ms) r) x.head ∙ now_sealed r x.chunk)
-      (head_rows s g) (all_head s g.first (length g.blocks) g.head)
-
-  blocks_stay : All (λ r. moves r ≡ false) (block_rows s g.first 0 g.blocks)
-  blocks_stay =
-      All-weaker (IsInBlock s g.first) (λ (r : Row). moves r ≡ false)
-      (λ r x. ap (λ b. b && is_sealed_now f (mark_of s g ∷ ms) r) x.head)
-      (block_rows s g.first 0 g.blocks) (all_block s g.first 0 g.blocks)
-
-  others_stay : All (λ r. moves r ≡ false) ws
-  others_stay =
-      All-weaker (λ (r : Row). is_of_chunk s g.first r ≡ false) (λ (r : Row). moves r ≡ false)
-      (λ r x. and_right (is_head r.place) (is_sealed_now f (mark_of s g ∷ ms) r) (ap (λ b. cond b (is_some (seal_of f (mark_of s g))) (is_sealed_now f ms r)) x ∙ quiet_now f ms r quiet))
-      ws (other_rows s g.first c.waiting waits)
+      all_placed (λ (r : Row). moves r ≡ true) s g.first (length g.blocks) Head
+      (λ e. ap (λ b. cond b (is_some (seal_of f (mark_of s g))) (is_sealed_now f ms (row_in s g.first (length g.blocks) Head e))) (head_row s g.first (length g.blocks) e).chunk ∙ ap is_some sealed_mark) g.head
 
   rows_moved : moved moves Block ((head_rows s g ++ block_rows s g.first 0 g.blocks) ++ ws) ≡ (map to_block (head_rows s g) ++ block_rows s g.first 0 g.blocks) ++ ws
   rows_moved =
       map-append (λ r. cond (moves r) (to_block r) r) (head_rows s g ++ block_rows s g.first 0 g.blocks) ws
       ∙ (λ i. (map-append (λ r. cond (moves r) (to_block r) r) (head_rows s g) (block_rows s g.first 0 g.blocks)
-      ∙ (λ j. map-all moves to_block (head_rows s g) heads_move j ++ map-none moves to_block (block_rows s g.first 0 g.blocks) blocks_stay j)) i ++ map-none moves to_block ws others_stay i)
+      ∙ (λ j. map-all moves to_block (head_rows s g) heads_move j ++ map-none moves to_block (block_rows s g.first 0 g.blocks) (all_closed (λ (r : Row). moves r ≡ false) s g.first 0 (λ i e. refl) g.blocks) j)) i
+      ++ map-none moves to_block ws (all_waiting (λ (r : Row). moves r ≡ false) s g.first c.waiting waits (λ w here i e. refl)) i)
 
   marks_sealed : map (seal_mark f) (mark_of s g ∷ ms) ≡ record (mark_of s g) { reason = Some why } ∷ ms
   marks_sealed = λ i. given (sealed_mark i) (mark_of s g) ∷ quiet_marks f ms quiet i
@@ -214,7 +187,13 @@ module _ (f : Mark → Option SealReason) (c : ChunksContents) (good : AreChunks
         has_none false o h = refl
 
   pub none_sealed : Seals f (stream_state s c) (stream_state s c)
-  none_sealed = quiet_state f (stream_state s c) all_quiet
+  none_sealed =
+      let st = stream_state s c in
+      let stays = map-none (λ r. is_head r.place && is_sealed_now f st.marks r) to_block st.rows (λ i d below. let r = get_or st.rows i d in and_right (is_head r.place) (is_sealed_now f st.marks r) (quiet_now f st.marks r all_quiet)) in
+      record {
+        rows = subst (IsPermutation st.rows) (sym stays) (IsPermutation-refl st.rows);
+        marks = subst (IsPermutation st.marks) (sym (quiet_marks f st.marks all_quiet)) (IsPermutation-refl st.marks);
+      }
 
   pub none_counted : sealed_count f (stream_state s c).marks ≡ 0
   none_counted = quiet_count f (stream_state s c).marks all_quiet

@@ -1,5 +1,5 @@
 -- Chunks of a stream that can stand, and what is kept beside those that wait, as they change.
-use Rattle.std.proofs.Common.{◌≡◌, ℕ, ◌+◌, ◌*◌, ◌<◌, ◌≤◌, ◌^◌, List, [], ◌∷◌, ◌++◌, length, true, false, Some, None, refl, sym, ap, subst, ◌∙◌, arith}
+use Rattle.std.proofs.Common.{◌≡◌, ℕ, ◌+◌, ◌*◌, ◌<◌, ◌≤◌, ◌^◌, List, [], ◌∷◌, ◌++◌, length, true, false, Some, None, refl, sym, ap, subst, ◌∙◌, arith, append-nil}
 use Rattle.std.specs.Prelude.{All, is_some, sum_by, vec_len, vec_capacity}
 use Rattle.std.proofs.lemmas.List.Elements.{All-cons, All-nil}
 use Rattle.std.proofs.lemmas.List.Sums.{sum_by-append, sum_by-cons, sum_by_push}
@@ -12,7 +12,7 @@ use Rattle.ing_chunk.specs.Chunks.{ChunkContents, ChunksContents, AreChunks, Fit
 use Rattle.ing_chunk.specs.KeptChunks.{AreKept, chunks_of}
 use Rattle.ing_chunk.specs.Parts.{IsShort}
 use Rattle.ing_chunk.proofs.Added.{some_grows, takes_full, takes_open}
-use Rattle.ing_chunk.proofs.Aside.{count_all, framed, takes_aside}
+use Rattle.ing_chunk.proofs.Aside.{count_all, framed, takes_framed, takes_same}
 use Rattle.ing_chunk.proofs.Sealed.{chunks_sealed, count_sealed, sealed_is}
 use Rattle.ing_chunk.proofs.Taken.{chunks_all, next_of}
 use Rattle.ing_chunk.proofs.Together.{takes_run}
@@ -121,6 +121,5 @@ takes_extended rules now es c seen was good g grown some is any fits count many 
 pub takes_begun : (rules : Rules) (now : ℕ) (es : List Entry) (c seen start others aside : ChunksContents) → c ≡ seen → others ≡ aside → seen.growing ≡ None → start ≡ record { next = c.next; waiting = []; growing = None } → Takes rules now es start aside → (items : List ChunkContents) → items ≡ c.waiting ++ others.waiting
     → Takes rules now es c (record { next = others.next; waiting = items; growing = others.growing })
 takes_begun rules now es c seen start others aside was became none begun takes items is =
-    takes_aside rules now es c start aside (record { next = others.next; waiting = items; growing = others.growing })
-    (begun ∙ (λ i. record { next = c.next; waiting = []; growing = (sym (ap (λ (x : ChunksContents). x.growing) was ∙ none)) i })) takes
-    ((λ i. record { next = others.next; waiting = is i; growing = others.growing }) ∙ ap (framed c.waiting) became)
+    let from : framed c.waiting start ≡ c = ap (framed c.waiting) begun ∙ (λ i. record { next = c.next; waiting = append-nil c.waiting i; growing = (sym (ap (λ (x : ChunksContents). x.growing) was ∙ none)) i }) in
+    takes_same rules now es from (ap (framed c.waiting) (sym became) ∙ (λ i. record { next = others.next; waiting = (sym is) i; growing = others.growing })) (takes_framed rules now es c.waiting start aside takes)
