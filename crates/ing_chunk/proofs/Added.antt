@@ -1,9 +1,14 @@
--- One accepted entry: what the code's steps come to.
-use Rattle.std.proofs.Common.{◌≡◌, ℕ, ◌+◌, true, false, [], ◌∷◌, ◌++◌, sym, ap, subst, ◌∙◌, Some, None}
+-- Accepted entries: what the code's steps come to.
+use Rattle.std.proofs.Common.{◌≡◌, ℕ, ◌+◌, true, false, [], ◌∷◌, ◌++◌, sym, ap, subst, ◌∙◌, Some, None, ◌<◌, List, length, nat_le, refl, arith, append_assoc, length-append}
 use Rattle.std.specs.Option.{unwrap_or}
 use Rattle.ing_rows.specs.declared.entry.Entry.{Entry}
 use Rattle.ing_rows.specs.declared.rules.Rules.{Rules}
-use Rattle.ing_chunk.specs.Chunks.{ChunkContents, ChunksContents, with_entry, chunk_to_grow, empty_chunk, settled, placed, is_full, is_to_cut, Settles, TakesOne}
+use Rattle.ing_chunk.specs.Chunks.{ChunkContents, ChunksContents, with_entry, chunk_to_grow, empty_chunk, settled, placed, is_full, is_to_cut, Settles, TakesOne, size_of_entries, size_of_chunk, size_of_all, with_run, numbered_from, Takes}
+use Rattle.std.proofs.lemmas.Bool.Decides.{nat_tests}
+use Rattle.std.proofs.lemmas.List.Sorted.{IsPermutation-refl}
+use Rattle.std.proofs.lemmas.List.Sums.{sum_by-cons, sum_by_push}
+use Rattle.ing_rows.specs.Rows.{size_of}
+use Rattle.ing_chunk.specs.declared.numbered.Numbered.{Numbered}
 
 module _ (rules : Rules) (now : ℕ) (e : Entry) (c : ChunksContents) (g done : ChunkContents) (grew : g ≡ with_entry e c.next now (chunk_to_grow c)) (settles : Settles rules g done) where
   settles' : Settles rules (with_entry e c.next now (chunk_to_grow c)) done
@@ -38,3 +43,47 @@ none_grows c none = ap (λ o. unwrap_or o (empty_chunk c.next)) none
 
 pub some_grows : (c : ChunksContents) (g : ChunkContents) → c.growing ≡ Some g → chunk_to_grow c ≡ g
 some_grows c g some = ap (λ o. unwrap_or o (empty_chunk c.next)) some
+
+-- ---- entries that reach no size go into the head together
+
+pub not_reached : (size limit : ℕ) → size < limit → nat_le limit size ≡ false
+not_reached size limit h = grind (arith, nat_tests)
+
+module _ (rules : Rules) (now : ℕ) where
+  stays : (g : ChunkContents) → is_full rules g ≡ false → is_to_cut rules g ≡ false → Settles rules g g
+  stays g full cut = (g.head, IsPermutation-refl g.head, sym (ap (λ t. settled t (is_to_cut rules g) g.head g) full ∙ ap (λ t. settled false t g.head g) cut))
+
+  takes_in_head : (e : Entry) (c : ChunksContents) (g : ChunkContents) → c.growing ≡ Some g → size_of_entries g.head + size_of e < rules.chunk_block_size → size_of_chunk g + size_of e < rules.chunk_target_size
+      → TakesOne rules now e c (record { next = c.next + 1; waiting = c.waiting; growing = Some (with_entry e c.next now g) })
+  takes_in_head e c g some head whole =
+      let more : ChunkContents = with_entry e c.next now g in
+      let size : size_of_entries (g.head ++ record { number = c.next; entry = e } ∷ []) ≡ size_of_entries g.head + size_of e = sum_by_push (λ (x : Numbered). size_of x.entry) g.head (record { number = c.next; entry = e }) in
+      let full : is_full rules more ≡ false = not_reached (size_of_chunk more) rules.chunk_target_size (omega (arith, size)) in
+      let cut : is_to_cut rules more ≡ false = not_reached (size_of_entries more.head) rules.chunk_block_size (omega (arith, size)) in
+      takes_open rules now e c more more (ap (with_entry e c.next now) (sym (some_grows c g some))) (stays more full cut) full
+
+  pub takes_run : (es : List Entry) (c : ChunksContents) (g : ChunkContents) → 0 < length es → c.growing ≡ Some g → size_of_entries g.head + size_of_all es < rules.chunk_block_size → size_of_chunk g + size_of_all es < rules.chunk_target_size
+      → Takes rules now es c (record { next = c.next + length es; waiting = c.waiting; growing = Some (with_run (numbered_from c.next es) now g) })
+  takes_run [] c g any some head whole = absurd (omega arith)
+  takes_run (e ∷ []) c g any some head whole =
+      let size = sum_by-cons size_of e [] in
+      (record { next = c.next + 1; waiting = c.waiting; growing = Some (with_entry e c.next now g) }, takes_in_head e c g some (omega (arith, size)) (omega (arith, size)), refl)
+  takes_run (e ∷ f ∷ es) c g any some head whole =
+      let size = sum_by-cons size_of e (f ∷ es) in
+      let more : ChunkContents = with_entry e c.next now g in
+      let mid : ChunksContents = record { next = c.next + 1; waiting = c.waiting; growing = Some more } in
+      let bigger : size_of_entries (g.head ++ record { number = c.next; entry = e } ∷ []) ≡ size_of_entries g.head + size_of e = sum_by_push (λ (x : Numbered). size_of x.entry) g.head (record { number = c.next; entry = e }) in
+      let rest = takes_run (f ∷ es) mid more (omega arith) refl (omega (arith, size, bigger)) (omega (arith, size, bigger)) in
+      let next : c.next + 1 + length (f ∷ es) ≡ c.next + length (e ∷ f ∷ es) = omega arith in
+      let joined : more.head ++ numbered_from (c.next + 1) (f ∷ es) ≡ g.head ++ numbered_from c.next (e ∷ f ∷ es) = append_assoc g.head (record { number = c.next; entry = e } ∷ []) (numbered_from (c.next + 1) (f ∷ es)) in (
+        mid,
+        takes_in_head e c g some (omega (arith, size)) (omega (arith, size)),
+        subst (λ (x : ChunksContents). Takes rules now (f ∷ es) mid x) (λ i. record { next = next i; waiting = c.waiting; growing = Some (record g { head = joined i; last_update = now }) }) rest,
+      )
+
+pub length_numbered : (n : ℕ) (es : List Entry) → length (numbered_from n es) ≡ length es
+length_numbered n [] = refl
+length_numbered n (e ∷ es) = omega (arith, length_numbered (n + 1) es)
+
+pub length_run : (n : ℕ) (head new : List Numbered) (es : List Entry) → new ≡ head ++ numbered_from n es → length new ≡ length head + length es
+length_run n head new es is = omega (arith, ap length is, length-append head (numbered_from n es), length_numbered n es)

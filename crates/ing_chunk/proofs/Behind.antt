@@ -1,5 +1,5 @@
 -- Entries behind a head that they close.
-use Rattle.std.proofs.Common.{◌≡◌, ℕ, ◌+◌, ◌-◌, ◌<◌, ◌≤◌, ◌^◌, Bool, true, false, List, [], ◌∷◌, ◌++◌, length, take, drop, get_or, length-take, nat_le, refl, sym, ap, subst, ◌∙◌, arith, append_assoc, append-nil, length-append, Some, None, is_none}
+use Rattle.std.proofs.Common.{◌≡◌, ℕ, ◌+◌, ◌<◌, ◌≤◌, ◌^◌, Bool, true, false, List, [], ◌∷◌, ◌++◌, length, take, drop, get_or, length-take, nat_le, refl, sym, ap, subst, ◌∙◌, arith, append_assoc, append-nil, length-append, Some, None, is_none}
 use Rattle.std.specs.Prelude.{All, IsPermutation, sum_by}
 use Rattle.std.proofs.lemmas.Bool.Decides.{nat_tests}
 use Rattle.std.proofs.lemmas.List.Sums.{sum_by-append, sum_by-cons}
@@ -18,9 +18,8 @@ use Rattle.ing_chunk.proofs.Taken.{next_of}
 use Rattle.std.proofs.lemmas.List.Sorted.{IsPermutation-refl}
 use Rattle.std.proofs.lemmas.List.{take_more, take-append-drop}
 use Rattle.ing_chunk.specs.Parts.{IsShort}
-use Rattle.ing_chunk.proofs.Added.{takes_full, takes_open, some_grows}
+use Rattle.ing_chunk.proofs.Added.{takes_full, takes_open, some_grows, takes_run, length_run, not_reached}
 use Rattle.ing_chunk.proofs.Sums.{in_blocks-append, size-append, block_size-more, block_count-more}
-use Rattle.ing_chunk.proofs.Together.{takes_run, length_numbered, not_reached}
 
 pub takes_append : (rules : Rules) (now : ℕ) (xs ys : List Entry) (c mid d : ChunksContents) → Takes rules now xs c mid → Takes rules now ys mid d → Takes rules now (xs ++ ys) c d
 takes_append rules now [] ys c mid d h k = subst (λ x. Takes rules now ys x d) h k
@@ -30,10 +29,7 @@ takes_append rules now (x ∷ xs) ys c mid d (next, one, rest) k = (next, one, t
 
 module _ (g t : ChunkContents) (closed : g.head ≡ []) where
   pub size_joined : size_of_chunk (joined g t) ≡ size_of_chunk g + size_of_chunk t
-  size_joined =
-      let blocks : size_of_entries (in_blocks (g.blocks ++ t.blocks)) ≡ size_of_entries (in_blocks g.blocks) + size_of_entries (in_blocks t.blocks) =
-      ap size_of_entries (in_blocks-append g.blocks t.blocks) ∙ size-append (in_blocks g.blocks) (in_blocks t.blocks) in
-      omega (arith, blocks, ap size_of_entries closed)
+  size_joined = omega (arith, ap size_of_entries (in_blocks-append g.blocks t.blocks), size-append (in_blocks g.blocks) (in_blocks t.blocks), ap size_of_entries closed)
 
   pub count_joined : count_in (joined g t) ≡ count_in g + count_in t
   count_joined = omega (arith, ap length (in_blocks-append g.blocks t.blocks), length-append (in_blocks g.blocks) (in_blocks t.blocks), ap length closed)
@@ -41,11 +37,7 @@ module _ (g t : ChunkContents) (closed : g.head ≡ []) where
 -- ---- one more entry behind a closed head
 
 module _ (rules : Rules) (now : ℕ) (g : ChunkContents) (before : List ChunkContents) (size : ℕ) (closed : IsClosed now g) (sized : size_of_chunk g ≡ size) (below : size < rules.chunk_target_size) where
-  -- the rules for the tail
-  abbrev short : Rules
-  short = record rules { chunk_target_size = rules.chunk_target_size - size }
-
-  full_joined : (t : ChunkContents) → is_full rules (joined g t) ≡ is_full short t
+  full_joined : (t : ChunkContents) → is_full rules (joined g t) ≡ is_full (rules_as [] rules size) t
   full_joined t = let h = size_joined g t closed.head in grind (arith, nat_tests)
 
   with_joined : (e : Entry) (n : ℕ) (t : ChunkContents) → with_entry e n now (joined g t) ≡ joined g (with_entry e n now t)
@@ -70,11 +62,17 @@ module _ (rules : Rules) (now : ℕ) (g : ChunkContents) (before : List ChunkCon
       ∙ ap (λ (l : List ChunkContents). record { next = c.next + 1; waiting = l; growing = None }) (sym (append_assoc before (joined g t ∷ ts) (settled true cuts block h ∷ [])))
   placed_others false cuts block h t ts c some = ap (λ (l : List ChunkContents). behind_as l g before (placed false cuts block h c)) some
 
-  module _ (e : Entry) (c d : ChunksContents) where
-    step_tail : c.waiting ≡ [] → TakesOne short now e c d → TakesOne rules now e (behind g before c) (behind g before d)
-    step_tail none one =
-        let k = chunk_to_grow c in
-        let h = with_entry e c.next now k in
+  pub step_behind : (e : Entry) (c d : ChunksContents) → TakesOne (rules_as c.waiting rules size) now e c d → TakesOne rules now e (behind g before c) (behind g before d)
+  step_behind e c d one = by_waiting c.waiting refl one where
+    k : ChunkContents
+    k = chunk_to_grow c
+
+    h : ChunkContents
+    h = with_entry e c.next now k
+
+    by_waiting : (l : List ChunkContents) → c.waiting ≡ l → TakesOne (rules_as l rules size) now e c d → TakesOne rules now e (behind g before c) (behind g before d)
+    by_waiting [] none one =
+        let short = rules_as [] rules size in
         let there : ChunksContents = record { next = c.next; waiting = before; growing = Some (joined g k) } in
         let is : behind g before d ≡ taken_with one.block rules now e there =
         ap (behind g before) one.is
@@ -82,18 +80,9 @@ module _ (rules : Rules) (now : ℕ) (g : ChunkContents) (before : List ChunkCon
         ∙ ap (λ f. placed f (is_to_cut short h) one.block (joined g h) there) (sym (full_joined h))
         ∙ ap (λ x. placed (is_full rules x) (is_to_cut rules x) one.block x there) (sym (with_joined e c.next k)) in
         subst (λ x. TakesOne rules now e x (behind g before d)) (sym (ap (λ (l : List ChunkContents). behind_as l g before c) none)) (record { block = one.block; reorders = one.reorders; is = is })
-
-    step_others : (t : ChunkContents) (ts : List ChunkContents) → c.waiting ≡ t ∷ ts → TakesOne rules now e c d → TakesOne rules now e (behind g before c) (behind g before d)
-    step_others t ts some one =
-        let h = with_entry e c.next now (chunk_to_grow c) in
+    by_waiting (t ∷ ts) some one =
         let is = ap (behind g before) one.is ∙ placed_others (is_full rules h) (is_to_cut rules h) one.block h t ts c some in
         subst (λ x. TakesOne rules now e x (behind g before d)) (sym (ap (λ (l : List ChunkContents). behind_as l g before c) some)) (record { block = one.block; reorders = one.reorders; is = is })
-
-    pub step_behind : TakesOne (rules_as c.waiting rules size) now e c d → TakesOne rules now e (behind g before c) (behind g before d)
-    step_behind one = by_waiting c.waiting refl one where
-      by_waiting : (l : List ChunkContents) → c.waiting ≡ l → TakesOne (rules_as l rules size) now e c d → TakesOne rules now e (behind g before c) (behind g before d)
-      by_waiting [] none one = step_tail none one
-      by_waiting (t ∷ ts) some one = step_others t ts some one
 
 -- ---- the entries up to the one by which a size is reached
 
@@ -121,17 +110,14 @@ module _ (n now : ℕ) (es : List Entry) (some : 0 < length es) (g closed : Chun
   head_size : size_of_entries run.head ≡ size_of_entries g.head + size_of_all es
   head_size = size-append g.head (numbered_from n es) ∙ ap (λ m. size_of_entries g.head + m) (size_numbered n es)
 
-  head_count : length run.head ≡ length g.head + length es
-  head_count = length-append g.head (numbered_from n es) ∙ ap (λ m. length g.head + m) (length_numbered n es)
-
   closed_by : (block : List Numbered) × IsPermutation run.head block × (closed ≡ with_block block run)
-  closed_by = closes_some run.head run closed (omega (arith, head_count, some)) closes_it
+  closed_by = closes_some run.head run closed (omega (arith, length_run n g.head run.head es refl, some)) closes_it
 
   pub size_closed : size_of_chunk closed ≡ size_of_chunk g + size_of_all es
   size_closed = ap size_of_chunk closed_by.2 ∙ omega (arith, block_size-more g.blocks run.head closed_by.0 closed_by.1, head_size)
 
   pub count_closed : count_in closed ≡ count_in g + length es
-  count_closed = ap count_in closed_by.2 ∙ omega (arith, block_count-more g.blocks run.head closed_by.0 closed_by.1, head_count)
+  count_closed = ap count_in closed_by.2 ∙ omega (arith, block_count-more g.blocks run.head closed_by.0 closed_by.1, length_run n g.head run.head es refl)
 
   pub head_closed : closed.head ≡ []
   head_closed = ap (λ (x : ChunkContents). x.head) closed_by.2
@@ -303,7 +289,7 @@ module _ (rules : Rules) (now : ℕ) (p : List Entry) (e : Entry) (rest : List E
   one_closed = with_block first_filled.head first_filled
 
   one_closes : Closes first_filled one_closed
-  one_closes = closes_by first_filled.head first_filled first_filled.head (omega (arith, length-append g.head (numbered_from old.next front), length_numbered old.next front, some_front)) (IsPermutation-refl first_filled.head)
+  one_closes = closes_by first_filled.head first_filled first_filled.head (omega (arith, length_run old.next g.head first_filled.head front refl, some_front)) (IsPermutation-refl first_filled.head)
 
   takes_as : (b : Bool) → is_none later.tail.reason ≡ b → Takes rules now (front ++ rest) old (put_as b one_closed old.waiting later)
   takes_as b is = subst (λ x. Takes rules now (front ++ rest) old (put_as x one_closed old.waiting later)) is (takes_closed one_closed one_closes)

@@ -2,7 +2,6 @@ mod Added
 mod Aside
 mod Behind
 pub mod Between
-mod Claimed
 mod Covered
 mod Drained
 mod Due
@@ -14,6 +13,5 @@ mod Sealed
 mod Stands
 mod Sums
 mod Taken
-mod Together
 mod Turned
 mod Whole

@@ -11,11 +11,10 @@ use Rattle.ing_chunk.specs.Behind.{CanStand}
 use Rattle.ing_chunk.specs.Chunks.{ChunkContents, ChunksContents, AreChunks, Fits, SealsGrowing, Settles, Takes, TakesOne, chunk_to_grow, count_in, is_full, numbered_from, size_of_all, size_of_chunk, size_of_entries, with_entry, with_run}
 use Rattle.ing_chunk.specs.KeptChunks.{AreKept, chunks_of}
 use Rattle.ing_chunk.specs.Parts.{IsShort}
-use Rattle.ing_chunk.proofs.Added.{some_grows, takes_full, takes_open}
+use Rattle.ing_chunk.proofs.Added.{some_grows, takes_full, takes_open, takes_run}
 use Rattle.ing_chunk.proofs.Aside.{count_all, framed, takes_framed, takes_same}
 use Rattle.ing_chunk.proofs.Sealed.{chunks_sealed, count_sealed, sealed_is}
 use Rattle.ing_chunk.proofs.Taken.{chunks_all, next_of}
-use Rattle.ing_chunk.proofs.Together.{takes_run}
 
 pub can_stand : (a : Inside) → AreKept a → CanStand (chunks_of a)
 can_stand a kept = record { chunks = kept.chunks; few = omega (arith, kept.few, kept.count) }

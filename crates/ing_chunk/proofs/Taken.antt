@@ -93,15 +93,11 @@ module _ (e : Entry) (now : ℕ) (c : ChunksContents) (good : AreChunks c) (room
   covers_with : Covers (with_block block g)
   covers_with = covers_closed block g covers (omega (arith, more)) moved
 
-  same_size : size_of_chunk (with_block block g) ≡ size_of_chunk g
-  same_size = omega (arith, block_size-more g.blocks g.head block moved)
-
   placed_chunks : (full cuts : Bool) → (full ≡ false → size_of_chunk g < 2 ^ 30) → AreChunks (placed full cuts block g c)
   placed_chunks true cuts small =
       let known = next_of c good in
-      let many = block_count-more g.blocks g.head block moved in
       let done : ChunkContents = record (with_block block g) { reason = Some Full } in
-      let to : done.first + count_in done ≡ c.next + 1 = omega (arith, many, more, known.up_to) in
+      let to : done.first + count_in done ≡ c.next + 1 = omega (arith, block_count-more g.blocks g.head block moved, more, known.up_to) in
       one_waits c good (c.next + 1) done refl to (omega (arith, to, known.up_to)) (omega arith) refl refl (some_blocks g.blocks block) covers_with.parts (omega (arith, to, known.up_to, known.small, count_small (chunk_to_grow c))) begins_closed
   placed_chunks false true small =
       let known = next_of c good in
@@ -114,7 +110,7 @@ module _ (e : Entry) (now : ℕ) (c : ChunksContents) (good : AreChunks c) (room
           blocks = blocks-more g.blocks g.head block moved (omega (arith, more)) known.blocks;
           begins = begins_closed;
           covers = covers_with;
-          small = omega (arith, same_size, small refl);
+          small = omega (arith, block_size-more g.blocks g.head block moved, small refl);
         };
         waiting = good.waiting;
         in_turn = good.in_turn;

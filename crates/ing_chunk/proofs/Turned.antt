@@ -194,31 +194,21 @@ module _ (rules : Rules) (s : StreamKey) (k : ℕ) (b w : List Row) (m : List Ma
       map-append (λ (r : Row). cond (in_head s k r) (record r { place = Block }) r) h (b ++ w)
       ∙ (λ i. map-all (in_head s k) to_block h all i ++ map-none (in_head s k) to_block (b ++ w) no_heads i)
 
-  none_moved : (h : List Row) → All (λ r. in_head s k r ≡ false) h → moved (in_head s k) Block (h ++ (b ++ w)) ≡ h ++ (b ++ w)
-  none_moved h all = map-none (in_head s k) to_block (h ++ (b ++ w)) (All-append (λ (r : Row). in_head s k r ≡ false) h (b ++ w) all no_heads)
-
   mark_sealed : map (λ n. cond (is_mark_of s k n) (record n { reason = Some Full }) n) (mark ∷ m) ≡ record mark { reason = Some Full } ∷ m
   mark_sealed =
-      ap (λ t. cond t (record mark { reason = Some Full }) mark ∷ map (λ n. cond (is_mark_of s k n) (record n { reason = Some Full }) n) m) apart.marked
-      ∙ ap (λ l. record mark { reason = Some Full } ∷ l) (map-none (is_mark_of s k) (λ n. record n { reason = Some Full }) m (All-weaker (IsOther s k) (λ (n : Mark). is_mark_of s k n ≡ false) (λ n x. x.chunk) m apart.sealed))
-
-  sealed_is : (h new : List Row) → moved (in_head s k) Block (h ++ (b ++ w)) ≡ map to_block new ++ (b ++ w) → sealed Full s k (with_head h) ≡ full_with new
-  sealed_is h new e = λ i. record { rows = e i; marks = mark_sealed i }
+      rw apart.marked (ap (λ l. record mark { reason = Some Full } ∷ l) (map-none (is_mark_of s k) (λ n. record n { reason = Some Full }) m (All-weaker (IsOther s k) (λ (n : Mark). is_mark_of s k n ≡ false) (λ n x. x.chunk) m apart.sealed)))
 
   filled_is : (h new : List Row) → All (λ r. is_of_chunk s k r ≡ true) h → size_of_rows h ≡ size_of_rows new → moved (in_head s k) Block (h ++ (b ++ w)) ≡ map to_block new ++ (b ++ w)
       → filled rules s k (with_head h) ≡ cond (nat_le rules.chunk_target_size (size_of_rows new + size_of_rows b)) (full_with new) (with_head h)
   filled_is h new all size e =
       ap (λ rows. cond (nat_le rules.chunk_target_size (size_of_rows rows)) (sealed Full s k (with_head h)) (with_head h)) (chunk_only h all)
       ∙ ap (λ n. cond (nat_le rules.chunk_target_size n) (sealed Full s k (with_head h)) (with_head h)) (size-rows h b ∙ ap (λ n. n + size_of_rows b) size)
-      ∙ ap (λ st. cond (nat_le rules.chunk_target_size (size_of_rows new + size_of_rows b)) st (with_head h)) (sealed_is h new e)
+      ∙ ap (λ st. cond (nat_le rules.chunk_target_size (size_of_rows new + size_of_rows b)) st (with_head h)) {x = sealed Full s k (with_head h)} {y = full_with new} (λ i. record { rows = e i; marks = mark_sealed i })
 
   to_ended : (full cut : Bool) (h : List Row) → cond full (full_with h) (with_head (cond cut (map to_block h) h)) ≡ ended full cut h
   to_ended true cut h = refl
   to_ended false true h = refl
   to_ended false false h = refl
-
-  closed_chunk : (index : ℕ) (h : List Row) → All (IsInHead s k index) h → All (IsInBlock s k) (map to_block h)
-  closed_chunk index h all = All-map (IsInBlock s k) to_block h (All-weaker (IsInHead s k index) (λ (r : Row). IsInBlock s k (to_block r)) (λ r x. record { chunk = x.chunk; head = refl }) h all)
 
   pub finish : (index : ℕ) (h : List Row) → All (IsInHead s k index) h
       → filled rules s k (cut rules s k (with_head h)) ≡ ended (nat_le rules.chunk_target_size (size_of_rows h + size_of_rows b)) (nat_le rules.chunk_block_size (size_of_rows h)) h
@@ -227,12 +217,13 @@ module _ (rules : Rules) (s : StreamKey) (k : ℕ) (b w : List Row) (m : List Ma
       ∙ ap (λ l. cond (nat_le rules.chunk_block_size (size_of_rows h)) (record { rows = l; marks = mark ∷ m }) (with_head h)) (heads_moved h (heads index h all)))
       ∙ by_cases (nat_le rules.chunk_block_size (size_of_rows h)) where
         closed : All (IsInBlock s k) (map to_block h)
-        closed = closed_chunk index h all
+        closed = All-map (IsInBlock s k) to_block h (All-weaker (IsInHead s k index) (λ (r : Row). IsInBlock s k (to_block r)) (λ r x. record { chunk = x.chunk; head = refl }) h all)
 
         by_cases : (c : Bool) → filled rules s k (cond c (with_head (map to_block h)) (with_head h)) ≡ ended (nat_le rules.chunk_target_size (size_of_rows h + size_of_rows b)) c h
         by_cases true =
             filled_is (map to_block h) h (All-weaker (IsInBlock s k) (λ (r : Row). is_of_chunk s k r ≡ true) (λ r x. x.chunk) (map to_block h) closed) (size-to_block h)
-            (none_moved (map to_block h) (All-weaker (IsInBlock s k) (λ (r : Row). in_head s k r ≡ false) (λ r x. ap (λ t. t && is_head r.place) x.chunk ∙ x.head) (map to_block h) closed))
+            (map-none (in_head s k) to_block (map to_block h ++ (b ++ w)) (All-append (λ (r : Row). in_head s k r ≡ false) (map to_block h) (b ++ w)
+            (All-weaker (IsInBlock s k) (λ (r : Row). in_head s k r ≡ false) (λ r x. ap (λ t. t && is_head r.place) x.chunk ∙ x.head) (map to_block h) closed) no_heads))
             ∙ to_ended (nat_le rules.chunk_target_size (size_of_rows h + size_of_rows b)) true h
         by_cases false =
             filled_is h h (All-weaker (IsInHead s k index) (λ (r : Row). is_of_chunk s k r ≡ true) (λ r x. x.chunk) h all) refl (heads_moved h (heads index h all))
