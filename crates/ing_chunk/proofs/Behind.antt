@@ -18,7 +18,7 @@ use Rattle.ing_chunk.proofs.Taken.{next_of}
 use Rattle.std.proofs.lemmas.List.Sorted.{IsPermutation-refl}
 use Rattle.std.proofs.lemmas.List.{take_more, take-append-drop}
 use Rattle.ing_chunk.specs.Parts.{IsShort}
-use Rattle.ing_chunk.proofs.Added.{takes_full, takes_open, some_grows, takes_run, length_run, not_reached}
+use Rattle.ing_chunk.proofs.Added.{takes_settled, some_grows, takes_run, length_run, not_reached}
 use Rattle.ing_chunk.proofs.Sums.{in_blocks-append, size-append, block_size-more, block_count-more}
 
 pub takes_append : (rules : Rules) (now : ℕ) (xs ys : List Entry) (c mid d : ChunksContents) → Takes rules now xs c mid → Takes rules now ys mid d → Takes rules now (xs ++ ys) c d
@@ -144,8 +144,8 @@ module _ (rules : Rules) (now : ℕ) (p : List Entry) (e : Entry) (c : ChunksCon
       (by.0, by.1, by.2 ∙ λ i. settled ((sym full) i) ((sym cuts) i) by.0 filled)
 
   one_more : (mid : ChunksContents) (k : ChunkContents) → mid.growing ≡ Some k → filled ≡ with_entry e mid.next now k → (full : Bool) → is_full rules filled ≡ full → TakesOne rules now e mid (closed_into full closed (mid.next + 1) mid.waiting)
-  one_more mid k grows is true full = takes_full rules now e mid filled (record closed { reason = Some Full }) (is ∙ ap (with_entry e mid.next now) (sym (some_grows mid k grows))) (settles_full full) full
-  one_more mid k grows is false full = takes_open rules now e mid filled closed (is ∙ ap (with_entry e mid.next now) (sym (some_grows mid k grows))) (settles_cut full) full
+  one_more mid k grows is true full = takes_settled rules now e mid filled (record closed { reason = Some Full }) (is ∙ ap (with_entry e mid.next now) (sym (some_grows mid k grows))) (settles_full full) true full
+  one_more mid k grows is false full = takes_settled rules now e mid filled closed (is ∙ ap (with_entry e mid.next now) (sym (some_grows mid k grows))) (settles_cut full) false full
 
   pub takes_front : Takes rules now (p ++ e ∷ []) c (closed_into (is_full rules filled) closed (c.next + length (p ++ e ∷ [])) c.waiting)
   takes_front = by_front p refl where

@@ -11,7 +11,7 @@ use Rattle.ing_chunk.specs.Behind.{CanStand}
 use Rattle.ing_chunk.specs.Chunks.{ChunkContents, ChunksContents, AreChunks, Fits, SealsGrowing, Settles, Takes, TakesOne, chunk_to_grow, count_in, is_full, numbered_from, size_of_all, size_of_chunk, size_of_entries, with_entry, with_run}
 use Rattle.ing_chunk.specs.KeptChunks.{AreKept, chunks_of}
 use Rattle.ing_chunk.specs.Parts.{IsShort}
-use Rattle.ing_chunk.proofs.Added.{some_grows, takes_full, takes_open, takes_run}
+use Rattle.ing_chunk.proofs.Added.{some_grows, takes_settled, takes_run}
 use Rattle.ing_chunk.proofs.Aside.{count_all, framed, takes_framed, takes_same}
 use Rattle.ing_chunk.proofs.Sealed.{chunks_sealed, count_sealed, sealed_is}
 use Rattle.ing_chunk.proofs.Taken.{chunks_all, next_of}
@@ -92,13 +92,13 @@ module _ (rules : Rules) (now : ℕ) (e : Entry) (a b : Inside) (kept : AreKept 
       → b.waiting_count ≡ a.waiting_count + count → b.waiting_size ≡ a.waiting_size + size → AreKept b
   kept_full full count size none items =
       kept_one_more a b kept
-      (stands (subst (TakesOne rules now e (chunks_of a)) (λ i. record { next = (sym next) i; waiting = (sym items) i; growing = (sym none) i }) (takes_full rules now e (chunks_of a) added done grew settles full)))
+      (stands (subst (TakesOne rules now e (chunks_of a)) (λ i. record { next = (sym next) i; waiting = (sym items) i; growing = (sym none) i }) (takes_settled rules now e (chunks_of a) added done grew settles true full)))
       done count size none items
 
   pub kept_open : is_full rules added ≡ false → b.growing ≡ Some done → b.waiting.items ≡ a.waiting.items → b.waiting_count ≡ a.waiting_count → b.waiting_size ≡ a.waiting_size → (is_some b.growing ≡ true → vec_len b.waiting < vec_capacity b.waiting) → AreKept b
   kept_open full some items =
       kept_same a b kept
-      (stands (subst (TakesOne rules now e (chunks_of a)) (λ i. record { next = (sym next) i; waiting = (sym items) i; growing = (sym some) i }) (takes_open rules now e (chunks_of a) added done grew settles full)))
+      (stands (subst (TakesOne rules now e (chunks_of a)) (λ i. record { next = (sym next) i; waiting = (sym items) i; growing = (sym some) i }) (takes_settled rules now e (chunks_of a) added done grew settles false full)))
       items
 
 -- ---- entries that reach no size

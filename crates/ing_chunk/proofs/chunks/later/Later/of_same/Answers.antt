@@ -9,15 +9,11 @@ use Rattle.ing_chunk.proofs.Behind.{continues_growing, continues_sealed}
 use Rattle.ing_chunk.proofs.Taken.{next_of}
 use Rattle.ing_chunk.proofs.chunks.later.Later.of_same.Goals as goal
 
-first_of : (l rest : List ChunkContents) (x : ChunkContents) → 0 < length l → x ≡ get_or l 0 x → rest ≡ take 0 l ++ drop 1 l → l ≡ x ∷ rest
-first_of [] rest x some is others = absurd (omega arith)
-first_of (y ∷ l) rest x some is others = λ i. (sym is) i ∷ (sym others) i
-
 pub returns : goal.returns
 returns c =
     let d = chunks_of c.others.inside in
     let kept = c.others.invariant in
-    let first : d.waiting ≡ c.remove-tail.result ∷ c.remove-tail.new.self.items = first_of d.waiting c.remove-tail.new.self.items c.remove-tail.result (grind (arith, common_steps)) c.remove-tail.ensures.value c.remove-tail.ensures.by_index.2 in
+    let first : d.waiting ≡ c.remove-tail.result ∷ c.remove-tail.new.self.items = grind (arith, common_steps, c.remove-tail.ensures.value, c.remove-tail.ensures.by_index.2) in
     record {
       continues = continues_sealed c.args.rules.now c.args.now c.args.size c.args.entries.items c.args.next d c.add_behind.new.self c.from_number-others.result c.others.view_is c.from_number-others.ensures _ refl c.requires.below kept.chunks c.in_ok-add_behind.ensures c.remove-tail.result c.remove-tail.new.self.items first refl refl refl;
       counted = record {
