@@ -4,9 +4,9 @@ use Rattle.std.specs.Prelude.{Option, All, IsPermutation}
 use Rattle.std.specs.Option.{option_map, unwrap_or}
 use Rattle.std.proofs.lemmas.List.{map-append}
 use Rattle.std.proofs.lemmas.List.Folds.{list_any_none}
+use Rattle.std.proofs.lemmas.Simd.{map-map}
 use Rattle.std.proofs.lemmas.List.Elements.{All-cons, All-head, All-tail, All-weaker}
 use Rattle.std.proofs.lemmas.List.Sorted.{IsPermutation-refl, IsPermutation-trans, IsPermutation-map, IsPermutation-cons, IsPermutation-append, IsPermutation-to_front, IsPermutation-append_comm, IsPermutation-sym, All-permutation, sum_by-IsPermutation}
-use Rattle.std.proofs.lemmas.List.Sums.{sum_by-cons}
 use Rattle.ing_rows.specs.declared.entry.Entry.{Entry}
 use Rattle.ing_rows.specs.declared.place.Place.TheVariants.{Head, Block}
 use Rattle.ing_rows.specs.declared.place.SealReason.TheVariants.{Full}
@@ -16,7 +16,7 @@ use Rattle.ing_rows.specs.Steps.{is_growing, blocks_of, chunk_at, marks_at, cut,
 use Rattle.ing_chunk.specs.declared.numbered.Numbered.{Numbered}
 use Rattle.ing_chunk.specs.Chunks.{ChunkContents, ChunksContents, size_of_entries, size_of_chunk, in_blocks, row_in, block_rows, head_rows, mark_of, chunk_state, chunks_state, growing_state, with_entry, with_block, chunk_to_grow, empty_chunk, placed, taken_with, TakesOne, AreBlocks, AreChunks, GrowsIfAny, is_full, is_to_cut}
 use Rattle.ing_chunk.proofs.Sums.{size-append}
-use Rattle.ing_chunk.proofs.Turned.{IsInHead, IsInBlock, IsOther, Apart, to_block, stream_self, nat_self, head_row, all_head, all_block, other_rows, other_marks, not_block, size-rows, chunk_only, ended, finish, find-none, map-none}
+use Rattle.ing_chunk.proofs.Turned.{sum_by-map, IsInHead, IsInBlock, IsOther, Apart, to_block, stream_self, nat_self, head_row, all_head, all_block, other_rows, other_marks, not_block, size-rows, chunk_only, ended, finish, find-none, map-none}
 
 -- the model's state is that of the chunks: the rows of the growing chunk's head, of its blocks, and of the other chunks
 -- stand one after another, each in whatever order
@@ -56,8 +56,7 @@ module _ (s : StreamKey) (k n now : ℕ) (m : List Mark) (others : All (IsOther 
 heads_no_blocks : (s : StreamKey) (k index : ℕ) (h b : List Row) → All (IsInHead s k index) h → blocks_of (h ++ b) ≡ blocks_of b
 heads_no_blocks s k index [] b all = refl
 heads_no_blocks s k index (r ∷ h) b all =
-    ap (λ t. cond t (max (r.block + 1) (blocks_of (h ++ b))) (blocks_of (h ++ b))) (not_block r.place (All-head (IsInHead s k index) r h all).head)
-    ∙ heads_no_blocks s k index h b (All-tail (IsInHead s k index) r h all)
+    rw (not_block r.place (All-head (IsInHead s k index) r h all).head) (heads_no_blocks s k index h b (All-tail (IsInHead s k index) r h all))
 
 -- a closed head is one more block
 more_blocks : (s : StreamKey) (k index : ℕ) (h b : List Row) → All (IsInHead s k index) h → blocks_of b ≡ index → max (index + 1) (blocks_of (map to_block h ++ b)) ≡ index + 1
@@ -66,15 +65,10 @@ more_blocks s k index (r ∷ h) b all many = omega (arith, (All-head (IsInHead s
 
 -- ---- rows and sizes
 
-pub size_of_mapped : (f : Numbered → Row) → ((x : Numbered) → (f x).entry ≡ x.entry) → (es : List Numbered) → size_of_rows (map f es) ≡ size_of_entries es
-size_of_mapped f same [] = refl
-size_of_mapped f same (e ∷ es) =
-    omega (arith, sum_by-cons (λ (q : Row). size_of q.entry) (f e) (map f es), size_of_mapped f same es, ap size_of (same e), sum_by-cons (λ (q : Numbered). size_of q.entry) e es)
-
 pub size_of_blocks : (s : StreamKey) (k index : ℕ) (bs : List (List Numbered)) → size_of_rows (block_rows s k index bs) ≡ size_of_entries (in_blocks bs)
 size_of_blocks s k index [] = refl
 size_of_blocks s k index (b ∷ bs) =
-    omega (arith, size-rows (map (row_in s k index Block) b) (block_rows s k (index + 1) bs), size_of_mapped (row_in s k index Block) (λ x. refl) b, size_of_blocks s k (index + 1) bs, size-append b (in_blocks bs))
+    omega (arith, size-rows (map (row_in s k index Block) b) (block_rows s k (index + 1) bs), sum_by-map (λ (q : Row). size_of q.entry) (row_in s k index Block) b, size_of_blocks s k (index + 1) bs, size-append b (in_blocks bs))
 
 pub block_rows-more : (s : StreamKey) (k index : ℕ) (bs : List (List Numbered)) (b : List Numbered) → block_rows s k index (bs ++ b ∷ []) ≡ block_rows s k index bs ++ map (row_in s k (index + length bs) Block) b
 block_rows-more s k index [] b = append-nil (map (row_in s k index Block) b) ∙ ap (λ i. map (row_in s k i Block) b) (omega arith)
@@ -111,10 +105,7 @@ pub head_mapped : (s : StreamKey) (k index : ℕ) (block head : List Numbered) (
 head_mapped s k index block head h moved heads =
     IsPermutation-trans (map (row_in s k index Block) block) (map (row_in s k index Block) head) (map to_block h)
     (IsPermutation-map (row_in s k index Block) block head (IsPermutation-sym head block moved))
-    (subst (λ l. IsPermutation l (map to_block h)) (closed head) (IsPermutation-map to_block (map (row_in s k index Head) head) h heads)) where
-      closed : (es : List Numbered) → map to_block (map (row_in s k index Head) es) ≡ map (row_in s k index Block) es
-      closed [] = refl
-      closed (e ∷ es) = ap (λ l. row_in s k index Block e ∷ l) (closed es)
+    (subst (λ l. IsPermutation l (map to_block h)) (map-map to_block (row_in s k index Head) head) (IsPermutation-map to_block (map (row_in s k index Head) head) h heads))
 
 -- the rows of the blocks, with one more block, whose entries stood in the head
 pub closed_rows : (s : StreamKey) (k : ℕ) (bs : List (List Numbered)) (block head : List Numbered) (h b : List Row) → IsPermutation head block → IsPermutation (map (row_in s k (length bs) Head) head) h → IsPermutation (block_rows s k 0 bs) b → IsPermutation (block_rows s k 0 (bs ++ block ∷ [])) (map to_block h ++ b)
@@ -173,7 +164,7 @@ module _ (rules : Rules) (s : StreamKey) (now : ℕ) (e : Entry) (c : ChunksCont
   head_size : size_of_rows h' ≡ size_of_entries g'.head
   head_size =
       sum_by-IsPermutation (λ (q : Row). size_of q.entry) (map (row_in s k index Head) g'.head) h' heads'
-      ∙ size_of_mapped (row_in s k index Head) (λ x. refl) g'.head
+      ∙ sum_by-map (λ (q : Row). size_of q.entry) (row_in s k index Head) g'.head
 
   block_size : size_of_rows reads.b ≡ size_of_entries (in_blocks g.blocks)
   block_size =

@@ -1,12 +1,13 @@
 -- One accepted entry, put into the chunks of its stream and into the model's state alike.
 use Rattle.std.proofs.Common.{◌≡◌, ℕ, ◌+◌, ◌<◌, Bool, true, false, cond, ◌&&◌, List, [], ◌∷◌, ◌++◌, length, map, filter, find, refl, sym, ap, ◌∙◌, arith, nat_eq, nat_le, append_assoc, append-nil, Some, None, get_or, subst}
-use Rattle.std.specs.Prelude.{All, Option}
+use Rattle.std.specs.Prelude.{All, Option, sum, sum_by}
 use Rattle.std.specs.Option.{unwrap_or}
 use Rattle.std.proofs.lemmas.Bool.Decides.{nat_tests}
 use Rattle.std.proofs.lemmas.Slice.Eq.{bytes_eq-Decides}
 use Rattle.std.proofs.lemmas.List.{map-append}
+use Rattle.std.proofs.lemmas.Simd.{map-map}
 use Rattle.std.proofs.lemmas.List.Elements.{All-nil, All-cons, All-head, All-tail, All-append, All-map, All-weaker, filter-append}
-use Rattle.std.proofs.lemmas.List.Sums.{sum_by-append, sum_by-cons}
+use Rattle.std.proofs.lemmas.List.Sums.{sum-map, sum_by-append}
 use Rattle.ing_rows.specs.declared.place.Place.TheVariants.{Head, Block, Flight, Stored}
 use Rattle.ing_rows.specs.declared.place.Place.{Place}
 use Rattle.ing_rows.specs.declared.place.SealReason.TheVariants.{Full}
@@ -40,6 +41,9 @@ map-none p f (x ∷ xs) h =
 pub find-none : {X : Type 0} (p : X → Bool) (xs : List X) → All (λ x. p x ≡ false) xs → find p xs ≡ None
 find-none p [] h = refl
 find-none p (x ∷ xs) h = rw (All-head (λ y. p y ≡ false) x xs h) (find-none p xs (All-tail (λ y. p y ≡ false) x xs h))
+
+pub sum_by-map : {X Y : Type 0} (f : Y → ℕ) (g : X → Y) (xs : List X) → sum_by f (map g xs) ≡ sum_by (λ x. f (g x)) xs
+sum_by-map f g xs = sym (sum-map f (map g xs)) ∙ ap sum (map-map f g xs) ∙ sum-map (λ x. f (g x)) xs
 
 -- ---- a stream is itself
 
@@ -142,10 +146,6 @@ not_block (Stored key) h = refl
 pub size-rows : (xs ys : List Row) → size_of_rows (xs ++ ys) ≡ size_of_rows xs + size_of_rows ys
 size-rows xs ys = sum_by-append (λ (r : Row). size_of r.entry) xs ys
 
-size-to_block : (h : List Row) → size_of_rows (map to_block h) ≡ size_of_rows h
-size-to_block [] = refl
-size-to_block (r ∷ h) = sum_by-cons (λ (q : Row). size_of q.entry) (to_block r) (map to_block h) ∙ ap (λ n. size_of r.entry + n) (size-to_block h) ∙ sym (sum_by-cons (λ (q : Row). size_of q.entry) r h)
-
 pub record Apart (s : StreamKey) (k : ℕ) (b w : List Row) (m : List Mark) (mark : Mark) : Type 0 where
   pub blocks : All (IsInBlock s k) b
   pub others : All (λ r. is_of_chunk s k r ≡ false) w
@@ -221,7 +221,7 @@ module _ (rules : Rules) (s : StreamKey) (k : ℕ) (b w : List Row) (m : List Ma
 
         by_cases : (c : Bool) → filled rules s k (cond c (with_head (map to_block h)) (with_head h)) ≡ ended (nat_le rules.chunk_target_size (size_of_rows h + size_of_rows b)) c h
         by_cases true =
-            filled_is (map to_block h) h (All-weaker (IsInBlock s k) (λ (r : Row). is_of_chunk s k r ≡ true) (λ r x. x.chunk) (map to_block h) closed) (size-to_block h)
+            filled_is (map to_block h) h (All-weaker (IsInBlock s k) (λ (r : Row). is_of_chunk s k r ≡ true) (λ r x. x.chunk) (map to_block h) closed) (sum_by-map (λ (r : Row). size_of r.entry) to_block h)
             (map-none (in_head s k) to_block (map to_block h ++ (b ++ w)) (All-append (λ (r : Row). in_head s k r ≡ false) (map to_block h) (b ++ w)
             (All-weaker (IsInBlock s k) (λ (r : Row). in_head s k r ≡ false) (λ r x. ap (λ t. t && is_head r.place) x.chunk ∙ x.head) (map to_block h) closed) no_heads))
             ∙ to_ended (nat_le rules.chunk_target_size (size_of_rows h + size_of_rows b)) true h
