@@ -42,9 +42,6 @@ pub not_reached : (size limit : ℕ) → size < limit → nat_le limit size ≡ 
 not_reached size limit h = grind (arith, nat_tests)
 
 module _ (rules : Rules) (now : ℕ) where
-  stays : (g : ChunkContents) → is_full rules g ≡ false → is_to_cut rules g ≡ false → Settles rules g g
-  stays g full cut = (g.head, IsPermutation-refl g.head, λ i. settled ((sym full) i) ((sym cut) i) g.head g)
-
   takes_in_head : (e : Entry) (c : ChunksContents) (g : ChunkContents) → c.growing ≡ Some g → size_of_entries g.head + size_of e < rules.chunk_block_size → size_of_chunk g + size_of e < rules.chunk_target_size
       → TakesOne rules now e c (record { next = c.next + 1; waiting = c.waiting; growing = Some (with_entry e c.next now g) })
   takes_in_head e c g some head whole =
@@ -52,7 +49,7 @@ module _ (rules : Rules) (now : ℕ) where
       let size : size_of_entries (g.head ++ record { number = c.next; entry = e } ∷ []) ≡ size_of_entries g.head + size_of e = sum_by_push (λ (x : Numbered). size_of x.entry) g.head (record { number = c.next; entry = e }) in
       let full : is_full rules more ≡ false = not_reached (size_of_chunk more) rules.chunk_target_size (omega (arith, size)) in
       let cut : is_to_cut rules more ≡ false = not_reached (size_of_entries more.head) rules.chunk_block_size (omega (arith, size)) in
-      takes_settled rules now e c more more (ap (with_entry e c.next now) (sym (some_grows c g some))) (stays more full cut) false full
+      takes_settled rules now e c more more (ap (with_entry e c.next now) (sym (some_grows c g some))) (more.head, IsPermutation-refl more.head, λ i. settled ((sym full) i) ((sym cut) i) more.head more) false full
 
   pub takes_run : (es : List Entry) (c : ChunksContents) (g : ChunkContents) → 0 < length es → c.growing ≡ Some g → size_of_entries g.head + size_of_all es < rules.chunk_block_size → size_of_chunk g + size_of_all es < rules.chunk_target_size
       → Takes rules now es c (record { next = c.next + length es; waiting = c.waiting; growing = Some (with_run (numbered_from c.next es) now g) })
