@@ -180,11 +180,8 @@ module _ (f : Mark → Option SealReason) (c : ChunksContents) (good : AreChunks
   all_quiet : All (λ m. seal_of f m ≡ None) (stream_state s c).marks
   all_quiet =
       All-append (λ (m : Mark). seal_of f m ≡ None) (growing_state s c.growing).marks (chunks_state s c.waiting).marks
-      (all_mark (λ (m : Mark). seal_of f m ≡ None) s c.growing (λ g some. has_none (is_none g.reason) (f (mark_of s g)) (none g some)))
-      (waiting_quiet f s (chunk_to_grow c).first c.waiting good.waiting) where
-        has_none : (b : Bool) (o : Option SealReason) → o ≡ None → cond b o None ≡ None
-        has_none true o h = h
-        has_none false o h = refl
+      (all_mark (λ (m : Mark). seal_of f m ≡ None) s c.growing (λ g some. ap (λ b. cond b (f (mark_of s g)) None) (ap is_none (subst (GrowsIfAny c.next) some good.growing).open_yet) ∙ none g some))
+      (waiting_quiet f s (chunk_to_grow c).first c.waiting good.waiting)
 
   pub none_sealed : Seals f (stream_state s c) (stream_state s c)
   none_sealed =

@@ -1,5 +1,5 @@
 -- Accepted entries, put into the chunks of their stream one after another.
-use Rattle.std.proofs.Common.{◌≡◌, ◌≢◌, ℕ, ◌+◌, ◌<◌, ◌≤◌, ◌^◌, Bool, true, false, List, [], ◌∷◌, ◌++◌, length, is_none, refl, sym, ap, subst, ◌∙◌, arith, nat_le, Some, None, length-append, cond, min, nat_eq}
+use Rattle.std.proofs.Common.{◌≡◌, ◌≢◌, ℕ, ◌+◌, ◌<◌, ◌≤◌, ◌^◌, Bool, true, false, List, [], ◌∷◌, ◌++◌, length, is_none, refl, sym, ap, subst, ◌∙◌, arith, Some, None, length-append, cond, min, nat_eq}
 use Rattle.std.proofs.lemmas.Bool.Decides.{nat_tests}
 use Rattle.std.proofs.lemmas.List.Sums.{sum_by_push}
 use Rattle.std.specs.Prelude.{Option, All, IsPermutation}
@@ -64,11 +64,6 @@ next_one rules now e c d takes =
     let g = with_entry e c.next now (chunk_to_grow c) in
     ap (λ (x : ChunksContents). x.next) takes.is ∙ placed_next (is_full rules g) (is_to_cut rules g) takes.block g c
 
--- the first number is that of the first entry alone
-first_is : (n first count begun : ℕ) (b : Bool) → nat_eq n first ≡ b → first + count ≡ n → begun ≡ min 1 count → begun + cond b 1 0 ≡ 1
-first_is n first count begun true same up_to h = let eq : n ≡ first = grind (arith, nat_tests) in omega arith
-first_is n first count begun false other up_to h = let ne : n ≢ first = grind (arith, nat_tests) in omega arith
-
 module _ (e : Entry) (now : ℕ) (c : ChunksContents) (good : AreChunks c) (room : c.next < 2 ^ 62) (short : IsShort e) (block : List Numbered)
     (moved : IsPermutation (with_entry e c.next now (chunk_to_grow c)).head block) where
   abbrev g : ChunkContents
@@ -77,12 +72,11 @@ module _ (e : Entry) (now : ℕ) (c : ChunksContents) (good : AreChunks c) (room
   more : length g.head ≡ length (chunk_to_grow c).head + 1
   more = length-append (chunk_to_grow c).head (record { number = c.next; entry = e } ∷ [])
 
+  -- the first number is that of the first entry alone
   begins : starts_in g ≡ 1
   begins =
       let known = next_of c good in
-      let start : ℕ = cond (nat_eq c.next (chunk_to_grow c).first) 1 0 in
-      let one : starts_in (chunk_to_grow c) + start ≡ 1 = first_is c.next (chunk_to_grow c).first (count_in (chunk_to_grow c)) (starts_in (chunk_to_grow c)) (nat_eq c.next (chunk_to_grow c).first) refl known.up_to known.begins in
-      omega (arith, one, sum_by_push (λ (x : Numbered). cond (nat_eq x.number (chunk_to_grow c).first) 1 0) (chunk_to_grow c).head (record { number = c.next; entry = e }))
+      grind (arith, nat_tests, known.up_to, known.begins, sum_by_push (λ (x : Numbered). cond (nat_eq x.number (chunk_to_grow c).first) 1 0) (chunk_to_grow c).head (record { number = c.next; entry = e }))
 
   begins_closed : starts_in (with_block block g) ≡ 1
   begins_closed = omega (arith, begins, block_starts-more g.blocks g.head block moved g.first)
@@ -133,13 +127,10 @@ module _ (e : Entry) (now : ℕ) (c : ChunksContents) (good : AreChunks c) (room
         few = omega arith;
       }
 
-below_target : (target size : ℕ) → target ≤ 2 ^ 30 → nat_le target size ≡ false → size < 2 ^ 30
-below_target target size h below = let less : size < target = grind (arith, nat_tests) in omega (arith, h)
-
 pub chunks_one : (rules : Rules) (now : ℕ) (e : Entry) (c d : ChunksContents) → AreChunks c → c.next < 2 ^ 62 → rules.chunk_target_size ≤ 2 ^ 30 → IsShort e → TakesOne rules now e c d → AreChunks d
 chunks_one rules now e c d good room target short takes =
     let g = with_entry e c.next now (chunk_to_grow c) in
-    subst AreChunks (sym takes.is) (placed_chunks e now c good room short takes.block takes.reorders (is_full rules g) (is_to_cut rules g) (below_target rules.chunk_target_size (size_of_chunk g) target))
+    subst AreChunks (sym takes.is) (placed_chunks e now c good room short takes.block takes.reorders (is_full rules g) (is_to_cut rules g) (λ below. grind (arith, nat_tests, target, below)))
 
 -- ---- the state follows
 

@@ -8,7 +8,7 @@ use Rattle.std.proofs.lemmas.List.{map-append}
 use Rattle.std.proofs.lemmas.Simd.{map-map}
 use Rattle.std.proofs.lemmas.List.Elements.{All-nil, All-cons, All-head, All-tail, All-append, All-map, All-weaker, filter-append}
 use Rattle.std.proofs.lemmas.List.Sums.{sum-map, sum_by-append}
-use Rattle.ing_rows.specs.declared.place.Place.TheVariants.{Head, Block, Flight, Stored}
+use Rattle.ing_rows.specs.declared.place.Place.TheVariants.{Head, Block}
 use Rattle.ing_rows.specs.declared.place.Place.{Place}
 use Rattle.ing_rows.specs.declared.place.SealReason.TheVariants.{Full}
 use Rattle.ing_rows.specs.declared.rules.Rules.{Rules}
@@ -138,10 +138,7 @@ module _ (s : StreamKey) (k : ℕ) where
 -- ---- cutting and filling, where the rows stand apart
 
 pub not_block : (p : Place) → is_head p ≡ true → is_block p ≡ false
-not_block Head h = refl
-not_block Block h = absurd (cc)
-not_block (Flight f) h = refl
-not_block (Stored key) h = refl
+not_block p h = grind (arith, h)
 
 pub size-rows : (xs ys : List Row) → size_of_rows (xs ++ ys) ≡ size_of_rows xs + size_of_rows ys
 size-rows xs ys = sum_by-append (λ (r : Row). size_of r.entry) xs ys
