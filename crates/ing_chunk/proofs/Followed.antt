@@ -148,9 +148,6 @@ module _ (rules : Rules) (s : StreamKey) (now : ℕ) (e : Entry) (c : ChunksCont
   in_heads : All (IsInHead s k index) reads.h
   in_heads = All-permutation (IsInHead s k index) (head_rows s g) reads.h reads.heads (all_head s k index g.head)
 
-  in_heads' : All (IsInHead s k index) h'
-  in_heads' = All-cons (IsInHead s k index) r reads.h (head_row s k index (record { number = c.next; entry = e })) in_heads
-
   index_is : blocks_of (rows_of_chunk s k (reads.h ++ (reads.b ++ reads.w))) ≡ index
   index_is =
       ap blocks_of (chunk_only rules s k reads.b reads.w reads.m (mark_of s g') apart reads.h (All-weaker (IsInHead s k index) (λ (q : Row). is_of_chunk s k q ≡ true) (λ q x. x.chunk) reads.h in_heads))
@@ -184,7 +181,7 @@ module _ (rules : Rules) (s : StreamKey) (now : ℕ) (e : Entry) (c : ChunksCont
       ∙ ap (λ chunk. placed_in chunk (blocks_of (rows_of_chunk s chunk (reads.h ++ (reads.b ++ reads.w)))) (marks_at s c.next now ((growing_state s c.growing).marks ++ reads.m))) (at_chunk s k c.next now reads.m others c.growing good.growing)
       ∙ ap (λ i. placed_in k i (marks_at s c.next now ((growing_state s c.growing).marks ++ reads.m))) index_is
       ∙ ap (placed_in k index) (marks_now s k c.next now reads.m others c.growing e good.growing)
-      ∙ finish rules s k reads.b reads.w reads.m (mark_of s g') apart index h' in_heads'
+      ∙ finish rules s k reads.b reads.w reads.m (mark_of s g') apart index h' (All-cons (IsInHead s k index) r reads.h (head_row s k index (record { number = c.next; entry = e })) in_heads)
       ∙ ap (λ n. ending (nat_le rules.chunk_target_size (n + size_of_rows reads.b)) (nat_le rules.chunk_block_size n) h') head_size
       ∙ ap (λ n. ending (nat_le rules.chunk_target_size (size_of_entries g'.head + n)) (nat_le rules.chunk_block_size (size_of_entries g'.head)) h') block_size
 

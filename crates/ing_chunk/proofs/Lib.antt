@@ -7,7 +7,6 @@ mod Drained
 mod Due
 mod Followed
 mod Gauged
-mod KeptLaws
 mod Ordered
 mod Sealed
 mod Stands

@@ -6,7 +6,7 @@ use Rattle.std.proofs.lemmas.List.Elements.{All-head, All-tail, All-append, All-
 use Rattle.std.proofs.lemmas.List.Sorted.{IsPermutation-refl, IsPermutation-trans, IsPermutation-append_comm, IsPermutation-append_left, IsPermutation-to_front}
 use Rattle.ing_rows.specs.declared.place.Place.TheVariants.{Head, Block}
 use Rattle.ing_rows.specs.declared.place.SealReason.{SealReason}
-use Rattle.ing_rows.specs.Rows.{StreamKey, Row, Mark, is_head, is_of_chunk}
+use Rattle.ing_rows.specs.Rows.{StreamKey, Row, Mark, is_head}
 use Rattle.ing_rows.specs.Events.{sealed_count}
 use Rattle.ing_rows.specs.Steps.{given, moved, seal_of, is_sealed_now, seal_mark, Seals}
 use Rattle.ing_chunk.specs.declared.numbered.Numbered.{Numbered}
@@ -23,10 +23,8 @@ use Rattle.ing_chunk.proofs.Taken.{one_waits}
 -- ---- a closed head
 
 pub record IsClosed (g mid : ChunkContents) : Type 0 where
-  pub first : mid.first ≡ g.first
-  pub last_update : mid.last_update ≡ g.last_update
+  pub same : mid ≡ record g { blocks = mid.blocks; head = [] }
   pub count : count_in mid ≡ count_in g
-  pub head : mid.head ≡ []
   pub begins : starts_in mid ≡ starts_in g
   pub some : 0 < count_in g → mid.blocks ≢ []
   pub parts : Covers g → AreParts mid.first mid.blocks
@@ -37,10 +35,8 @@ closes_is g mid h = of_head g.head refl h where
   of_head : (es : List Numbered) → g.head ≡ es → closes es g mid → IsClosed g mid
   of_head [] none same =
       subst (IsClosed g) (sym same) (record {
-        first = refl;
-        last_update = refl;
+        same = λ i. record g { head = none i };
         count = refl;
-        head = none;
         begins = refl;
         some = λ some empty. absurd (omega (arith, some, ap length none, ap (λ bs. length (in_blocks bs)) empty));
         parts = λ covers. covers.parts;
@@ -48,10 +44,8 @@ closes_is g mid h = of_head g.head refl h where
       })
   of_head (e ∷ es) some (block, moves, is) =
       subst (IsClosed g) (sym is) (record {
-        first = refl;
-        last_update = refl;
+        same = refl;
         count = omega (arith, block_count-more g.blocks g.head block moves);
-        head = refl;
         begins = omega (arith, block_starts-more g.blocks g.head block moves g.first);
         some = λ _. some_blocks g.blocks block;
         parts = λ covers. (covers_closed block g covers (omega (arith, ap length some)) moves).parts;
@@ -75,19 +69,17 @@ module _ (why : SealReason) (c d : ChunksContents) (good : AreChunks c) (seals :
 
   pub chunks_sealed : AreChunks d
   chunks_sealed =
+      let first = ap (λ (x : ChunkContents). x.first) closed.same in
       subst AreChunks (sym sealed_is)
-      (one_waits c good c.next (record seals.sealed.0 { reason = Some why }) (closed.first ∙ sym (ap (λ (x : ChunkContents). x.first) (some_grows c seals.chunk seals.grows))) (omega (arith, closed.first, count_sealed)) (omega (arith, closed.count, grown.some)) good.few
-      refl closed.head (closed.some grown.some) (closed.parts grown.covers) (omega (arith, closed.count, count_small seals.chunk, grown.small)) (closed.begins ∙ grown.begins))
+      (one_waits c good c.next (record seals.sealed.0 { reason = Some why }) (first ∙ sym (ap (λ (x : ChunkContents). x.first) (some_grows c seals.chunk seals.grows))) (omega (arith, first, count_sealed)) (omega (arith, closed.count, grown.some)) good.few
+      refl (ap (λ (x : ChunkContents). x.head) closed.same) (closed.some grown.some) (closed.parts grown.covers) (omega (arith, closed.count, count_small seals.chunk, grown.small)) (closed.begins ∙ grown.begins))
 
 -- ---- marks that have no reason to be sealed
 
 module _ (f : Mark → Option SealReason) where
   pub quiet_now : (ms : List Mark) (r : Row) → All (λ m. seal_of f m ≡ None) ms → is_sealed_now f ms r ≡ false
   quiet_now [] r h = refl
-  quiet_now (m ∷ ms) r h = of_chunk (is_of_chunk m.stream m.chunk r) (quiet_now ms r (All-tail (λ (m : Mark). seal_of f m ≡ None) m ms h)) where
-    of_chunk : (b : Bool) → is_sealed_now f ms r ≡ false → cond b (is_some (seal_of f m)) (is_sealed_now f ms r) ≡ false
-    of_chunk true rest = ap is_some (All-head (λ (m : Mark). seal_of f m ≡ None) m ms h)
-    of_chunk false rest = rest
+  quiet_now (m ∷ ms) r h = grind (arith, ap is_some (All-head (λ (m : Mark). seal_of f m ≡ None) m ms h), quiet_now ms r (All-tail (λ (m : Mark). seal_of f m ≡ None) m ms h))
 
   pub quiet_marks : (ms : List Mark) → All (λ m. seal_of f m ≡ None) ms → map (seal_mark f) ms ≡ ms
   quiet_marks [] h = refl
@@ -149,27 +141,21 @@ module _ (f : Mark → Option SealReason) (why : SealReason) (c d : ChunksConten
       ∙ ap (λ o. length (cond (is_some o) (mark_of s g ∷ filter (λ m. is_some (seal_of f m)) ms) (filter (λ m. is_some (seal_of f m)) ms))) sealed_mark
       ∙ (let rest = quiet_count f ms quiet in omega (arith, rest))
 
-  closes_it : IsClosed g seals.sealed.0
-  closes_it = closes_is g seals.sealed.0 seals.sealed.1
-
   new_state : stream_state s d ≡ record { rows = ws ++ block_rows s g.first 0 seals.sealed.0.blocks; marks = ms ++ record (mark_of s g) { reason = Some why } ∷ [] }
   new_state =
-      let mid = seals.sealed.0 in
-      ap (stream_state s) (sealed_is why c d good seals) ∙ waiting-more s c.waiting (record mid { reason = Some why })
-      ∙ (λ i. record {
-        rows = ws ++ (ap (λ l. map (row_in s mid.first (length mid.blocks) Head) l ++ block_rows s mid.first 0 mid.blocks) closes_it.head ∙ ap (λ k. block_rows s k 0 mid.blocks) closes_it.first) i;
-        marks = ms ++ record { stream = s; chunk = closes_it.first i; last_update = closes_it.last_update i; reason = Some why } ∷ [];
-      })
+      ap (stream_state s) (sealed_is why c d good seals)
+      ∙ ap (λ (x : ChunkContents). chunks_state s (c.waiting ++ record x { reason = Some why } ∷ [])) (closed why c d good seals).same
+      ∙ waiting-more s c.waiting (record g { blocks = seals.sealed.0.blocks; head = []; reason = Some why })
 
   pub state_sealed : Seals f (stream_state s c) (stream_state s d)
   state_sealed =
       let blocks = block_rows s g.first 0 seals.sealed.0.blocks in
-      let closed = map to_block (head_rows s g) ++ block_rows s g.first 0 g.blocks in
+      let moved_rows = map to_block (head_rows s g) ++ block_rows s g.first 0 g.blocks in
       subst (λ o. Seals f (record { rows = (growing_state s o).rows ++ ws; marks = (growing_state s o).marks ++ ms }) (stream_state s d)) (sym seals.grows)
       (subst (Seals f (record { rows = (head_rows s g ++ block_rows s g.first 0 g.blocks) ++ ws; marks = mark_of s g ∷ ms })) (sym new_state) (record {
         rows =
             subst (IsPermutation (ws ++ blocks)) (sym rows_moved)
-            (IsPermutation-trans (ws ++ blocks) (blocks ++ ws) (closed ++ ws) (IsPermutation-append_comm ws blocks) (IsPermutation-append_left ws blocks closed (closes_it.rows s)));
+            (IsPermutation-trans (ws ++ blocks) (blocks ++ ws) (moved_rows ++ ws) (IsPermutation-append_comm ws blocks) (IsPermutation-append_left ws blocks moved_rows ((closed why c d good seals).rows s)));
         marks =
             subst (IsPermutation (ms ++ record (mark_of s g) { reason = Some why } ∷ [])) (sym marks_sealed)
             (IsPermutation-to_front ms (record (mark_of s g) { reason = Some why }));

@@ -56,8 +56,7 @@ one_waits c good next done first to some small sealed closed blocks parts few be
 
 placed_next : (full cuts : Bool) (block : List Numbered) (g : ChunkContents) (c : ChunksContents) → (placed full cuts block g c).next ≡ c.next + 1
 placed_next true cuts block g c = refl
-placed_next false true block g c = refl
-placed_next false false block g c = refl
+placed_next false cuts block g c = refl
 
 pub next_one : (rules : Rules) (now : ℕ) (e : Entry) (c d : ChunksContents) → TakesOne rules now e c d → d.next ≡ c.next + 1
 next_one rules now e c d takes =
@@ -69,32 +68,32 @@ module _ (e : Entry) (now : ℕ) (c : ChunksContents) (good : AreChunks c) (room
   abbrev g : ChunkContents
   g = with_entry e c.next now (chunk_to_grow c)
 
+  known : Next c (chunk_to_grow c)
+  known = next_of c good
+
   more : length g.head ≡ length (chunk_to_grow c).head + 1
   more = length-append (chunk_to_grow c).head (record { number = c.next; entry = e } ∷ [])
 
   -- the first number is that of the first entry alone
   begins : starts_in g ≡ 1
   begins =
-      let known = next_of c good in
       grind (arith, nat_tests, known.up_to, known.begins, sum_by_push (λ (x : Numbered). cond (nat_eq x.number (chunk_to_grow c).first) 1 0) (chunk_to_grow c).head (record { number = c.next; entry = e }))
 
   begins_closed : starts_in (with_block block g) ≡ 1
   begins_closed = omega (arith, begins, block_starts-more g.blocks g.head block moved g.first)
 
   covers : Covers g
-  covers = let known = next_of c good in covers_more e c.next now (chunk_to_grow c) known.covers known.up_to short
+  covers = covers_more e c.next now (chunk_to_grow c) known.covers known.up_to short
 
   covers_with : Covers (with_block block g)
   covers_with = covers_closed block g covers (omega (arith, more)) moved
 
   placed_chunks : (full cuts : Bool) → (full ≡ false → size_of_chunk g < 2 ^ 30) → AreChunks (placed full cuts block g c)
   placed_chunks true cuts small =
-      let known = next_of c good in
       let done : ChunkContents = record (with_block block g) { reason = Some Full } in
       let to : done.first + count_in done ≡ c.next + 1 = omega (arith, block_count-more g.blocks g.head block moved, more, known.up_to) in
       one_waits c good (c.next + 1) done refl to (omega (arith, to, known.up_to)) (omega arith) refl refl (some_blocks g.blocks block) covers_with.parts (omega (arith, to, known.up_to, known.small, count_small (chunk_to_grow c))) begins_closed
   placed_chunks false true small =
-      let known = next_of c good in
       let many = block_count-more g.blocks g.head block moved in
       record {
         growing = record {
@@ -111,7 +110,6 @@ module _ (e : Entry) (now : ℕ) (c : ChunksContents) (good : AreChunks c) (room
         few = omega arith;
       }
   placed_chunks false false small =
-      let known = next_of c good in
       record {
         growing = record {
           open_yet = known.open_yet;

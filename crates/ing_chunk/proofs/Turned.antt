@@ -157,9 +157,7 @@ module _ (rules : Rules) (s : StreamKey) (k : ℕ) (b w : List Row) (m : List Ma
   full_with h = record { rows = map to_block h ++ (b ++ w); marks = record mark { reason = Some Full } ∷ m }
 
   abbrev pub ended : Bool → Bool → List Row → State
-  ended true cut h = full_with h
-  ended false true h = with_head (map to_block h)
-  ended false false h = with_head h
+  ended full cut h = cond full (full_with h) (with_head (cond cut (map to_block h) h))
 
   pub chunk_only : (h : List Row) → All (λ r. is_of_chunk s k r ≡ true) h → filter (is_of_chunk s k) (h ++ (b ++ w)) ≡ h ++ b
   chunk_only h all =
@@ -202,11 +200,6 @@ module _ (rules : Rules) (s : StreamKey) (k : ℕ) (b w : List Row) (m : List Ma
       ∙ ap (λ n. cond (nat_le rules.chunk_target_size n) (sealed Full s k (with_head h)) (with_head h)) (size-rows h b ∙ ap (λ n. n + size_of_rows b) size)
       ∙ ap (λ st. cond (nat_le rules.chunk_target_size (size_of_rows new + size_of_rows b)) st (with_head h)) {x = sealed Full s k (with_head h)} {y = full_with new} (λ i. record { rows = e i; marks = mark_sealed i })
 
-  to_ended : (full cut : Bool) (h : List Row) → cond full (full_with h) (with_head (cond cut (map to_block h) h)) ≡ ended full cut h
-  to_ended true cut h = refl
-  to_ended false true h = refl
-  to_ended false false h = refl
-
   pub finish : (index : ℕ) (h : List Row) → All (IsInHead s k index) h
       → filled rules s k (cut rules s k (with_head h)) ≡ ended (nat_le rules.chunk_target_size (size_of_rows h + size_of_rows b)) (nat_le rules.chunk_block_size (size_of_rows h)) h
   finish index h all =
@@ -221,7 +214,5 @@ module _ (rules : Rules) (s : StreamKey) (k : ℕ) (b w : List Row) (m : List Ma
             filled_is (map to_block h) h (All-weaker (IsInBlock s k) (λ (r : Row). is_of_chunk s k r ≡ true) (λ r x. x.chunk) (map to_block h) closed) (sum_by-map (λ (r : Row). size_of r.entry) to_block h)
             (map-none (in_head s k) to_block (map to_block h ++ (b ++ w)) (All-append (λ (r : Row). in_head s k r ≡ false) (map to_block h) (b ++ w)
             (All-weaker (IsInBlock s k) (λ (r : Row). in_head s k r ≡ false) (λ r x. ap (λ t. t && is_head r.place) x.chunk ∙ x.head) (map to_block h) closed) no_heads))
-            ∙ to_ended (nat_le rules.chunk_target_size (size_of_rows h + size_of_rows b)) true h
         by_cases false =
             filled_is h h (All-weaker (IsInHead s k index) (λ (r : Row). is_of_chunk s k r ≡ true) (λ r x. x.chunk) h all) refl (heads_moved h (heads index h all))
-            ∙ to_ended (nat_le rules.chunk_target_size (size_of_rows h + size_of_rows b)) false h

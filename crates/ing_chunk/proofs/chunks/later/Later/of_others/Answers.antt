@@ -7,8 +7,7 @@ use Rattle.ing_chunk.proofs.chunks.later.Later.of_others.Goals as goal
 
 pub returns : goal.returns
 returns c =
-    let fields = c.others.inside in
-    let d = chunks_of fields in
+    let d = chunks_of c.others.inside in
     let begun : SealsChunk Full (empty_chunk c.args.next) c.seal.new.self = subst (λ (x : ChunkContents). SealsChunk Full x c.seal.new.self) c.begin-tail.ensures c.seal.ensures in
     let tail = sealed_nothing c.args.next c.seal.new.self begun in
     let kept = c.others.invariant in
