@@ -175,7 +175,7 @@ sealed_nothing next t (mid, closes_it, is) = is ∙ ap (λ (x : ChunkContents). 
 joined_nothing : (now n : ℕ) (g : ChunkContents) → IsClosed now g → joined g (empty_chunk n) ≡ g
 joined_nothing now n g closed = λ i. record { first = g.first; blocks = append-nil g.blocks i; head = (sym closed.head) i; last_update = g.last_update; reason = (sym closed.open_yet) i }
 
--- the chunks d, which are seen so, of a start that had none
+-- entries made the chunks d, which are seen so, of a start without chunks
 module _ (rules : Rules) (now size : ℕ) (es : List Entry) (next : ℕ) (d seen start : ChunksContents) (was : d ≡ seen) (begun : start ≡ record { next = next; waiting = []; growing = None }) (later : Later) (next_is : later.next ≡ d.next) where
   -- behind a chunk that is full stand others
   pub continues_full : rules.chunk_target_size ≤ size → later.tail ≡ record (empty_chunk next) { reason = Some Full } → later.sealed.items ≡ d.waiting → later.growing ≡ d.growing → Takes rules now es start seen → Continues rules now size next es later
