@@ -1,5 +1,5 @@
 -- Entries behind a head that they close.
-use Rattle.std.proofs.Common.{◌≡◌, ℕ, ◌+◌, ◌-◌, ◌<◌, ◌≤◌, ◌^◌, Bool, true, false, List, [], ◌∷◌, ◌++◌, length, take, drop, get_or, length-take, nat_le, refl, sym, ap, subst, ◌∙◌, arith, append_assoc, append-nil, length-append, Some, None, is_none}
+use Rattle.std.proofs.Common.{◌≡◌, ℕ, ◌+◌, ◌<◌, ◌≤◌, ◌^◌, Bool, true, false, List, [], ◌∷◌, ◌++◌, length, take, drop, get_or, length-take, nat_le, refl, sym, ap, subst, ◌∙◌, arith, append_assoc, append-nil, length-append, Some, None, is_none}
 use Rattle.std.specs.Prelude.{All, IsPermutation, sum_by}
 use Rattle.std.proofs.lemmas.Bool.Decides.{nat_tests}
 use Rattle.std.proofs.lemmas.List.Sums.{sum_by-append, sum_by-cons}
@@ -12,14 +12,14 @@ use Rattle.ing_chunk.specs.Chunks.{AreChunks, ChunkContents, ChunksContents, IsW
 use Rattle.ing_chunk.specs.Behind.{CanStand, GoesOn, IsCounted, HasRoom, Reaches, IsClosed, Continues, TakesBehind, behind, behind_as, closed_into, is_reached, joined, put_as, put_behind, rules_as}
 use Rattle.ing_chunk.specs.declared.chunks.later.Later.{Later}
 use Rattle.std.proofs.lemmas.List.Elements.{All-head}
-use Rattle.ing_chunk.proofs.Aside.{count_all, framed, takes_framed}
-use Rattle.ing_chunk.proofs.Taken.{chunks_all, next_of}
+use Rattle.ing_chunk.proofs.Aside.{count_all, framed, takes_framed, takes_same}
+use Rattle.ing_chunk.proofs.Stands.{stands_all, up_to_next}
+use Rattle.ing_chunk.proofs.Taken.{next_of}
 use Rattle.std.proofs.lemmas.List.Sorted.{IsPermutation-refl}
 use Rattle.std.proofs.lemmas.List.{take_more, take-append-drop}
 use Rattle.ing_chunk.specs.Parts.{IsShort}
-use Rattle.ing_chunk.proofs.Added.{takes_full, takes_open, some_grows}
+use Rattle.ing_chunk.proofs.Added.{takes_settled, some_grows, takes_run, length_run, not_reached}
 use Rattle.ing_chunk.proofs.Sums.{in_blocks-append, size-append, block_size-more, block_count-more}
-use Rattle.ing_chunk.proofs.Together.{takes_run, length_numbered, not_reached}
 
 pub takes_append : (rules : Rules) (now : ℕ) (xs ys : List Entry) (c mid d : ChunksContents) → Takes rules now xs c mid → Takes rules now ys mid d → Takes rules now (xs ++ ys) c d
 takes_append rules now [] ys c mid d h k = subst (λ x. Takes rules now ys x d) h k
@@ -29,10 +29,7 @@ takes_append rules now (x ∷ xs) ys c mid d (next, one, rest) k = (next, one, t
 
 module _ (g t : ChunkContents) (closed : g.head ≡ []) where
   pub size_joined : size_of_chunk (joined g t) ≡ size_of_chunk g + size_of_chunk t
-  size_joined =
-      let blocks : size_of_entries (in_blocks (g.blocks ++ t.blocks)) ≡ size_of_entries (in_blocks g.blocks) + size_of_entries (in_blocks t.blocks) =
-      ap size_of_entries (in_blocks-append g.blocks t.blocks) ∙ size-append (in_blocks g.blocks) (in_blocks t.blocks) in
-      omega (arith, blocks, ap size_of_entries closed)
+  size_joined = omega (arith, ap size_of_entries (in_blocks-append g.blocks t.blocks), size-append (in_blocks g.blocks) (in_blocks t.blocks), ap size_of_entries closed)
 
   pub count_joined : count_in (joined g t) ≡ count_in g + count_in t
   count_joined = omega (arith, ap length (in_blocks-append g.blocks t.blocks), length-append (in_blocks g.blocks) (in_blocks t.blocks), ap length closed)
@@ -40,11 +37,7 @@ module _ (g t : ChunkContents) (closed : g.head ≡ []) where
 -- ---- one more entry behind a closed head
 
 module _ (rules : Rules) (now : ℕ) (g : ChunkContents) (before : List ChunkContents) (size : ℕ) (closed : IsClosed now g) (sized : size_of_chunk g ≡ size) (below : size < rules.chunk_target_size) where
-  -- the rules for the tail
-  abbrev short : Rules
-  short = record rules { chunk_target_size = rules.chunk_target_size - size }
-
-  full_joined : (t : ChunkContents) → is_full rules (joined g t) ≡ is_full short t
+  full_joined : (t : ChunkContents) → is_full rules (joined g t) ≡ is_full (rules_as [] rules size) t
   full_joined t = let h = size_joined g t closed.head in grind (arith, nat_tests)
 
   with_joined : (e : Entry) (n : ℕ) (t : ChunkContents) → with_entry e n now (joined g t) ≡ joined g (with_entry e n now t)
@@ -69,11 +62,17 @@ module _ (rules : Rules) (now : ℕ) (g : ChunkContents) (before : List ChunkCon
       ∙ ap (λ (l : List ChunkContents). record { next = c.next + 1; waiting = l; growing = None }) (sym (append_assoc before (joined g t ∷ ts) (settled true cuts block h ∷ [])))
   placed_others false cuts block h t ts c some = ap (λ (l : List ChunkContents). behind_as l g before (placed false cuts block h c)) some
 
-  module _ (e : Entry) (c d : ChunksContents) where
-    step_tail : c.waiting ≡ [] → TakesOne short now e c d → TakesOne rules now e (behind g before c) (behind g before d)
-    step_tail none one =
-        let k = chunk_to_grow c in
-        let h = with_entry e c.next now k in
+  pub step_behind : (e : Entry) (c d : ChunksContents) → TakesOne (rules_as c.waiting rules size) now e c d → TakesOne rules now e (behind g before c) (behind g before d)
+  step_behind e c d one = by_waiting c.waiting refl one where
+    k : ChunkContents
+    k = chunk_to_grow c
+
+    h : ChunkContents
+    h = with_entry e c.next now k
+
+    by_waiting : (l : List ChunkContents) → c.waiting ≡ l → TakesOne (rules_as l rules size) now e c d → TakesOne rules now e (behind g before c) (behind g before d)
+    by_waiting [] none one =
+        let short = rules_as [] rules size in
         let there : ChunksContents = record { next = c.next; waiting = before; growing = Some (joined g k) } in
         let is : behind g before d ≡ taken_with one.block rules now e there =
         ap (behind g before) one.is
@@ -81,18 +80,9 @@ module _ (rules : Rules) (now : ℕ) (g : ChunkContents) (before : List ChunkCon
         ∙ ap (λ f. placed f (is_to_cut short h) one.block (joined g h) there) (sym (full_joined h))
         ∙ ap (λ x. placed (is_full rules x) (is_to_cut rules x) one.block x there) (sym (with_joined e c.next k)) in
         subst (λ x. TakesOne rules now e x (behind g before d)) (sym (ap (λ (l : List ChunkContents). behind_as l g before c) none)) (record { block = one.block; reorders = one.reorders; is = is })
-
-    step_others : (t : ChunkContents) (ts : List ChunkContents) → c.waiting ≡ t ∷ ts → TakesOne rules now e c d → TakesOne rules now e (behind g before c) (behind g before d)
-    step_others t ts some one =
-        let h = with_entry e c.next now (chunk_to_grow c) in
+    by_waiting (t ∷ ts) some one =
         let is = ap (behind g before) one.is ∙ placed_others (is_full rules h) (is_to_cut rules h) one.block h t ts c some in
         subst (λ x. TakesOne rules now e x (behind g before d)) (sym (ap (λ (l : List ChunkContents). behind_as l g before c) some)) (record { block = one.block; reorders = one.reorders; is = is })
-
-    pub step_behind : TakesOne (rules_as c.waiting rules size) now e c d → TakesOne rules now e (behind g before c) (behind g before d)
-    step_behind one = by_waiting c.waiting refl one where
-      by_waiting : (l : List ChunkContents) → c.waiting ≡ l → TakesOne (rules_as l rules size) now e c d → TakesOne rules now e (behind g before c) (behind g before d)
-      by_waiting [] none one = step_tail none one
-      by_waiting (t ∷ ts) some one = step_others t ts some one
 
 -- ---- the entries up to the one by which a size is reached
 
@@ -120,17 +110,14 @@ module _ (n now : ℕ) (es : List Entry) (some : 0 < length es) (g closed : Chun
   head_size : size_of_entries run.head ≡ size_of_entries g.head + size_of_all es
   head_size = size-append g.head (numbered_from n es) ∙ ap (λ m. size_of_entries g.head + m) (size_numbered n es)
 
-  head_count : length run.head ≡ length g.head + length es
-  head_count = length-append g.head (numbered_from n es) ∙ ap (λ m. length g.head + m) (length_numbered n es)
-
   closed_by : (block : List Numbered) × IsPermutation run.head block × (closed ≡ with_block block run)
-  closed_by = closes_some run.head run closed (omega (arith, head_count, some)) closes_it
+  closed_by = closes_some run.head run closed (omega (arith, length_run n g.head run.head es refl, some)) closes_it
 
   pub size_closed : size_of_chunk closed ≡ size_of_chunk g + size_of_all es
   size_closed = ap size_of_chunk closed_by.2 ∙ omega (arith, block_size-more g.blocks run.head closed_by.0 closed_by.1, head_size)
 
   pub count_closed : count_in closed ≡ count_in g + length es
-  count_closed = ap count_in closed_by.2 ∙ omega (arith, block_count-more g.blocks run.head closed_by.0 closed_by.1, head_count)
+  count_closed = ap count_in closed_by.2 ∙ omega (arith, block_count-more g.blocks run.head closed_by.0 closed_by.1, length_run n g.head run.head es refl)
 
   pub head_closed : closed.head ≡ []
   head_closed = ap (λ (x : ChunkContents). x.head) closed_by.2
@@ -157,8 +144,8 @@ module _ (rules : Rules) (now : ℕ) (p : List Entry) (e : Entry) (c : ChunksCon
       (by.0, by.1, by.2 ∙ λ i. settled ((sym full) i) ((sym cuts) i) by.0 filled)
 
   one_more : (mid : ChunksContents) (k : ChunkContents) → mid.growing ≡ Some k → filled ≡ with_entry e mid.next now k → (full : Bool) → is_full rules filled ≡ full → TakesOne rules now e mid (closed_into full closed (mid.next + 1) mid.waiting)
-  one_more mid k grows is true full = takes_full rules now e mid filled (record closed { reason = Some Full }) (is ∙ ap (with_entry e mid.next now) (sym (some_grows mid k grows))) (settles_full full) full
-  one_more mid k grows is false full = takes_open rules now e mid filled closed (is ∙ ap (with_entry e mid.next now) (sym (some_grows mid k grows))) (settles_cut full) full
+  one_more mid k grows is true full = takes_settled rules now e mid filled (record closed { reason = Some Full }) (is ∙ ap (with_entry e mid.next now) (sym (some_grows mid k grows))) (settles_full full) true full
+  one_more mid k grows is false full = takes_settled rules now e mid filled closed (is ∙ ap (with_entry e mid.next now) (sym (some_grows mid k grows))) (settles_cut full) false full
 
   pub takes_front : Takes rules now (p ++ e ∷ []) c (closed_into (is_full rules filled) closed (c.next + length (p ++ e ∷ [])) c.waiting)
   takes_front = by_front p refl where
@@ -188,71 +175,65 @@ sealed_nothing next t (mid, closes_it, is) = is ∙ ap (λ (x : ChunkContents). 
 joined_nothing : (now n : ℕ) (g : ChunkContents) → IsClosed now g → joined g (empty_chunk n) ≡ g
 joined_nothing now n g closed = λ i. record { first = g.first; blocks = append-nil g.blocks i; head = (sym closed.head) i; last_update = g.last_update; reason = (sym closed.open_yet) i }
 
-module _ (rules : Rules) (now size : ℕ) (es : List Entry) (next : ℕ) (d : ChunksContents) (later : Later) (next_is : later.next ≡ d.next) where
+-- entries made the chunks d, which are seen so, of a start without chunks
+module _ (rules : Rules) (now size : ℕ) (es : List Entry) (next : ℕ) (d seen start : ChunksContents) (was : d ≡ seen) (begun : start ≡ record { next = next; waiting = []; growing = None }) (later : Later) (next_is : later.next ≡ d.next) where
   -- behind a chunk that is full stand others
-  pub continues_full : rules.chunk_target_size ≤ size → later.tail ≡ record (empty_chunk next) { reason = Some Full } → later.sealed.items ≡ d.waiting → later.growing ≡ d.growing → Takes rules now es (record { next = next; waiting = []; growing = None }) d → Continues rules now size next es later
+  pub continues_full : rules.chunk_target_size ≤ size → later.tail ≡ record (empty_chunk next) { reason = Some Full } → later.sealed.items ≡ d.waiting → later.growing ≡ d.growing → Takes rules now es start seen → Continues rules now size next es later
   continues_full reached tail sealed growing takes = λ g before closed sized.
       let full : ChunkContents = record g { reason = Some Full } in
       let is_reached : nat_le rules.chunk_target_size size ≡ true = grind (arith, nat_tests) in
-      let from : framed (before ++ full ∷ []) (record { next = next; waiting = []; growing = None }) ≡ closed_into (nat_le rules.chunk_target_size size) g next before =
-      (λ i. record { next = next; waiting = append-nil (before ++ full ∷ []) i; growing = None }) ∙ ap (λ b. closed_into b g next before) (sym is_reached) in
+      let from : framed (before ++ full ∷ []) start ≡ closed_into (nat_le rules.chunk_target_size size) g next before =
+      ap (framed (before ++ full ∷ [])) begun ∙ (λ i. record { next = next; waiting = append-nil (before ++ full ∷ []) i; growing = None }) ∙ ap (λ b. closed_into b g next before) (sym is_reached) in
       let whole : joined g later.tail ≡ full = ap (joined g) tail ∙ (λ i. record { first = g.first; blocks = append-nil g.blocks i; head = (sym closed.head) i; last_update = g.last_update; reason = Some Full }) in
-      let to : framed (before ++ full ∷ []) d ≡ put_behind g before later =
-      (λ i. record { next = (sym next_is) i; waiting = (append_assoc before (full ∷ []) d.waiting ∙ (λ j. before ++ (sym whole) j ∷ (sym sealed) j)) i; growing = (sym growing) i })
+      let to : framed (before ++ full ∷ []) seen ≡ put_behind g before later =
+      ap (framed (before ++ full ∷ [])) (sym was)
+      ∙ (λ i. record { next = (sym next_is) i; waiting = (append_assoc before (full ∷ []) d.waiting ∙ (λ j. before ++ (sym whole) j ∷ (sym sealed) j)) i; growing = (sym growing) i })
       ∙ ap (λ b. put_as b g before later) (sym (ap (λ (x : ChunkContents). is_none x.reason) tail)) in
-      subst (λ x. Takes rules now es x (put_behind g before later)) from (subst (λ x. Takes rules now es (framed (before ++ full ∷ []) (record { next = next; waiting = []; growing = None })) x) to (takes_framed rules now es (before ++ full ∷ []) (record { next = next; waiting = []; growing = None }) d takes))
+      takes_same rules now es from to (takes_framed rules now es (before ++ full ∷ []) start seen takes)
 
-  module _ (below : size < rules.chunk_target_size) (good : AreChunks d) (takes : TakesBehind rules now size es (record { next = next; waiting = []; growing = None }) d) where
-    from_closed : (g : ChunkContents) (before : List ChunkContents) → IsClosed now g → behind g before (record { next = next; waiting = []; growing = None }) ≡ closed_into (nat_le rules.chunk_target_size size) g next before
-    from_closed g before closed = (λ i. record { next = next; waiting = before; growing = Some (joined_nothing now next g closed i) }) ∙ ap (λ b. closed_into b g next before) (sym (not_reached size rules.chunk_target_size below))
+  module _ (below : size < rules.chunk_target_size) (good : AreChunks d) (takes : TakesBehind rules now size es start seen) where
+    continues : ((g : ChunkContents) (before : List ChunkContents) → behind g before d ≡ put_behind g before later) → Continues rules now size next es later
+    continues to = λ g before closed sized.
+        let none : ChunksContents = record { next = next; waiting = []; growing = None } in
+        let from : behind g before none ≡ closed_into (nat_le rules.chunk_target_size size) g next before =
+        (λ i. record { next = next; waiting = before; growing = Some (joined_nothing now next g closed i) }) ∙ ap (λ b. closed_into b g next before) (sym (not_reached size rules.chunk_target_size below)) in
+        takes_same rules now es (ap (behind g before) begun ∙ from) (ap (behind g before) (sym was) ∙ to g before) (takes g before closed sized)
 
     -- the chunk itself goes on to grow
     pub continues_growing : d.waiting ≡ [] → later.tail ≡ chunk_to_grow d → Continues rules now size next es later
-    continues_growing none tail = λ g before closed sized.
-        let to : behind g before d ≡ put_behind g before later =
+    continues_growing none tail = continues (λ g before.
         ap (λ (l : List ChunkContents). behind_as l g before d) none
         ∙ (λ i. record { next = (sym next_is) i; waiting = before; growing = Some (joined g ((sym tail) i)) })
-        ∙ ap (λ b. put_as b g before later) (sym (ap (λ (x : ChunkContents). is_none x.reason) tail ∙ ap is_none (next_of d good).open_yet)) in
-        subst (λ x. Takes rules now es x (put_behind g before later)) (from_closed g before closed) (subst (λ x. Takes rules now es (behind g before (record { next = next; waiting = []; growing = None })) x) to (takes g before closed sized))
+        ∙ ap (λ b. put_as b g before later) (sym (ap (λ (x : ChunkContents). is_none x.reason) tail ∙ ap is_none (next_of d good).open_yet)))
 
     -- the chunk is sealed by its tail, and others follow
     pub continues_sealed : (t : ChunkContents) (ts : List ChunkContents) → d.waiting ≡ t ∷ ts → later.tail ≡ t → later.sealed.items ≡ ts → later.growing ≡ d.growing → Continues rules now size next es later
-    continues_sealed t ts some tail sealed growing = λ g before closed sized.
+    continues_sealed t ts some tail sealed growing = continues (λ g before.
         let waits : IsWaiting (chunk_to_grow d).first t = All-head (IsWaiting (chunk_to_grow d).first) t ts (subst (Waits (chunk_to_grow d).first) some good.waiting) in
-        let to : behind g before d ≡ put_behind g before later =
         ap (λ (l : List ChunkContents). behind_as l g before d) some
         ∙ (λ i. record { next = (sym next_is) i; waiting = before ++ joined g ((sym tail) i) ∷ (sym sealed) i; growing = (sym growing) i })
-        ∙ ap (λ b. put_as b g before later) (sym (ap (λ (x : ChunkContents). is_none x.reason) tail ∙ waits.whole.sealed)) in
-        subst (λ x. Takes rules now es x (put_behind g before later)) (from_closed g before closed) (subst (λ x. Takes rules now es (behind g before (record { next = next; waiting = []; growing = None })) x) to (takes g before closed sized))
+        ∙ ap (λ b. put_as b g before later) (sym (ap (λ (x : ChunkContents). is_none x.reason) tail ∙ waits.whole.sealed)))
 
 -- ---- once the growing chunk has gone on
 
--- it has the next number where its entries end
-up_to_next : (old : ChunksContents) (g : ChunkContents) → AreChunks old → old.growing ≡ Some g → g.first + count_in g ≡ old.next
-up_to_next old g good some = sym (ap (λ (x : ChunkContents). x.first + count_in x) (some_grows old g some)) ∙ (next_of old good).up_to
-
-module _ (now : ℕ) (es : List Entry) (later : Later) (old : ChunksContents) (good : AreChunks old) (g grown : ChunkContents) (some : old.growing ≡ Some g)
+module _ (now : ℕ) (es : List Entry) (later : Later) (old seen : ChunksContents) (was : old ≡ seen) (good : AreChunks old) (g grown : ChunkContents) (some : old.growing ≡ Some g)
     (gone : (closed : ChunkContents) × Closes (with_run (numbered_from (g.first + count_in g) es) now g) closed × (grown ≡ joined closed later.tail)) where
-  closes_next : Closes (with_run (numbered_from old.next es) now g) gone.0
-  closes_next = subst (λ n. Closes (with_run (numbered_from n es) now g) gone.0) (up_to_next old g good some) gone.1
-
-  pub goes_on_growing : is_none later.tail.reason ≡ true → GoesOn now es later old (record { next = later.next; waiting = old.waiting; growing = Some grown })
-  goes_on_growing open_yet = record {
+  goes_on : (new : ChunksContents) → new ≡ put_behind gone.0 old.waiting later → GoesOn now es later seen new
+  goes_on new is = record {
     chunk = g;
-    grows = some;
+    grows = ap (λ (x : ChunksContents). x.growing) (sym was) ∙ some;
     closed = gone.0;
-    closes = closes_next;
-    is = (λ i. record { next = later.next; waiting = old.waiting; growing = Some (gone.2 i) }) ∙ ap (λ b. put_as b gone.0 old.waiting later) (sym open_yet);
+    closes = subst (λ n. Closes (with_run (numbered_from n es) now g) gone.0) (up_to_next old g good some ∙ ap (λ (x : ChunksContents). x.next) was) gone.1;
+    is = is ∙ ap (λ (x : ChunksContents). put_behind gone.0 x.waiting later) was;
   }
 
-  pub goes_on_sealed : is_none later.tail.reason ≡ false → GoesOn now es later old (record { next = later.next; waiting = old.waiting ++ grown ∷ later.sealed.items; growing = later.growing })
-  goes_on_sealed sealed = record {
-    chunk = g;
-    grows = some;
-    closed = gone.0;
-    closes = closes_next;
-    is = (λ i. record { next = later.next; waiting = old.waiting ++ gone.2 i ∷ later.sealed.items; growing = later.growing }) ∙ ap (λ b. put_as b gone.0 old.waiting later) (sym sealed);
-  }
+  pub goes_on_growing : is_none later.tail.reason ≡ true → GoesOn now es later seen (record { next = later.next; waiting = old.waiting; growing = Some grown })
+  goes_on_growing open_yet =
+      goes_on (record { next = later.next; waiting = old.waiting; growing = Some grown })
+      ((λ i. record { next = later.next; waiting = old.waiting; growing = Some (gone.2 i) }) ∙ ap (λ b. put_as b gone.0 old.waiting later) (sym open_yet))
+
+  pub goes_on_sealed : is_none later.tail.reason ≡ false → (new : ChunksContents) → new ≡ record { next = later.next; waiting = old.waiting ++ grown ∷ later.sealed.items; growing = later.growing } → GoesOn now es later seen new
+  goes_on_sealed sealed new is = goes_on new (is ∙ (λ i. record { next = later.next; waiting = old.waiting ++ gone.2 i ∷ later.sealed.items; growing = later.growing }) ∙ ap (λ b. put_as b gone.0 old.waiting later) (sym sealed))
 
   module _ (any : 0 < length es) where
     abbrev ends : ℕ
@@ -265,6 +246,13 @@ module _ (now : ℕ) (es : List Entry) (later : Later) (old : ChunksContents) (g
     grown_size = ap size_of_chunk gone.2 ∙ omega (arith, size_joined gone.0 later.tail (head_closed ends now es any g gone.0 gone.1), size_closed ends now es any g gone.0 gone.1)
 
 -- ---- a push across a closed head
+
+-- what it comes to, whatever head is closed into which block
+pub record Crosses (rules : Rules) (now : ℕ) (es front : List Entry) (old : ChunksContents) (later : Later) : Type 0 where
+  pub tail : old.next + length front + count_in later.tail ≤ 2 ^ 62
+  pub all : is_none later.tail.reason ≡ false → old.next + length front + later.count ≤ 2 ^ 62
+  pub stands : (new : ChunksContents) → GoesOn now front later old new → CanStand new
+  pub takes : (new : ChunksContents) → GoesOn now front later old new → Takes rules now es old new
 
 module _ (rules : Rules) (now : ℕ) (p : List Entry) (e : Entry) (rest : List Entry) (old : ChunksContents) (before : CanStand old) (g : ChunkContents) (some : old.growing ≡ Some g)
     (room : 0 < length p → HasRoom rules g p) (reached : is_reached rules g (p ++ e ∷ []) ≡ true) (later : Later)
@@ -279,44 +267,32 @@ module _ (rules : Rules) (now : ℕ) (p : List Entry) (e : Entry) (rest : List E
   some_front : 0 < length front
   some_front = omega (arith, length-append p (e ∷ []))
 
-  grows : chunk_to_grow old ≡ g
-  grows = some_grows old g some
-
   takes_closed : (closed : ChunkContents) → Closes first_filled closed → Takes rules now (front ++ rest) old (put_behind closed old.waiting later)
   takes_closed closed closes_it =
-      let size = size_closed old.next now front some_front g closed closes_it in
       let filled : size_of_chunk first_filled ≡ size_of_chunk g + size_of_all front = omega (arith, head_size old.next now front some_front g closed closes_it) in
-      let open_yet : g.reason ≡ None = ap (λ (x : ChunkContents). x.reason) (sym grows) ∙ (next_of old before.chunks).open_yet in
-      let from = takes_front rules now p e old g closed some room reached closes_it in
-      let same : is_full rules first_filled ≡ nat_le rules.chunk_target_size (size_of_chunk g + size_of_all front) = ap (nat_le rules.chunk_target_size) filled in
+      let open_yet : g.reason ≡ None = ap (λ (x : ChunkContents). x.reason) (sym (some_grows old g some)) ∙ (next_of old before.chunks).open_yet in
       takes_append rules now front rest old (closed_into (nat_le rules.chunk_target_size (size_of_chunk g + size_of_all front)) closed (old.next + length front) old.waiting) (put_behind closed old.waiting later)
-      (subst (λ b. Takes rules now front old (closed_into b closed (old.next + length front) old.waiting)) same from)
-      (continues closed old.waiting (is_closed old.next now front some_front g closed closes_it open_yet) size)
+      (subst (λ n. Takes rules now front old (closed_into (nat_le rules.chunk_target_size n) closed (old.next + length front) old.waiting)) filled (takes_front rules now p e old g closed some room reached closes_it))
+      (continues closed old.waiting (is_closed old.next now front some_front g closed closes_it open_yet) (size_closed old.next now front some_front g closed closes_it))
 
   takes_gone : (new : ChunksContents) → GoesOn now front later old new → Takes rules now (front ++ rest) old new
   takes_gone new goes =
       let same : goes.chunk ≡ g = cc (goes.grows, some) in
-      let closes_it : Closes first_filled goes.closed = subst (λ (x : ChunkContents). Closes (with_run (numbered_from old.next front) now x) goes.closed) same goes.closes in
-      subst (Takes rules now (front ++ rest) old) (sym goes.is) (takes_closed goes.closed closes_it)
+      subst (Takes rules now (front ++ rest) old) (sym goes.is)
+      (takes_closed goes.closed (subst (λ (x : ChunkContents). Closes (with_run (numbered_from old.next front) now x) goes.closed) same goes.closes))
 
-  balance : (new : ChunksContents) → Takes rules now (front ++ rest) old new → sum_by count_in new.waiting + (chunk_to_grow old).first ≡ sum_by count_in old.waiting + (chunk_to_grow new).first
-  balance new takes = count_all rules now (front ++ rest) old new before.chunks few target short takes
-
-  stands_taken : (new : ChunksContents) → Takes rules now (front ++ rest) old new → CanStand new
-  stands_taken new takes = record {
-    chunks = chunks_all rules now (front ++ rest) old new before.chunks few target short takes;
-    few = omega (arith, balance new takes, before.few);
-  }
-
-  stands_gone : (new : ChunksContents) → GoesOn now front later old new → CanStand new
-  stands_gone new goes = stands_taken new (takes_gone new goes)
+  stands : (new : ChunksContents) → Takes rules now (front ++ rest) old new → CanStand new
+  stands new = stands_all rules now (front ++ rest) old new before few target short
 
   -- closed in the order in which they came, say
   abbrev one_closed : ChunkContents
   one_closed = with_block first_filled.head first_filled
 
   one_closes : Closes first_filled one_closed
-  one_closes = closes_by first_filled.head first_filled first_filled.head (omega (arith, length-append g.head (numbered_from old.next front), length_numbered old.next front, some_front)) (IsPermutation-refl first_filled.head)
+  one_closes = closes_by first_filled.head first_filled first_filled.head (omega (arith, length_run old.next g.head first_filled.head front refl, some_front)) (IsPermutation-refl first_filled.head)
+
+  takes_as : (b : Bool) → is_none later.tail.reason ≡ b → Takes rules now (front ++ rest) old (put_as b one_closed old.waiting later)
+  takes_as b is = subst (λ x. Takes rules now (front ++ rest) old (put_as x one_closed old.waiting later)) is (takes_closed one_closed one_closes)
 
   count_there : g.first + count_in (joined one_closed later.tail) ≡ old.next + length front + count_in later.tail
   count_there = omega (arith, count_joined one_closed later.tail refl, count_closed old.next now front some_front g one_closed one_closes, up_to_next old g before.chunks some)
@@ -324,58 +300,40 @@ module _ (rules : Rules) (now : ℕ) (p : List Entry) (e : Entry) (rest : List E
   bounded_all : is_none later.tail.reason ≡ false → old.next + length front + count_in later.tail + sum_by count_in later.sealed.items ≤ 2 ^ 62
   bounded_all sealed =
       let new : ChunksContents = put_as false one_closed old.waiting later in
-      let takes : Takes rules now (front ++ rest) old new = subst (λ b. Takes rules now (front ++ rest) old (put_as b one_closed old.waiting later)) sealed (takes_closed one_closed one_closes) in
-      let stands = stands_taken new takes in
+      let balance = count_all rules now (front ++ rest) old new before.chunks few target short (takes_as false sealed) in
       let sums = sum_by-append count_in old.waiting (joined one_closed later.tail ∷ later.sealed.items) in
       let cons = sum_by-cons count_in (joined one_closed later.tail) later.sealed.items in
-      omega (arith, count_there, balance new takes, sums, cons, ap (λ (x : ChunkContents). x.first) grows, (next_of new stands.chunks).up_to, stands.chunks.few)
+      let there = stands new (takes_as false sealed) in
+      omega (arith, count_there, balance, sums, cons, ap (λ (x : ChunkContents). x.first) (some_grows old g some), (next_of new there.chunks).up_to, there.chunks.few)
 
   bounded : (b : Bool) → is_none later.tail.reason ≡ b → old.next + length front + count_in later.tail ≤ 2 ^ 62
   bounded true open_yet =
-      let new : ChunksContents = put_as true one_closed old.waiting later in
-      let takes : Takes rules now (front ++ rest) old new = subst (λ b. Takes rules now (front ++ rest) old (put_as b one_closed old.waiting later)) open_yet (takes_closed one_closed one_closes) in
-      let stands = stands_taken new takes in
-      omega (arith, count_there, stands.chunks.growing.up_to, stands.chunks.few)
+      let there = (stands (put_as true one_closed old.waiting later) (takes_as true open_yet)).chunks in
+      omega (arith, count_there, there.growing.up_to, there.few)
   bounded false sealed = omega (arith, bounded_all sealed)
 
-  tail_fits : old.next + length front + count_in later.tail ≤ 2 ^ 62
-  tail_fits = bounded (is_none later.tail.reason) refl
+  crossed : IsCounted later → Crosses rules now (front ++ rest) front old later
+  crossed counted = record {
+    tail = bounded (is_none later.tail.reason) refl;
+    all = λ sealed. omega (arith, bounded_all sealed, counted.count sealed);
+    stands = λ new goes. stands new (takes_gone new goes);
+    takes = takes_gone;
+  }
 
-  all_fit : IsCounted later → is_none later.tail.reason ≡ false → old.next + length front + later.count ≤ 2 ^ 62
-  all_fit counted sealed = omega (arith, bounded_all sealed, counted.count sealed)
-
--- what a push across a closed head comes to, whatever head is closed into which block
-pub record Crosses (rules : Rules) (now : ℕ) (es front : List Entry) (old : ChunksContents) (later : Later) : Type 0 where
-  pub tail : old.next + length front + count_in later.tail ≤ 2 ^ 62
-  pub all : is_none later.tail.reason ≡ false → old.next + length front + later.count ≤ 2 ^ 62
-  pub stands : (new : ChunksContents) → GoesOn now front later old new → CanStand new
-  pub takes : (new : ChunksContents) → GoesOn now front later old new → Takes rules now es old new
-
-module _ (rules : Rules) (now : ℕ) (es : List Entry) (count : ℕ) (old : ChunksContents) (before : CanStand old) (reaches : Reaches rules es count old) (later : Later) (counted : IsCounted later)
-    (few : old.next + length es ≤ 2 ^ 62) (target : rules.chunk_target_size ≤ 2 ^ 30) (short : All IsShort es) where
-  -- what lies behind the first of them
-  abbrev Goes : List Entry → Type 0
-  Goes front = Continues rules now (size_of_chunk (chunk_to_grow old) + size_of_all front) (old.next + length front) (drop (count + 1) es) later
-
-  pub crosses : (fs : List Entry) → fs ≡ take (count + 1) es → Goes fs → Crosses rules now es fs old later
-  crosses fs is goes =
-      let g = reaches.chunk in
-      let e : Entry = get_or es count (record { stamp = 0; line = [] }) in
-      let p = take count es in
-      let rest = drop (count + 1) es in
-      let split : take (count + 1) es ≡ p ++ e ∷ [] = take_more es count (record { stamp = 0; line = [] }) reaches.below in
-      let there = is ∙ split in
-      let whole : (p ++ e ∷ []) ++ rest ≡ es = ap (λ l. l ++ rest) (sym split) ∙ take-append-drop (count + 1) es in
-      let grows = some_grows old g reaches.grows in
-      let goes_on = subst (λ (x : ChunkContents). Continues rules now (size_of_chunk x + size_of_all (p ++ e ∷ [])) (old.next + length (p ++ e ∷ [])) rest later) grows (subst Goes there goes) in
-      let reached = subst (λ l. is_reached rules g l ≡ true) split reaches.reached in
-      let fits : old.next + length ((p ++ e ∷ []) ++ rest) ≤ 2 ^ 62 = subst (λ l. old.next + length l ≤ 2 ^ 62) (sym whole) few in
-      let lines = subst (All IsShort) (sym whole) short in
-      let count_p : length p ≡ count = omega (arith, length-take count es, reaches.below) in
-      let room : 0 < length p → HasRoom rules g p = λ some. reaches.room (omega arith) in
-      subst (λ f. Crosses rules now es f old later) (sym there) (record {
-        tail = tail_fits rules now p e rest old before g reaches.grows room reached later goes_on fits target lines;
-        all = all_fit rules now p e rest old before g reaches.grows room reached later goes_on fits target lines counted;
-        stands = stands_gone rules now p e rest old before g reaches.grows room reached later goes_on fits target lines;
-        takes = λ new gone. subst (λ l. Takes rules now l old new) whole (takes_gone rules now p e rest old before g reaches.grows room reached later goes_on fits target lines new gone);
-      })
+-- the chunk has this size, and the next number is this one, once the first of them are in
+pub crosses : (rules : Rules) (now : ℕ) (es : List Entry) (count : ℕ) (old : ChunksContents) → CanStand old → Reaches rules es count old → (later : Later) → IsCounted later → old.next + length es ≤ 2 ^ 62 → rules.chunk_target_size ≤ 2 ^ 30 → All IsShort es
+    → (front rest : List Entry) (size next : ℕ) → front ≡ take (count + 1) es → rest ≡ drop (count + 1) es → size ≡ size_of_chunk (chunk_to_grow old) + size_of_all front → next ≡ old.next + length front → Continues rules now size next rest later → Crosses rules now es front old later
+crosses rules now es count old before reaches later counted few target short front rest size next is rest_is size_is next_is goes =
+    let g = reaches.chunk in
+    let e : Entry = get_or es count (record { stamp = 0; line = [] }) in
+    let p = take count es in
+    let split : take (count + 1) es ≡ p ++ e ∷ [] = take_more es count (record { stamp = 0; line = [] }) reaches.below in
+    let there = is ∙ split in
+    let whole : (p ++ e ∷ []) ++ rest ≡ es = (λ i. (sym split) i ++ rest_is i) ∙ take-append-drop (count + 1) es in
+    let sized : size ≡ size_of_chunk g + size_of_all (p ++ e ∷ []) = size_is ∙ (λ i. size_of_chunk (some_grows old g reaches.grows i) + size_of_all (there i)) in
+    let goes_on : Continues rules now (size_of_chunk g + size_of_all (p ++ e ∷ [])) (old.next + length (p ++ e ∷ [])) rest later =
+    subst (λ n. Continues rules now n (old.next + length (p ++ e ∷ [])) rest later) sized (subst (λ n. Continues rules now size n rest later) (next_is ∙ ap (λ l. old.next + length l) there) goes) in
+    let count_p : length p ≡ count = omega (arith, length-take count es, reaches.below) in
+    subst (λ l. Crosses rules now l front old later) whole (subst (λ f. Crosses rules now ((p ++ e ∷ []) ++ rest) f old later) (sym there)
+    (crossed rules now p e rest old before g reaches.grows (λ some. reaches.room (omega arith)) (subst (λ l. is_reached rules g l ≡ true) split reaches.reached) later goes_on
+    (subst (λ l. old.next + length l ≤ 2 ^ 62) (sym whole) few) target (subst (All IsShort) (sym whole) short) counted))

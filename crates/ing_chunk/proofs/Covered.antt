@@ -1,5 +1,5 @@
 -- The numbers of a chunk's entries, as it grows and as its head is closed.
-use Rattle.std.proofs.Common.{◌≡◌, ◌≢◌, ℕ, ◌+◌, ◌*◌, ◌<◌, ◌≤◌, Bool, true, false, cond, ◌||◌, List, [], ◌∷◌, ◌++◌, length, nat_eq, refl, sym, ap, subst, ◌∙◌, arith, length-append}
+use Rattle.std.proofs.Common.{◌≡◌, ◌≢◌, ℕ, ◌+◌, ◌*◌, ◌<◌, ◌≤◌, false, cond, List, [], ◌∷◌, ◌++◌, length, nat_eq, refl, sym, ap, subst, ◌∙◌, arith, length-append}
 use Rattle.std.specs.Prelude.{IsPermutation}
 use Rattle.std.specs.List.{AllByRecursion}
 use Rattle.std.proofs.lemmas.Bool.Decides.{nat_tests}
@@ -15,43 +15,29 @@ use Rattle.ing_chunk.proofs.Sums.{some_reordered}
 
 -- ---- each number once
 
-abbrev by_test : Bool → ℕ
-by_test b = cond b 1 0
-
 abbrev has : ℕ → Numbered → ℕ
-has n e = by_test (nat_eq e.number n)
-
-has_self : (e : Numbered) → has e.number e ≡ 1
-has_self e = let same : nat_eq e.number e.number ≡ true = grind (arith, nat_tests) in ap by_test same
+has n e = cond (nat_eq e.number n) 1 0
 
 untaken : (n : ℕ) (es : List Numbered) → starts n es ≡ 0 → is_taken n es ≡ false
 untaken n [] h = refl
-untaken n (e ∷ es) h = other (nat_eq e.number n) refl (untaken n es) where
-  other : (b : Bool) → nat_eq e.number n ≡ b → (starts n es ≡ 0 → is_taken n es ≡ false) → (nat_eq e.number n || is_taken n es) ≡ false
-  other true is rest = absurd (omega (arith, h, sum_by-cons (has n) e es, ap by_test is))
-  other false is rest = ap (λ (t : Bool). t || is_taken n es) is ∙ rest (omega (arith, h, sum_by-cons (has n) e es))
+untaken n (e ∷ es) h =
+    let none : nat_eq e.number n ≡ false = grind (arith, nat_tests, h, sum_by-cons (has n) e es) in
+    rw none (untaken n es (omega (arith, h, sum_by-cons (has n) e es)))
 
 apart_of : (es : List Numbered) → ((n : ℕ) → starts n es ≤ 1) → AreApart es
 apart_of [] h = tt
 apart_of (e ∷ es) h = (
-  untaken e.number es (omega (arith, h e.number, sum_by-cons (has e.number) e es, has_self e)),
+  untaken e.number es (grind (arith, nat_tests, h e.number, sum_by-cons (has e.number) e es)),
   apart_of es (λ n. omega (arith, h n, sum_by-cons (has n) e es)),
 )
 
 none_below : (n from : ℕ) (es : List Numbered) → AreNumbered from es → n < from → starts n es ≡ 0
 none_below n from [] h low = refl
-none_below n from (e ∷ es) (is, short, rest) low =
-    let other : nat_eq e.number n ≡ false = grind (arith, nat_tests) in
-    omega (arith, sum_by-cons (has n) e es, ap by_test other, none_below n (from + 1) es rest (omega arith))
+none_below n from (e ∷ es) (is, short, rest) low = grind (arith, nat_tests, is, sum_by-cons (has n) e es, none_below n (from + 1) es rest (omega arith))
 
 once : (n from : ℕ) (es : List Numbered) → AreNumbered from es → starts n es ≤ 1
 once n from [] h = omega arith
-once n from (e ∷ es) (is, short, rest) = of_test (nat_eq e.number n) refl (once n (from + 1) es rest) where
-  of_test : (b : Bool) → nat_eq e.number n ≡ b → starts n es ≤ 1 → starts n (e ∷ es) ≤ 1
-  of_test true t before =
-      let same : e.number ≡ n = grind (arith, nat_tests) in
-      omega (arith, sum_by-cons (has n) e es, ap by_test t, none_below n (from + 1) es rest (omega (arith, same, is)))
-  of_test false t before = omega (arith, sum_by-cons (has n) e es, ap by_test t, before)
+once n from (e ∷ es) (is, short, rest) = grind (arith, nat_tests, is, sum_by-cons (has n) e es, none_below n (from + 1) es rest, once n (from + 1) es rest)
 
 -- ---- a closed head is a part
 

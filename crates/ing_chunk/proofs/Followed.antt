@@ -1,11 +1,12 @@
 -- The model's state follows the chunks of a stream, acceptance by acceptance.
-use Rattle.std.proofs.Common.{◌≡◌, ◌≢◌, ℕ, ◌+◌, ◌<◌, max, Bool, true, false, cond, ◌||◌, List, [], ◌∷◌, ◌++◌, length, map, find, is_none, refl, sym, ap, subst, ◌∙◌, arith, nat_le, append_assoc, append-nil, Some, None, length-append}
+use Rattle.std.proofs.Common.{◌≡◌, ◌≢◌, ℕ, ◌+◌, max, Bool, true, false, cond, List, [], ◌∷◌, ◌++◌, length, map, find, is_none, refl, sym, ap, subst, ◌∙◌, arith, nat_le, append_assoc, append-nil, Some, None, length-append}
 use Rattle.std.specs.Prelude.{Option, All, IsPermutation}
-use Rattle.std.specs.List.{list_any}
 use Rattle.std.specs.Option.{option_map, unwrap_or}
+use Rattle.std.proofs.lemmas.List.{map-append}
+use Rattle.std.proofs.lemmas.List.Folds.{list_any_none}
+use Rattle.std.proofs.lemmas.Simd.{map-map}
 use Rattle.std.proofs.lemmas.List.Elements.{All-cons, All-head, All-tail, All-weaker}
 use Rattle.std.proofs.lemmas.List.Sorted.{IsPermutation-refl, IsPermutation-trans, IsPermutation-map, IsPermutation-cons, IsPermutation-append, IsPermutation-to_front, IsPermutation-append_comm, IsPermutation-sym, All-permutation, sum_by-IsPermutation}
-use Rattle.std.proofs.lemmas.List.Sums.{sum_by-append, sum_by-cons}
 use Rattle.ing_rows.specs.declared.entry.Entry.{Entry}
 use Rattle.ing_rows.specs.declared.place.Place.TheVariants.{Head, Block}
 use Rattle.ing_rows.specs.declared.place.SealReason.TheVariants.{Full}
@@ -13,8 +14,9 @@ use Rattle.ing_rows.specs.declared.rules.Rules.{Rules}
 use Rattle.ing_rows.specs.Rows.{StreamKey, Row, Mark, State, size_of, size_of_rows, is_of_chunk, rows_of_chunk}
 use Rattle.ing_rows.specs.Steps.{is_growing, blocks_of, chunk_at, marks_at, cut, filled, accepted_as}
 use Rattle.ing_chunk.specs.declared.numbered.Numbered.{Numbered}
-use Rattle.ing_chunk.specs.Chunks.{ChunkContents, ChunksContents, size_of_entries, size_of_chunk, in_blocks, row_in, block_rows, head_rows, mark_of, chunk_state, chunks_state, growing_state, with_entry, with_block, chunk_to_grow, empty_chunk, placed, taken_with, TakesOne, AreBlocks, AreChunks, GrowsIfAny}
-use Rattle.ing_chunk.proofs.Turned.{IsInHead, IsInBlock, IsOther, Apart, to_block, stream_self, nat_self, head_row, all_head, all_block, other_rows, other_marks, not_block, size-rows, chunk_only, ended, finish, find-none, any-none, map-none, map-append}
+use Rattle.ing_chunk.specs.Chunks.{ChunkContents, ChunksContents, size_of_entries, size_of_chunk, in_blocks, row_in, block_rows, head_rows, mark_of, chunk_state, chunks_state, growing_state, with_entry, with_block, chunk_to_grow, empty_chunk, placed, taken_with, TakesOne, AreBlocks, AreChunks, GrowsIfAny, is_full, is_to_cut}
+use Rattle.ing_chunk.proofs.Sums.{size-append}
+use Rattle.ing_chunk.proofs.Turned.{sum_by-map, IsInHead, IsInBlock, IsOther, Apart, to_block, stream_self, nat_self, head_row, all_head, all_block, other_rows, other_marks, not_block, size-rows, chunk_only, ended, finish, find-none, map-none}
 
 -- the model's state is that of the chunks: the rows of the growing chunk's head, of its blocks, and of the other chunks
 -- stand one after another, each in whatever order
@@ -46,42 +48,27 @@ module _ (s : StreamKey) (k n now : ℕ) (m : List Mark) (others : All (IsOther 
 
   marks_now : (o : Option ChunkContents) (e : Entry) → GrowsIfAny n o → marks_at s n now ((growing_state s o).marks ++ m) ≡ mark_of s (with_entry e n now (unwrap_or o (empty_chunk n))) ∷ m
   marks_now None e good =
-      ap (λ t. cond t (map (λ q. cond (is_growing s q) (record q { last_update = now }) q) m) (record { stream = s; chunk = n; last_update = now; reason = None } ∷ m)) (any-none (is_growing s) m quiet)
+      ap (λ t. cond t (map (λ q. cond (is_growing s q) (record q { last_update = now }) q) m) (record { stream = s; chunk = n; last_update = now; reason = None } ∷ m)) (list_any_none (is_growing s) m quiet)
   marks_now (Some g) e good =
-      ap (λ t. cond (t || list_any (is_growing s) m) (cond t (record (mark_of s g) { last_update = now }) (mark_of s g) ∷ map (λ q. cond (is_growing s q) (record q { last_update = now }) q) m) (record { stream = s; chunk = n; last_update = now; reason = None } ∷ mark_of s g ∷ m)) (grows g good.open_yet)
-      ∙ ap (λ l. record (mark_of s g) { last_update = now } ∷ l) (map-none (is_growing s) (λ q. record q { last_update = now }) m quiet)
+      rw (grows g good.open_yet) (ap (λ l. record (mark_of s g) { last_update = now } ∷ l) (map-none (is_growing s) (λ q. record q { last_update = now }) m quiet))
 
 -- heads have no block
 heads_no_blocks : (s : StreamKey) (k index : ℕ) (h b : List Row) → All (IsInHead s k index) h → blocks_of (h ++ b) ≡ blocks_of b
 heads_no_blocks s k index [] b all = refl
 heads_no_blocks s k index (r ∷ h) b all =
-    ap (λ t. cond t (max (r.block + 1) (blocks_of (h ++ b))) (blocks_of (h ++ b))) (not_block r.place (All-head (IsInHead s k index) r h all).head)
-    ∙ heads_no_blocks s k index h b (All-tail (IsInHead s k index) r h all)
+    rw (not_block r.place (All-head (IsInHead s k index) r h all).head) (heads_no_blocks s k index h b (All-tail (IsInHead s k index) r h all))
 
 -- a closed head is one more block
-more_blocks : (s : StreamKey) (k index : ℕ) (h b : List Row) → All (IsInHead s k index) h → blocks_of b ≡ index → 0 < length h → blocks_of (map to_block h ++ b) ≡ index + 1
-more_blocks s k index [] b all many some = absurd (omega arith)
-more_blocks s k index (r ∷ []) b all many some = omega (arith, (All-head (IsInHead s k index) r [] all).block)
-more_blocks s k index (r ∷ q ∷ h) b all many some =
-    omega (arith, (All-head (IsInHead s k index) r (q ∷ h) all).block, more_blocks s k index (q ∷ h) b (All-tail (IsInHead s k index) r (q ∷ h) all) many (omega arith))
+more_blocks : (s : StreamKey) (k index : ℕ) (h b : List Row) → All (IsInHead s k index) h → blocks_of b ≡ index → max (index + 1) (blocks_of (map to_block h ++ b)) ≡ index + 1
+more_blocks s k index [] b all many = omega (arith, many)
+more_blocks s k index (r ∷ h) b all many = omega (arith, (All-head (IsInHead s k index) r h all).block, more_blocks s k index h b (All-tail (IsInHead s k index) r h all) many)
 
 -- ---- rows and sizes
-
-pub size_of_mapped : (f : Numbered → Row) → ((x : Numbered) → (f x).entry ≡ x.entry) → (es : List Numbered) → size_of_rows (map f es) ≡ size_of_entries es
-size_of_mapped f same [] = refl
-size_of_mapped f same (e ∷ es) =
-    sum_by-cons (λ (q : Row). size_of q.entry) (f e) (map f es)
-    ∙ ap (λ n. size_of (f e).entry + n) (size_of_mapped f same es)
-    ∙ ap (λ (x : Entry). size_of x + size_of_entries es) (same e)
-    ∙ sym (sum_by-cons (λ (q : Numbered). size_of q.entry) e es)
 
 pub size_of_blocks : (s : StreamKey) (k index : ℕ) (bs : List (List Numbered)) → size_of_rows (block_rows s k index bs) ≡ size_of_entries (in_blocks bs)
 size_of_blocks s k index [] = refl
 size_of_blocks s k index (b ∷ bs) =
-    size-rows (map (row_in s k index Block) b) (block_rows s k (index + 1) bs)
-    ∙ ap (λ n. n + size_of_rows (block_rows s k (index + 1) bs)) (size_of_mapped (row_in s k index Block) (λ x. refl) b)
-    ∙ ap (λ n. size_of_entries b + n) (size_of_blocks s k (index + 1) bs)
-    ∙ sym (sum_by-append (λ (q : Numbered). size_of q.entry) b (in_blocks bs))
+    omega (arith, size-rows (map (row_in s k index Block) b) (block_rows s k (index + 1) bs), sum_by-map (λ (q : Row). size_of q.entry) (row_in s k index Block) b, size_of_blocks s k (index + 1) bs, size-append b (in_blocks bs))
 
 pub block_rows-more : (s : StreamKey) (k index : ℕ) (bs : List (List Numbered)) (b : List Numbered) → block_rows s k index (bs ++ b ∷ []) ≡ block_rows s k index bs ++ map (row_in s k (index + length bs) Block) b
 block_rows-more s k index [] b = append-nil (map (row_in s k index Block) b) ∙ ap (λ i. map (row_in s k i Block) b) (omega arith)
@@ -94,17 +81,14 @@ blocks_of-block s k index [] rows some = absurd (some refl)
 blocks_of-block s k index (e ∷ []) rows some = refl
 blocks_of-block s k index (e ∷ f ∷ b) rows some = omega (arith, blocks_of-block s k index (f ∷ b) rows (λ none. cc))
 
-blocks_of-blocks : (s : StreamKey) (k index : ℕ) (bs : List (List Numbered)) → AreBlocks bs → 0 < length bs → blocks_of (block_rows s k index bs) ≡ index + length bs
-blocks_of-blocks s k index [] all some = absurd (omega arith)
-blocks_of-blocks s k index (b ∷ []) all some = blocks_of-block s k index b [] (All-head (λ (x : List Numbered). x ≢ []) b [] all) ∙ omega arith
-blocks_of-blocks s k index (b ∷ c ∷ bs) all some =
-    blocks_of-block s k index b (block_rows s k (index + 1) (c ∷ bs)) (All-head (λ (x : List Numbered). x ≢ []) b (c ∷ bs) all)
-    ∙ ap (max (index + 1)) (blocks_of-blocks s k (index + 1) (c ∷ bs) (All-tail (λ (x : List Numbered). x ≢ []) b (c ∷ bs) all) (omega arith))
-    ∙ omega arith
+blocks_of-blocks : (s : StreamKey) (k index : ℕ) (bs : List (List Numbered)) → AreBlocks bs → max index (blocks_of (block_rows s k index bs)) ≡ index + length bs
+blocks_of-blocks s k index [] all = omega arith
+blocks_of-blocks s k index (b ∷ bs) all =
+    let here = blocks_of-block s k index b (block_rows s k (index + 1) bs) (All-head (λ (x : List Numbered). x ≢ []) b bs all) in
+    omega (arith, here, blocks_of-blocks s k (index + 1) bs (All-tail (λ (x : List Numbered). x ≢ []) b bs all))
 
 pub all_blocks : (s : StreamKey) (k : ℕ) (bs : List (List Numbered)) → AreBlocks bs → blocks_of (block_rows s k 0 bs) ≡ length bs
-all_blocks s k [] all = refl
-all_blocks s k (b ∷ bs) all = blocks_of-blocks s k 0 (b ∷ bs) all (omega arith) ∙ omega arith
+all_blocks s k bs all = omega (arith, blocks_of-blocks s k 0 bs all)
 
 -- ---- the chunks that wait, and one more
 
@@ -121,10 +105,15 @@ pub head_mapped : (s : StreamKey) (k index : ℕ) (block head : List Numbered) (
 head_mapped s k index block head h moved heads =
     IsPermutation-trans (map (row_in s k index Block) block) (map (row_in s k index Block) head) (map to_block h)
     (IsPermutation-map (row_in s k index Block) block head (IsPermutation-sym head block moved))
-    (subst (λ l. IsPermutation l (map to_block h)) (closed head) (IsPermutation-map to_block (map (row_in s k index Head) head) h heads)) where
-      closed : (es : List Numbered) → map to_block (map (row_in s k index Head) es) ≡ map (row_in s k index Block) es
-      closed [] = refl
-      closed (e ∷ es) = ap (λ l. row_in s k index Block e ∷ l) (closed es)
+    (subst (λ l. IsPermutation l (map to_block h)) (map-map to_block (row_in s k index Head) head) (IsPermutation-map to_block (map (row_in s k index Head) head) h heads))
+
+-- the rows of the blocks, with one more block, whose entries stood in the head
+pub closed_rows : (s : StreamKey) (k : ℕ) (bs : List (List Numbered)) (block head : List Numbered) (h b : List Row) → IsPermutation head block → IsPermutation (map (row_in s k (length bs) Head) head) h → IsPermutation (block_rows s k 0 bs) b → IsPermutation (block_rows s k 0 (bs ++ block ∷ [])) (map to_block h ++ b)
+closed_rows s k bs block head h b moved heads blocks =
+    let new = map (row_in s k (length bs) Block) block in
+    subst (λ l. IsPermutation l (map to_block h ++ b)) (sym (block_rows-more s k 0 bs block ∙ ap (λ i. block_rows s k 0 bs ++ map (row_in s k i Block) block) (omega arith)))
+    (IsPermutation-trans (block_rows s k 0 bs ++ new) (new ++ block_rows s k 0 bs) (map to_block h ++ b) (IsPermutation-append_comm (block_rows s k 0 bs) new)
+    (IsPermutation-append new (map to_block h) (block_rows s k 0 bs) b (head_mapped s k (length bs) block head h moved heads) blocks))
 
 module _ (rules : Rules) (s : StreamKey) (now : ℕ) (e : Entry) (c : ChunksContents) (good : AreChunks c) (st : State) (reads : Reads s c st) (block : List Numbered) where
   abbrev g : ChunkContents
@@ -159,9 +148,6 @@ module _ (rules : Rules) (s : StreamKey) (now : ℕ) (e : Entry) (c : ChunksCont
   in_heads : All (IsInHead s k index) reads.h
   in_heads = All-permutation (IsInHead s k index) (head_rows s g) reads.h reads.heads (all_head s k index g.head)
 
-  in_heads' : All (IsInHead s k index) h'
-  in_heads' = All-cons (IsInHead s k index) r reads.h (head_row s k index (record { number = c.next; entry = e })) in_heads
-
   index_is : blocks_of (rows_of_chunk s k (reads.h ++ (reads.b ++ reads.w))) ≡ index
   index_is =
       ap blocks_of (chunk_only rules s k reads.b reads.w reads.m (mark_of s g') apart reads.h (All-weaker (IsInHead s k index) (λ (q : Row). is_of_chunk s k q ≡ true) (λ q x. x.chunk) reads.h in_heads))
@@ -175,7 +161,7 @@ module _ (rules : Rules) (s : StreamKey) (now : ℕ) (e : Entry) (c : ChunksCont
   head_size : size_of_rows h' ≡ size_of_entries g'.head
   head_size =
       sum_by-IsPermutation (λ (q : Row). size_of q.entry) (map (row_in s k index Head) g'.head) h' heads'
-      ∙ size_of_mapped (row_in s k index Head) (λ x. refl) g'.head
+      ∙ sum_by-map (λ (q : Row). size_of q.entry) (row_in s k index Head) g'.head
 
   block_size : size_of_rows reads.b ≡ size_of_entries (in_blocks g.blocks)
   block_size =
@@ -195,17 +181,13 @@ module _ (rules : Rules) (s : StreamKey) (now : ℕ) (e : Entry) (c : ChunksCont
       ∙ ap (λ chunk. placed_in chunk (blocks_of (rows_of_chunk s chunk (reads.h ++ (reads.b ++ reads.w)))) (marks_at s c.next now ((growing_state s c.growing).marks ++ reads.m))) (at_chunk s k c.next now reads.m others c.growing good.growing)
       ∙ ap (λ i. placed_in k i (marks_at s c.next now ((growing_state s c.growing).marks ++ reads.m))) index_is
       ∙ ap (placed_in k index) (marks_now s k c.next now reads.m others c.growing e good.growing)
-      ∙ finish rules s k reads.b reads.w reads.m (mark_of s g') apart index h' in_heads'
+      ∙ finish rules s k reads.b reads.w reads.m (mark_of s g') apart index h' (All-cons (IsInHead s k index) r reads.h (head_row s k index (record { number = c.next; entry = e })) in_heads)
       ∙ ap (λ n. ending (nat_le rules.chunk_target_size (n + size_of_rows reads.b)) (nat_le rules.chunk_block_size n) h') head_size
       ∙ ap (λ n. ending (nat_le rules.chunk_target_size (size_of_entries g'.head + n)) (nat_le rules.chunk_block_size (size_of_entries g'.head)) h') block_size
 
   module _ (moved : IsPermutation g'.head block) where
     block_rows' : IsPermutation (block_rows s k 0 (g.blocks ++ block ∷ [])) (map to_block h' ++ reads.b)
-    block_rows' =
-        subst (λ l. IsPermutation l (map to_block h' ++ reads.b)) (sym (block_rows-more s k 0 g.blocks block ∙ ap (λ i. block_rows s k 0 g.blocks ++ map (row_in s k i Block) block) (omega arith)))
-        (IsPermutation-trans (block_rows s k 0 g.blocks ++ map (row_in s k index Block) block) (map (row_in s k index Block) block ++ block_rows s k 0 g.blocks) (map to_block h' ++ reads.b)
-        (IsPermutation-append_comm (block_rows s k 0 g.blocks) (map (row_in s k index Block) block))
-        (IsPermutation-append (map (row_in s k index Block) block) (map to_block h') (block_rows s k 0 g.blocks) reads.b (head_mapped s k index block g'.head h' moved heads') reads.blocks))
+    block_rows' = closed_rows s k g.blocks block g'.head h' reads.b moved heads' reads.blocks
 
     reads_placed : (full cuts : Bool) → Reads s (placed full cuts block g' c) (ending full cuts h')
     reads_placed true cuts = record {
@@ -241,7 +223,7 @@ module _ (rules : Rules) (s : StreamKey) (now : ℕ) (e : Entry) (c : ChunksCont
       blocks = block_rows';
       others = reads.others;
       sealed = reads.sealed;
-      many = more_blocks s k index h' reads.b in_heads' reads.many (omega arith) ∙ sym (length-append g.blocks (block ∷ []));
+      many = more_blocks s k index reads.h reads.b in_heads reads.many ∙ sym (length-append g.blocks (block ∷ []));
     }
     reads_placed false false = record {
       h = h';
@@ -259,8 +241,7 @@ module _ (rules : Rules) (s : StreamKey) (now : ℕ) (e : Entry) (c : ChunksCont
 
 pub reads_one : (rules : Rules) (s : StreamKey) (now : ℕ) (e : Entry) (c d : ChunksContents) (st : State) → AreChunks c → TakesOne rules now e c d → Reads s c st → Reads s d (accepted_as c.next rules s e now st)
 reads_one rules s now e c d st good takes reads =
+    let g = with_entry e c.next now (chunk_to_grow c) in
     subst (λ x. Reads s x (accepted_as c.next rules s e now st)) (sym takes.is)
     (subst (Reads s (taken_with takes.block rules now e c)) (sym (accepted_is rules s now e c good st reads takes.block))
-    (reads_placed rules s now e c good st reads takes.block takes.reorders
-    (nat_le rules.chunk_target_size (size_of_chunk (with_entry e c.next now (chunk_to_grow c))))
-    (nat_le rules.chunk_block_size (size_of_entries (with_entry e c.next now (chunk_to_grow c)).head))))
+    (reads_placed rules s now e c good st reads takes.block takes.reorders (is_full rules g) (is_to_cut rules g)))

@@ -1,20 +1,17 @@
 mod Added
 mod Aside
-mod Begun
 mod Behind
 pub mod Between
-mod Claimed
 mod Covered
 mod Drained
 mod Due
 mod Followed
 mod Gauged
-mod KeptLaws
 mod Ordered
 mod Sealed
 mod Sliced
+mod Stands
 mod Sums
 mod Taken
-mod Together
 mod Turned
 mod Whole

@@ -1,12 +1,14 @@
 -- What is kept of entries, as they grow and are put in order.
-use Rattle.std.proofs.Common.{◌≡◌, ◌≢◌, ℕ, ◌+◌, ◌<◌, ◌≤◌, max, min, List, [], ◌∷◌, ◌++◌, length, sym, ap, ◌∙◌, arith, append_assoc, append-nil, length-append, cond, nat_eq, sum_by, refl}
+use Rattle.std.proofs.Common.{◌≡◌, ◌≢◌, ℕ, ◌+◌, ◌<◌, ◌≤◌, max, min, List, [], ◌∷◌, ◌++◌, length, sym, ap, ◌∙◌, arith, append_assoc, append-nil, length-append, cond, nat_eq, sum_by, refl, ◌^◌, subst}
 use Rattle.std.specs.Prelude.{All, IsPermutation}
-use Rattle.std.proofs.lemmas.List.Sorted.{sum_by-IsPermutation, length_permutation, IsPermutation-sym, All-permutation}
+use Rattle.std.proofs.lemmas.List.Sorted.{sum_by-IsPermutation, length_permutation, IsPermutation-sym, All-permutation, IsPermutation-append_right}
 use Rattle.std.proofs.lemmas.List.Sums.{sum_by-append}
-use Rattle.std.proofs.lemmas.List.Elements.{All-nil, All-cons, All-head, All-tail, All-push}
+use Rattle.std.proofs.lemmas.List.Elements.{All-nil, All-cons, All-head, All-tail, All-push, All-append}
 use Rattle.ing_rows.specs.Rows.{size_of}
 use Rattle.ing_chunk.specs.declared.numbered.Numbered.{Numbered}
 use Rattle.ing_chunk.specs.Chunks.{size_of_entries, in_blocks, least_of, greatest_of, AreBlocks, starts}
+use Rattle.ing_chunk.specs.declared.kept.Kept.{Kept}
+use Rattle.ing_chunk.specs.Kept.{IsKeptOf}
 
 pub size-append : (xs ys : List Numbered) → size_of_entries (xs ++ ys) ≡ size_of_entries xs + size_of_entries ys
 size-append xs ys = sum_by-append (λ (e : Numbered). size_of e.entry) xs ys
@@ -82,3 +84,30 @@ module _ (bs : List (List Numbered)) (head b : List Numbered) (h : IsPermutation
   block_starts-more first =
       let begins : Numbered → ℕ = λ e. cond (nat_eq e.number first) 1 0 in
       ap (sum_by begins) (in_blocks-more bs b) ∙ sum_by-append begins (in_blocks bs) b ∙ ap (λ n. starts first (in_blocks bs) + n) (sum_by-IsPermutation begins head b h)
+
+-- ---- what is kept of entries equals what computing it afresh gives
+
+pub kept_both : (a b k : Kept) (xs ys : List Numbered) → k.count ≡ a.count + b.count → k.size ≡ a.size + b.size → k.least ≡ min a.least b.least → k.greatest ≡ max a.greatest b.greatest → IsKeptOf a xs → IsKeptOf b ys → IsKeptOf k (xs ++ ys)
+kept_both a b k xs ys count size least greatest h j = record {
+  count = omega (arith, count, h.count, j.count, length-append xs ys);
+  size = omega (arith, size, h.size, j.size, size-append xs ys);
+  least = omega (arith, least, h.least, j.least, least-append xs ys (least_small ys));
+  greatest = omega (arith, greatest, h.greatest, j.greatest, greatest-append xs ys);
+  small = omega (arith, size, count, h.small, j.small);
+  stamps = All-append (λ (e : Numbered). e.entry.stamp < 2 ^ 63) xs ys h.stamps j.stamps;
+}
+
+kept_reordered : (k : Kept) (xs ys : List Numbered) → IsPermutation xs ys → IsKeptOf k xs → IsKeptOf k ys
+kept_reordered k xs ys same h = record {
+  count = h.count ∙ sym (length_permutation xs ys same);
+  size = h.size ∙ sym (size_reordered xs ys same);
+  least = h.least ∙ sym (least_reordered xs ys same);
+  greatest = h.greatest ∙ sym (greatest_reordered xs ys same);
+  small = h.small;
+  stamps = All-permutation (λ (e : Numbered). e.entry.stamp < 2 ^ 63) xs ys same h.stamps;
+}
+
+-- one more block, with the entries of a head
+pub kept_closed : (k : Kept) (bs : List (List Numbered)) (head b : List Numbered) → IsPermutation head b → IsKeptOf k (in_blocks bs ++ head) → IsKeptOf k (in_blocks (bs ++ b ∷ []))
+kept_closed k bs head b same h =
+    subst (IsKeptOf k) (sym (in_blocks-more bs b)) (kept_reordered k (in_blocks bs ++ head) (in_blocks bs ++ b) (IsPermutation-append_right (in_blocks bs) head b same) h)

@@ -1,5 +1,5 @@
 use Rattle.std.proofs.Common.{refl}
-use Rattle.ing_chunk.proofs.KeptLaws.{kept_both}
+use Rattle.ing_chunk.proofs.Sums.{kept_both}
 use Rattle.ing_chunk.proofs.kept.Kept.and.Goals as goal
 
 pub returns : goal.returns
