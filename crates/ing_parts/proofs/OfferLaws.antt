@@ -57,8 +57,10 @@ between_again name start end [] = refl
 between_again name start end (e ∷ es) = step (is_between start end e) refl (between_again name start end es) where
   rest : List Found
   rest = found_between name start end es
+
   inner : List Found
   inner = found_between name start end (filter (is_between start end) es)
+
   step : (t : Bool) → is_between start end e ≡ t → inner ≡ rest
       → found_between name start end (cond t (e ∷ filter (is_between start end) es) (filter (is_between start end) es)) ≡ cond t (found_of name e ∷ rest) rest
   step true is same = ap (λ b. cond b (found_of name e ∷ inner) inner) is ∙ ap (λ l. found_of name e ∷ l) same

@@ -135,5 +135,12 @@ pub fn offer_block(
     if is_passed_over(best, block.span(), start, end) {
         return Ok(());
     }
-    offer_entries(best, alloc, name, block.entries_between(start, end), start, end)
+    offer_entries(
+        best,
+        alloc,
+        name,
+        block.entries_between(start, end),
+        start,
+        end,
+    )
 }
