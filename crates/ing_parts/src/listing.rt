@@ -1,10 +1,13 @@
 //! A stored chunk as its shard lists it.
 ghost use Rattle.std.specs.Prelude.{◌≡◌, IfOk, filter, true, []};
+ghost use Rattle.ing_labels.specs.Canonical.{canonical_of};
 ghost use Rattle.ing_chunk.specs.Chunks.{in_blocks, is_between};
-ghost use Rattle.ing_parts.specs.Listings.{IsListing, listed_of, extent_of};
+ghost use Rattle.ing_parts.specs.Listings.{IsListing, IsSpelt, listed_of, extent_of};
 
 use ing_chunk::spans_bound_stamps;
-use ing_codec::{Extent, chunks_are_exact};
+use ing_codec::{Extent, IndexRow};
+use ing_labels::Labels;
+use ing_rows::Tenant;
 use ing_store::Receipt;
 use std::alloc::{AllocError, Global};
 use std::marker::Model;
@@ -13,12 +16,11 @@ use std::sync::Arc;
 /// What is kept of a stored chunk.
 #[derive(Drop)]
 struct Kept<R: Receipt> {
-    extent: Extent,
-    key: [u8; 32],
+    row: IndexRow,
     receipt: R,
 }
 
-/// A stored chunk: its extent, its key and the receipt of its object. Contracts see the name and the
+/// A stored chunk: what an index tells of it, and the receipt of its object. Contracts see the name and the
 /// bytes that the receipt means, the chunk that the bytes spell, and the key. A shard and the queries
 /// that read it share it.
 #[derive(Drop)]
@@ -34,31 +36,22 @@ impl<R: Receipt> Model for Listing<R> {
     ghost use Rattle.ing_parts.specs.Listings.{listed_of, IsListing};
 
     ghost view = { λ l. let kept = l.kept.value in
-        listed_of (R.name kept.receipt) (R.bytes kept.receipt) kept.key };
+        listed_of (R.name kept.receipt) (R.bytes kept.receipt) kept.row.key };
 
     ghost invariant = { λ l. let kept = l.kept.value in
-        IsListing (R.bytes kept.receipt) kept.extent kept.key };
+        IsListing (R.bytes kept.receipt) kept.row };
 }
 
 impl<R: Receipt> Listing<R> {
-    /// The listing of a chunk with this extent and key, of which this is the receipt (own).
-    pub fn of(
-        alloc: Global,
-        extent: Extent,
-        key: [u8; 32],
-        receipt: R,
-    ) -> Result<Listing<R>, AllocError>
-        requires { IsListing (R.bytes receipt) extent key }
+    /// The listing of the chunk that the bytes of a receipt spell, of which an index tells this. `AllocError` where memory
+    /// ran out. (Own.)
+    pub fn of(alloc: Global, row: IndexRow, receipt: R) -> Result<Listing<R>, AllocError>
+        requires { IsListing (R.bytes receipt) row }
         ensures { IfOk result (λ listing.
-            listing ≡ listed_of (R.name receipt) (R.bytes receipt) key) }
+            listing ≡ listed_of (R.name receipt) (R.bytes receipt) row.key) }
     {
-        let kept = Kept {
-            extent,
-            key,
-            receipt,
-        };
         Ok(Listing {
-            kept: Arc::new(alloc, kept)?,
+            kept: Arc::new(alloc, Kept { row, receipt })?,
         })
     }
 
@@ -71,12 +64,33 @@ impl<R: Receipt> Listing<R> {
         })
     }
 
+    /// A law: what is listed is the chunk that the bytes of its receipt spell, under their key.
+    pub fn is_spelt(&self)
+        ensures { IsSpelt self.now }
+    {
+        // What the type keeps is seen where a field is read.
+        let _key = self.kept.row.key();
+    }
+
+    /// Its tenant.
+    pub fn tenant(&self) -> &Tenant
+        ensures { result.now ≡ self.now.tenant }
+    {
+        self.kept.row.tenant()
+    }
+
+    /// The labels of its stream.
+    pub fn labels(&self) -> &Labels
+        ensures { canonical_of result.now ≡ self.now.stream }
+    {
+        self.kept.row.labels()
+    }
+
     /// The numbers, the size and the stamps of its entries.
     pub fn extent(&self) -> Extent
         ensures { result ≡ extent_of self.now.first self.now.blocks }
     {
-        chunks_are_exact();
-        self.kept.extent
+        self.kept.row.extent()
     }
 
     /// Whether its span shows that it has no entry whose stamp is at least the start and below the end, in nanoseconds.
@@ -90,10 +104,10 @@ impl<R: Receipt> Listing<R> {
     }
 
     /// Its key: the SHA-256 (FIPS 180-4) of the bytes of its object.
-    pub fn key(&self) -> &[u8; 32]
-        ensures { result.now ≡ self.now.key }
+    pub fn key(&self) -> [u8; 32]
+        ensures { result ≡ self.now.key }
     {
-        &self.kept.key
+        self.kept.row.key()
     }
 
     /// The receipt of its object: what a store end takes to give the bytes again.

@@ -7,14 +7,11 @@ use Rattle.std.proofs.lemmas.List.Elements.{Contains-append_left, Contains-appen
 use Rattle.std.proofs.lemmas.Bool.{le-ltb, lt-leb}
 use Rattle.ing_chunk.specs.declared.numbered.Numbered.{Numbered}
 use Rattle.ing_chunk.specs.Chunks.{least_of, greatest_of}
-use Rattle.ing_codec.specs.declared.extent.Extent.{Extent}
-use Rattle.ing_codec.specs.ChunkReading.{read_chunk}
-use Rattle.ing_codec.specs.Laws.{ChunksAreExact}
-use Rattle.ing_parts.specs.Listings.{IsListing, Listed, listed_of, blocks_in}
+use Rattle.ing_parts.specs.Listings.{Listed}
 use Rattle.ing_parts.specs.Parts.{found_between, found_of}
 use Rattle.ing_query.specs.declared.fault.QueryFault.{QueryFault}
 use Rattle.ing_query.specs.declared.fault.QueryFault.TheVariants.{NoMemory, StoreFault, BadObject}
-use Rattle.ing_query.specs.Fetched.{IsSpelt, KeyIs}
+use Rattle.ing_query.specs.Fetched.{BadIs, KeyIs, NotBad, WasBad, WasBadIn}
 
 outside : (a b : Bool) → b ≡ false → (a && b) ≡ false
 outside true b h = h
@@ -40,17 +37,6 @@ pub holds : (b : Bool) → not b ≡ false → b ≡ true
 holds true h = refl
 holds false h = absurd (cc)
 
--- what is listed is the chunk that the bytes spell
-pub spelt_of : ChunksAreExact → (name bytes : List ℕ) (extent : Extent) (key : List ℕ) → IsListing bytes extent key → (listed : Listed) → listed_of name bytes key ≡ listed → IsSpelt listed
-spelt_of exact name bytes extent key h listed is =
-    let read : read_chunk bytes ≡ Ok h.object = ap read_chunk h.spelt ∙ exact.each h.object h.is in
-    subst IsSpelt is (record {
-      object = h.object;
-      read = read;
-      blocks = ap blocks_in read;
-      key = h.keyed;
-    })
-
 -- a key of one kind is of a wider kind
 pub key_is_of : (P Q : List ℕ → Type 0) → ((k : List ℕ) → P k → Q k) → (fault : QueryFault) → KeyIs P fault → KeyIs Q fault
 key_is_of P Q wider NoMemory h = tt
@@ -62,8 +48,27 @@ pub err_keeps : {T : Type 0} (P : QueryFault → Type 0) (fault : QueryFault) (r
 err_keeps P fault (Ok x) h is = tt
 err_keeps P fault (Err e) h is = subst P (sym is) h
 
-pub first_contained : (k : List ℕ) (ks : List (List ℕ)) → Contains (k ∷ ks) k
-first_contained k ks = Contains-append_left (k ∷ []) ks k (Contains-push [] k)
+-- a fault that is no bad object has none of any kind
+pub bad_of_none : (P : List ℕ → Type 0) (fault : QueryFault) → NotBad fault → BadIs P fault
+bad_of_none P NoMemory h = tt
+bad_of_none P (StoreFault key) h = tt
+bad_of_none P (BadObject key) h = absurd h
 
-pub later_contained : (k : List ℕ) (ks : List (List ℕ)) (q : List ℕ) → Contains ks q → Contains (k ∷ ks) q
-later_contained k ks q h = Contains-append_right (k ∷ []) ks q h
+-- a bad object of what is listed is one of a kind that has it
+pub bad_is_of : (P : Listed → Type 0) (listed : Listed) → P listed → (fault : QueryFault) → KeyIs (λ k. k ≡ listed.key) fault → BadIs (λ k. WasBad listed) fault → BadIs (WasBadIn P) fault
+bad_is_of P listed of NoMemory key bad = tt
+bad_is_of P listed of (StoreFault k) key bad = tt
+bad_is_of P listed of (BadObject k) key bad = (listed, of, key, bad)
+
+-- a bad object of one kind is of a wider kind
+pub bad_wider : (P Q : Listed → Type 0) → ((l : Listed) → P l → Q l) → (fault : QueryFault) → BadIs (WasBadIn P) fault → BadIs (WasBadIn Q) fault
+bad_wider P Q wider NoMemory h = tt
+bad_wider P Q wider (StoreFault key) h = tt
+bad_wider P Q wider (BadObject key) h = (h.0, wider h.0 h.1, h.2, h.3)
+
+module _ {X : Type 0} where
+  pub first_contained : (k : X) (ks : List X) → Contains (k ∷ ks) k
+  first_contained k ks = Contains-append_left (k ∷ []) ks k (Contains-push [] k)
+
+  pub later_contained : (k : X) (ks : List X) (q : X) → Contains ks q → Contains (k ∷ ks) q
+  later_contained k ks q h = Contains-append_right (k ∷ []) ks q h

@@ -1,19 +1,33 @@
 -- What is known of a stored chunk, and what a fault of a query tells of the store (own).
 use Rattle.std.specs.Prelude.{◌≡◌, ℕ, ◌≤◌, List, Result, Ok, Err, IfErr}
 use Rattle.sha2.specs.Sha256.{sha256}
-use Rattle.ing_codec.specs.ChunkObjects.{ChunkObject}
+use Rattle.ing_codec.specs.ChunkObjects.{ChunkObject, IsObject}
 use Rattle.ing_codec.specs.ChunkReading.{read_chunk}
-use Rattle.ing_parts.specs.Listings.{Listed}
+use Rattle.ing_parts.specs.Listings.{Listed, IsLike}
 use Rattle.ing_store.specs.StoreFaults.{HasFailed}
 use Rattle.ing_query.specs.declared.fault.QueryFault.{QueryFault}
 use Rattle.ing_query.specs.declared.fault.QueryFault.TheVariants.{NoMemory, StoreFault, BadObject}
 
--- what is listed is the chunk that the bytes spell, under their key
-pub record IsSpelt (listed : Listed) : Type 0 where
-  pub object : ChunkObject
-  pub read : read_chunk listed.bytes ≡ Ok object
-  pub blocks : listed.blocks ≡ object.blocks
-  pub key : listed.key ≡ sha256 listed.bytes
+-- a chunk is taken for what is listed: it is read from bytes of the key, and has the stream, the first number and the count
+pub record IsTaken (listed : Listed) (o : ChunkObject) : Type 0 where
+  pub bytes : List ℕ
+  pub key : listed.key ≡ sha256 bytes
+  pub read : read_chunk bytes ≡ Ok o
+  pub is : IsObject o
+  pub like : IsLike listed o
+
+-- bytes that have the key of what is listed spell no chunk of its stream, its first number and its count
+pub record AreBad (listed : Listed) (bytes : List ℕ) : Type 0 where
+  pub key : listed.key ≡ sha256 bytes
+  pub none : (o : ChunkObject) → read_chunk bytes ≡ Ok o → IsLike listed o → ⊥
+
+-- there are such bytes
+abbrev pub WasBad : Listed → Type 0
+WasBad listed = (bytes : List ℕ) × AreBad listed bytes
+
+-- under this key something is listed of this kind for which there are such bytes
+abbrev pub WasBadIn : (Listed → Type 0) → List ℕ → Type 0
+WasBadIn P key = (listed : Listed) × P listed × (key ≡ listed.key) × WasBad listed
 
 -- what a fault tells of the end's count of failures before and after: it does not fall, a fault of the store
 -- comes only where the end has failed, and it stays where the object is bad
@@ -53,3 +67,12 @@ NotStore (BadObject key) = Unit {0}
 
 abbrev pub IsNotStore : {T : Type 0} → Result T QueryFault → Type 0
 IsNotStore result = IfErr result NotStore
+
+-- the key of a bad object, where the fault is one, is of this kind
+abbrev pub BadIs : (List ℕ → Type 0) → QueryFault → Type 0
+BadIs P NoMemory = Unit {0}
+BadIs P (StoreFault key) = Unit {0}
+BadIs P (BadObject key) = P key
+
+abbrev pub HasBad : {T : Type 0} → (List ℕ → Type 0) → Result T QueryFault → Type 0
+HasBad P result = IfErr result (BadIs P)

@@ -1,3 +1,4 @@
 pub mod Answers
 pub mod Fetched
 pub mod Gathered
+pub mod QueryFaults

@@ -1,4 +1,8 @@
 //! Why a query is not answered.
+ghost use Rattle.std.specs.Prelude.{◌≡◌};
+ghost use Rattle.ing_query.specs.QueryFaults.{query_refusal_of};
+
+use ing_refusals::Refusal;
 use std::alloc::{AllocError, AllocFailed};
 use thiserror::Error;
 
@@ -14,6 +18,19 @@ pub enum QueryFault {
     /// What the store gave under this key is not the chunk that is listed.
     #[error("a stored object is damaged")]
     BadObject { key: [u8; 32] },
+}
+
+impl QueryFault {
+    /// Which refusal it is. Takes no memory.
+    pub fn refusal(&self) -> Refusal
+        ensures { result ≡ query_refusal_of self.now }
+    {
+        match self {
+            QueryFault::NoMemory => Refusal::NoMemory,
+            QueryFault::StoreFault { .. } => Refusal::StoreFault,
+            QueryFault::BadObject { .. } => Refusal::BadObject,
+        }
+    }
 }
 
 impl From<AllocError> for QueryFault {

@@ -13,10 +13,14 @@ use Rattle.ing_rows.specs.Rows.{StreamKey, Row}
 abbrev pub window_limit : ℕ → ℕ → ℕ
 window_limit highest max_age = highest - max_age / 2
 
--- the entry is this one: it has its stamp and its line
+-- two entries have one stamp and one line
+abbrev pub is_same : Entry → Entry → Bool
+is_same a b = (a.stamp == b.stamp) && bytes_eq a.line b.line
+
+-- the entry is this one, where there is one
 abbrev pub is_entry : Entry → Option Entry → Bool
 is_entry e None = false
-is_entry e (Some other) = (other.stamp == e.stamp) && bytes_eq other.line e.line
+is_entry e (Some other) = is_same other e
 
 -- The first case that holds (Loki documentation: limits configuration, accepting out-of-order writes; the order of the
 -- cases, and judging a duplicate against the last accepted entry alone, are own).

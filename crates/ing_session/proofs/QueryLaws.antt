@@ -23,7 +23,7 @@ use Rattle.ing_store.specs.declared.store_end.Receipt.{Ghosts}
 use Rattle.ing_session.specs.declared.reply.Reply.{Reply}
 use Rattle.ing_session.specs.declared.session.Session.{Session}
 use Rattle.ing_session.specs.Commands.{Query}
-use Rattle.ing_session.specs.Faults.{query_refusal}
+use Rattle.ing_query.specs.QueryFaults.{query_refusal_of}
 use Rattle.ing_session.specs.Flushing.{HaveCause}
 use Rattle.ing_session.specs.Held.{Held, IsHeld}
 use Rattle.ing_session.specs.Queries.{Answer, Refused, Failed, Damaged, QueryMayBe, Reads, IsFound, failed_of}
@@ -90,7 +90,7 @@ module _ {R : Type 0} {g : Ghosts R} (honest : Type 0) (settings : StoreSettings
 
   -- the store does not let it be answered
   pub not_answered : (before after : ℕ) (fault : QueryFault) (r : Result Reply AllocError) → Reads query.text → (honest → NotBad fault) → Counts before after fault
-      → (fault ≡ NoMemory → IsErr r) → IfOk r (λ reply. reply_data reply ≡ fault_data (query_refusal fault) None)
+      → (fault ≡ NoMemory → IsErr r) → IfOk r (λ reply. reply_data reply ≡ fault_data (query_refusal_of fault) None)
       → IfOk r (λ reply. (old : Held) → IsHeld session old → Obeys honest settings (Ok (Query query)) old session before after (reply_data reply))
   not_answered before after fault (Err e) reads good counted memory told = tt
   not_answered before after NoMemory (Ok reply) reads good counted memory told = let no = memory refl in absurd cc

@@ -1,8 +1,6 @@
 -- The faults of lines: which refusal each is, and what the faults of a line's parts become.
 use Rattle.ing_refusals.specs.declared.refusal.Refusal as table
 use Rattle.ing_refusals.specs.declared.refusal.Refusal.TheVariants as refusals
-use Rattle.ing_query.specs.declared.fault.QueryFault.{QueryFault}
-use Rattle.ing_query.specs.declared.fault.QueryFault.TheVariants as queries
 use Rattle.ing_rows.specs.declared.fault.RowFault.{RowFault}
 use Rattle.ing_rows.specs.declared.fault.RowFault.TheVariants as rows
 use Rattle.ing_session.specs.declared.command.fault.LineFault.{LineFault}
@@ -20,9 +18,3 @@ abbrev pub fault_of : RowFault → LineFault
 fault_of rows.NoMemory = NoMemory
 fault_of rows.BadTenant = BadTenant
 fault_of rows.BadStamp = BadStamp
-
--- which refusal it is that a query is not answered
-abbrev pub query_refusal : QueryFault → table.Refusal
-query_refusal queries.NoMemory = refusals.NoMemory
-query_refusal (queries.StoreFault key) = refusals.StoreFault
-query_refusal (queries.BadObject key) = refusals.BadObject

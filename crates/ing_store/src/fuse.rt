@@ -2,7 +2,7 @@
 ghost use Rattle.std.specs.Prelude.{◌≡◌};
 ghost use Rattle.ing_store.specs.MemoryEnds.{fails_at};
 
-/// Which calls of an end of a store in memory fail, by their numbers. The calls `put`, `get` and `find` are
+/// Which calls of an end of a store in memory fail, by their numbers. The calls `put`, `get`, `find` and `found` are
 /// counted together, from 0. (Own.)
 #[derive(Clone, Copy, Debug, PartialEq, Eq)]
 pub enum Fuse {

@@ -2,16 +2,20 @@
 //! memory.
 #![tactic(auto)]
 
+mod digest_receipt;
 mod fault;
 mod fuse;
+mod meaning;
 mod memory_end;
 mod memory_object;
 mod memory_store;
 mod store_end;
 mod upload;
 
+pub use digest_receipt::DigestReceipt;
 pub use fault::StoreFault;
 pub use fuse::Fuse;
+pub use meaning::Meaning;
 pub use memory_end::MemoryEnd;
 pub use memory_object::{MemoryObject, MemoryReceipt};
 pub use memory_store::MemoryStore;

@@ -1,6 +1,7 @@
 //! An end of a store in memory.
 ghost use Rattle.std.specs.Prelude.{◌≡◌, ◌≢◌, ◌↔◌, IfOk, IfErr, IsErr, IfSome, true, Err};
 ghost use Rattle.std.specs.Cow.{cow_slice_items};
+ghost use Rattle.ing_store.specs.Digests.{HasDigestOf};
 ghost use Rattle.ing_store.specs.MemoryEnds.{called, is_failing, new_end};
 ghost use Rattle.ing_store.specs.StoreFaults.{IsCounted};
 ghost use Rattle.ing_store.specs.StoredObjects.{stored_object};
@@ -78,13 +79,6 @@ impl<'a, R: Wait> StoreEnd for MemoryEnd<'a, R> {
         self.failures
     }
 
-    /// It does: an object that the store has is never changed.
-    fn vouches(&self) -> bool
-        ensures { result ≡ true }
-    {
-        true
-    }
-
     /// Stores an object. Where one of this name with these bytes is there, nothing is written again. `Failed`
     /// where the call fails, and `NoMemory` where memory ran out.
     fn put(
@@ -119,6 +113,8 @@ impl<'a, R: Wait> StoreEnd for MemoryEnd<'a, R> {
         alloc: Global,
         receipt: &'r MemoryReceipt<'a>,
     ) -> Result<CowSlice<'r, u8, Global>, StoreFault>
+        ensures digest { IfOk result (λ v.
+            HasDigestOf (cow_slice_items v) receipt.now.object.now.bytes) }
         ensures bytes { IfOk result (λ v. cow_slice_items v ≡ receipt.now.object.now.bytes) }
         ensures count { IsCounted self.old.failures self.new.failures result }
         ensures sure { self.old.fuse ≡ Fuse.None → (self.new.fuse ≡ Fuse.None)
@@ -152,5 +148,34 @@ impl<'a, R: Wait> StoreEnd for MemoryEnd<'a, R> {
                 .object(self.rt, name)
                 .map(|object| MemoryReceipt { object }),
         )
+    }
+
+    /// The object of this name that was written last, and a copy of its bytes. `None` claims nothing. `Failed` where the call
+    /// fails, and `NoMemory` where memory ran out.
+    fn found(
+        &mut self,
+        alloc: Global,
+        name: &str,
+    ) -> Result<Option<(MemoryReceipt<'a>, Vec<u8>)>, StoreFault>
+        ensures name { IfOk result (λ found.
+            IfSome found (λ f. f.0.object.now.name ≡ name.now)) }
+        ensures bytes { IfOk result (λ found.
+            IfSome found (λ f. f.0.object.now.bytes ≡ f.1.items)) }
+        ensures count { IsCounted self.old.failures self.new.failures result }
+        ensures sure { self.old.fuse ≡ Fuse.None → (self.new.fuse ≡ Fuse.None)
+            × (self.new.failures ≡ self.old.failures) }
+        // Exactly the calls of the fuse fail, and each call counts.
+        ensures fails { (is_failing self.old ≡ true) ↔ (result ≡ Err StoreFault.Failed) }
+        ensures undamaged { result ≢ Err StoreFault.Damaged }
+        ensures called { self.new ≡ called self.old }
+    {
+        if self.fails() {
+            return Err(StoreFault::Failed);
+        }
+        let Some(object) = self.store.object(self.rt, name) else {
+            return Ok(None);
+        };
+        let bytes = object.bytes().to_vec(alloc)?;
+        Ok(Some((MemoryReceipt { object }, bytes)))
     }
 }

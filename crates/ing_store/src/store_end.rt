@@ -1,13 +1,15 @@
 //! What a worker has of a store.
-ghost use Rattle.std.specs.Prelude.{◌≡◌, ℕ, List, IfOk, IfSome, true};
+ghost use Rattle.std.specs.Prelude.{◌≡◌, ℕ, List, IfOk, IfSome};
 ghost use Rattle.std.specs.Cow.{cow_slice_items};
+ghost use Rattle.ing_store.specs.Digests.{HasDigestOf};
 ghost use Rattle.ing_store.specs.StoreFaults.{IsCounted};
 
 use crate::fault::StoreFault;
 use std::alloc::Global;
 use std::borrow::CowSlice;
 
-/// What a store end gives for an object, and takes to give its bytes again. It means a name and bytes (own).
+/// What a store end gives for an object, and takes to give its bytes again. It means a name and bytes, which need not be in
+/// memory (own).
 pub trait Receipt: Drop {
     /// The name of the object.
     ghost name: { Self → List ℕ };
@@ -30,17 +32,13 @@ pub trait StoreEnd {
     /// It never fails: no call raises its count of failures, and it stays such an end.
     ghost never_fails: { Self → Type 0 };
 
-    /// An end is honest where `get` gives the bytes that its receipts mean.
+    /// An end is honest where `get` gives the bytes that its receipts mean. One over a medium where bytes may change cannot
+    /// show that it is: of each end `get` gives bytes with the digest of those, and never others.
     ghost is_honest: { Type 0 };
 
     /// How often it has failed, up to 2^64-1. Takes no memory.
     fn failures(&self) -> u64
         ensures { result ≡ failure_count self.now };
-
-    /// Whether what `get` gives needs no second look: only an honest end says so. One whose bytes may change where they lie,
-    /// as on a disk, does not. Takes no memory.
-    fn vouches(&self) -> bool
-        ensures { result ≡ true → is_honest };
 
     /// Stores an object, and gives a receipt for it. A fault leaves open whether the object is stored.
     fn put(&mut self, alloc: Global, name: &str, bytes: &[u8]) -> Result<Self::Receipt, StoreFault>
@@ -53,12 +51,15 @@ pub trait StoreEnd {
         ensures sure { never_fails self.old → (never_fails self.new)
             × (failure_count self.new ≡ failure_count self.old) };
 
-    /// The bytes of an object, lent where they lie in memory already.
+    /// The bytes of an object, lent where they lie in memory already. `Damaged` where what lies there has another digest.
     fn get<'r>(
         &mut self,
         alloc: Global,
         receipt: &'r Self::Receipt,
     ) -> Result<CowSlice<'r, u8, Global>, StoreFault>
+        // What is given has the digest of what the receipt means, and is that where the end is honest.
+        ensures digest { IfOk result (λ v.
+            HasDigestOf (cow_slice_items v) (Self.Receipt.bytes receipt.now)) }
         ensures bytes { is_honest →
             IfOk result (λ v. cow_slice_items v ≡ Self.Receipt.bytes receipt.now) }
         ensures count { IsCounted (failure_count self.old) (failure_count self.new) result }
@@ -68,6 +69,21 @@ pub trait StoreEnd {
     /// A receipt of an object of this name. `None` claims nothing.
     fn find(&mut self, alloc: Global, name: &str) -> Result<Option<Self::Receipt>, StoreFault>
         ensures name { IfOk result (λ found. IfSome found (λ r. Self.Receipt.name r ≡ name.now)) }
+        ensures count { IsCounted (failure_count self.old) (failure_count self.new) result }
+        ensures sure { never_fails self.old → (never_fails self.new)
+            × (failure_count self.new ≡ failure_count self.old) };
+
+    /// A receipt of an object of this name, and the bytes that were read for it. The receipt means exactly these bytes. `None`
+    /// claims nothing.
+    fn found(
+        &mut self,
+        alloc: Global,
+        name: &str,
+    ) -> Result<Option<(Self::Receipt, Vec<u8>)>, StoreFault>
+        ensures name { IfOk result (λ found.
+            IfSome found (λ f. Self.Receipt.name f.0 ≡ name.now)) }
+        ensures bytes { IfOk result (λ found.
+            IfSome found (λ f. Self.Receipt.bytes f.0 ≡ f.1.items)) }
         ensures count { IsCounted (failure_count self.old) (failure_count self.new) result }
         ensures sure { never_fails self.old → (never_fails self.new)
             × (failure_count self.new ≡ failure_count self.old) };

@@ -3,8 +3,6 @@
 #![tactic(auto)]
 
 #[cfg(test)]
-mod doubted;
-#[cfg(test)]
 mod flushes;
 #[cfg(test)]
 mod queries;

@@ -1,6 +1,5 @@
-//! What queries find of a shard and a store in memory, where no contract says it: what a snapshot shares, which stored chunks are
-//! fetched, and bytes that no end vouches for.
-use crate::doubted::Doubted;
+//! What queries find of a shard and a store in memory, where no contract says it: what a snapshot shares, and which stored chunks
+//! are fetched.
 use crate::flushes::Owned;
 use ing_labels::Selector;
 use ing_parts::{Found, Order, Question, Snapshot};
@@ -77,19 +76,7 @@ fn lines<'a, R: Wait>(
     end: &mut MemoryEnd<'a, R>,
 ) -> Result<String, QueryFault> {
     let snapshots = snapshots(one, alloc, selector, question)?;
-    let found = run_query(alloc, snapshots, end, question.order, question.limit)?;
-    Ok(joined(alloc, &found)?)
-}
-
-/// All lines, by an end that does not vouch for its bytes.
-fn doubted_lines<'a, R: Wait>(
-    one: &Owned<'a>,
-    alloc: Global,
-    selector: &Selector,
-    end: &mut Doubted<'a, R>,
-) -> Result<String, QueryFault> {
-    let snapshots = snapshots(one, alloc, selector, ALL)?;
-    let found = run_query(alloc, snapshots, end, ALL.order, ALL.limit)?;
+    let found = run_query(alloc, snapshots, end, question)?;
     Ok(joined(alloc, &found)?)
 }
 
@@ -162,29 +149,6 @@ fn a_stored_chunk_is_fetched_where_it_may_matter(rt: HostRuntime) -> Result<(), 
         match lines(&one, alloc, &all, question, &mut end) {
             Ok(found) => assert_eq!(rt; Some(found.as_str()), wanted),
             Err(QueryFault::StoreFault { key: _ }) => assert_eq!(rt; None, wanted),
-            Err(fault) => return Err(fault.into()),
-        }
-    }
-    Ok(())
-}
-
-/// What an end gives that does not vouch for it is taken where its digest is the key, and else told as damaged.
-#[test]
-fn bytes_without_a_voucher_are_looked_at(rt: HostRuntime) -> Result<(), Fail> {
-    let alloc = rt.alloc();
-    let all = Selector::parse(alloc, "{a=\"1\"}")?;
-    let store = MemoryStore::new(alloc)?;
-    let mut one = fresh(alloc)?;
-    push_all(&mut one, alloc, 1, &["aaaa", "bbbb", "cccc", "dddd"])?;
-    store_next(&mut one, &rt, alloc, &store)?;
-    for (damages, wanted) in [(false, Some("aaaabbbbccccdddd")), (true, None)] {
-        let mut end = Doubted {
-            end: store.end(&rt, Fuse::None),
-            damages,
-        };
-        match doubted_lines(&one, alloc, &all, &mut end) {
-            Ok(found) => assert_eq!(rt; Some(found.as_str()), wanted),
-            Err(QueryFault::BadObject { key: _ }) => assert_eq!(rt; None, wanted),
             Err(fault) => return Err(fault.into()),
         }
     }

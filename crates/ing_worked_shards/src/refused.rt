@@ -65,7 +65,7 @@ impl<'a, R: Wait + Abort> Watched<'a, R> {
         let one = &self.one;
         snapshots.push(one.shard.snapshot(self.alloc, &one.tenant, &self.all, ALL)?)?;
         let mut end = self.store.end(self.rt, Fuse::None);
-        let found = run_query(self.alloc, snapshots, &mut end, ALL.order, ALL.limit)?;
+        let found = run_query(self.alloc, snapshots, &mut end, ALL)?;
         let mut entries = Vec::new(self.alloc);
         for one in &found {
             entries.push((one.entry.stamp.nanoseconds(), one.number))?;

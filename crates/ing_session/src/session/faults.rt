@@ -2,7 +2,7 @@
 ghost use Rattle.std.specs.Prelude.{◌≡◌, IfOk, IsErr, None};
 ghost use Rattle.ing_labels.specs.TextFaults.{text_fault_place, text_refusal_of};
 ghost use Rattle.ing_shard.specs.Faults.{refusal_of as push_refusal};
-ghost use Rattle.ing_session.specs.Faults.{query_refusal};
+ghost use Rattle.ing_query.specs.QueryFaults.{query_refusal_of};
 ghost use Rattle.ing_session.specs.Replies.{fault_data};
 ghost use Rattle.ing_session.specs.Session.{is_blank, label_fault, limits_of, line_fault};
 ghost use Rattle.ing_session.specs.Views.{reply_data, stream_data};
@@ -11,7 +11,6 @@ use crate::command::LineFault;
 use crate::reply::{Reply, StreamReply};
 use ing_labels::{LabelFault, LabelLimits, TextFault};
 use ing_query::QueryFault;
-use ing_refusals::Refusal;
 use ing_rows::Rules;
 use ing_shard::PushFault;
 use std::alloc::AllocError;
@@ -90,12 +89,11 @@ pub(super) fn selector_fault(fault: TextFault) -> Result<Reply, AllocError>
 
 /// The reply to a query that the store does not let answer.
 pub(super) fn query_fault(fault: QueryFault) -> Result<Reply, AllocError>
-    ensures reply { IfOk result (λ reply. reply_data reply ≡ fault_data (query_refusal fault) None) }
+    ensures reply { IfOk result (λ reply. reply_data reply ≡ fault_data (query_refusal_of fault) None) }
     ensures memory { fault ≡ QueryFault.NoMemory → IsErr result }
 {
     match fault {
         QueryFault::NoMemory => Err(AllocError),
-        QueryFault::StoreFault { .. } => Ok(Reply::Fault(Refusal::StoreFault)),
-        QueryFault::BadObject { .. } => Ok(Reply::Fault(Refusal::BadObject)),
+        fault => Ok(Reply::Fault(fault.refusal())),
     }
 }

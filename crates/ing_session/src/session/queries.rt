@@ -61,7 +61,7 @@ impl<R: Receipt> Session<R> {
         standing_joins();
         let front = snapshot.front;
         let snapshots = vec![in self.alloc; snapshot]?;
-        match run_query(self.alloc, snapshots, end, query.order, query.limit) {
+        match run_query(self.alloc, snapshots, end, question) {
             Ok(found) => Ok(Reply::Query { found, front }),
             Err(fault) => query_fault(fault),
         }

@@ -6,13 +6,17 @@ use Rattle.ing_sealed.proofs.ExtentLaws.{extent_is}
 use Rattle.ing_sealed.proofs.uploads.upload_chunk.Goals as goal
 
 pub of-requires : goal.of-requires
-of-requires g c = record {
-  object = c.of_chunk.result;
-  is = c.in_ok-uploaded.ensures.object;
-  spelt = c.in_ok-uploaded.ensures.bytes;
-  extends = extent_is c.args.chunk.now c.of_chunk-extent.result c.requires.whole c.of_chunk-extent.ensures.value ∙ ap (λ o. extent_of o.first o.blocks) (sym c.of_chunk.ensures);
-  keyed = c.in_ok-uploaded.ensures.key ∙ ap sha256 (sym c.in_ok-uploaded.ensures.bytes);
-}
+of-requires g c =
+    let spelt = c.in_ok-uploaded.ensures.bytes in
+    record {
+      object = c.of_chunk.result;
+      is = c.in_ok-uploaded.ensures.object;
+      read = ap read_chunk spelt ∙ c.chunks_are_exact.ensures.each c.of_chunk.result c.in_ok-uploaded.ensures.object;
+      tenant = ap (λ r. r.tenant) c.in_ok-row.ensures.row ∙ ap (λ o. o.tenant) (sym c.of_chunk.ensures);
+      stream = ap (λ r. r.name) c.in_ok-row.ensures.row ∙ ap (λ o. o.name) (sym c.of_chunk.ensures);
+      extent = extent_is c.args.chunk.now _ c.requires.whole c.in_ok-row.ensures.extent ∙ ap (λ o. extent_of o.first o.blocks) (sym c.of_chunk.ensures);
+      key = ap (λ r. r.key) c.in_ok-row.ensures.row ∙ c.in_ok-uploaded.ensures.key ∙ ap sha256 (sym spelt);
+    }
 
 pub returns-clause-chunk : goal.returns-clause-chunk
 returns-clause-chunk g c =

@@ -6,6 +6,7 @@ use Rattle.ing_parts.proofs.listing.Listing.extent.Goals as goal
 pub returns : goal.returns
 returns g c =
     let name = g.R.Receipt.name c.self.inside.kept.value.receipt in
-    let seen : listed_of name (g.R.Receipt.bytes c.self.inside.kept.value.receipt) c.self.inside.kept.value.key ≡ c.args.self.now = c.self.view_is in
-    ap (λ k. k.extent) c.deref.ensures ∙ listing_extent c.chunks_are_exact.ensures name (g.R.Receipt.bytes c.self.inside.kept.value.receipt) c.self.inside.kept.value.extent c.self.inside.kept.value.key c.self.invariant
-    ∙ (λ i. extent_of (seen i).first (seen i).blocks)
+    let bytes = g.R.Receipt.bytes c.self.inside.kept.value.receipt in
+    let row = c.self.inside.kept.value.row in
+    let seen : listed_of name bytes row.key ≡ c.args.self.now = c.self.view_is in
+    c.extent.ensures.value ∙ ap (λ k. k.row.extent) c.deref.ensures ∙ listing_extent name bytes row c.self.invariant ∙ (λ i. extent_of (seen i).first (seen i).blocks)
