@@ -1,21 +1,33 @@
-# run: the program on standard input, with SETTINGS=FILE by that settings file.   build: the program, with all that it calls proved.
-# test: the whole gate, from nothing, after a look that the documents show their cases.   check: proves what has changed, while editing.
-# bench: figures of time, to be read (bench/README.md).   worlds: 10,000 lists of events by lot, beside a slow program.
-.PHONY: run build check test bench worlds documents
+# `make help` lists what there is.
+.PHONY: help try run build check test mutants bench worlds documents
 program = crates/ingestd/out/ingestd
 postings_figures = crates/bench_postings/out/bench_postings
 codec_figures = crates/bench_codec/out/bench_codec
 worlds_by_lot = crates/ing_worlds/out/ing_worlds
 sources = crates.txt $(shell find crates -name out -prune -o \( -name '*.rt' -o -name '*.antt' \) -print)
 
+help:
+	@echo 'make try      runs the program on standard input before anything is proved, within a minute or two; SETTINGS=FILE'
+	@echo 'make run      runs the program on standard input, with all that it calls proved first; SETTINGS=FILE'
+	@echo 'make build    builds it, with all that it calls proved'
+	@echo 'make check    proves what has changed, while you edit'
+	@echo 'make test     the whole gate: every proof, test and case, and the wrong bodies of each crate'
+	@echo 'make mutants  tries the other wrong bodies, each of which the prover has to refuse; CRATE=NAME for those of one crate'
+	@echo 'make bench    figures of time, to be read (bench/README.md)'
+	@echo 'make worlds   10,000 lists of events by lot, beside a slow program'
+
+# The toolchain's own lines go to standard error, so that standard output has the replies alone.
+try:
+	@echo 'nothing is proved yet: make run proves what it runs' >&2
+	@cd crates/ingestd && rt try $(if $(SETTINGS),--data settings.toml="$(abspath $(SETTINGS))") -- $(if $(SETTINGS),settings.toml)
+
 run: $(program)
-	@$(program) $(SETTINGS)
+	@$(program) $(if $(SETTINGS),"$(SETTINGS)")
 
 build: $(program)
 
-# The toolchain builds a program by running it, here on empty input; what it says goes to standard error.
 $(program): $(sources)
-	@cd crates/ingestd && rt run </dev/null >&2
+	@scripts/build.sh ingestd
 	@touch $@
 
 check:
@@ -23,6 +35,9 @@ check:
 
 test: documents
 	rt ci
+
+mutants:
+	@mutants/try.sh $(CRATE)
 
 # A case with a file `document` stands in that page: each line of it, indented by four spaces. An example is the input of a
 # case.
@@ -46,16 +61,16 @@ bench: $(postings_figures) $(codec_figures) $(program)
 	@bench/pushes.sh $(program)
 
 $(postings_figures): $(sources)
-	@cd crates/bench_postings && rt run -- counts 100 >&2
+	@scripts/build.sh bench_postings counts 100
 	@touch $@
 
 $(codec_figures): $(sources)
-	@cd crates/bench_codec && rt run -- counts 120 >&2
+	@scripts/build.sh bench_codec counts 120
 	@touch $@
 
 worlds: $(worlds_by_lot)
 	@$(worlds_by_lot) 10000
 
 $(worlds_by_lot): $(sources)
-	@cd crates/ing_worlds && rt run -- 1 >&2
+	@scripts/build.sh ing_worlds 1
 	@touch $@

@@ -11,6 +11,7 @@ use crate::command::LineFault;
 use crate::reply::{Reply, StreamReply};
 use ing_labels::{LabelFault, LabelLimits, TextFault};
 use ing_query::QueryFault;
+use ing_refusals::Refusal;
 use ing_rows::Rules;
 use ing_shard::PushFault;
 use std::alloc::AllocError;
@@ -94,6 +95,7 @@ pub(super) fn query_fault(fault: QueryFault) -> Result<Reply, AllocError>
 {
     match fault {
         QueryFault::NoMemory => Err(AllocError),
-        fault => Ok(Reply::Fault(fault.refusal())),
+        QueryFault::StoreFault { .. } => Ok(Reply::Fault(Refusal::StoreFault)),
+        QueryFault::BadObject { .. } => Ok(Reply::Fault(Refusal::BadObject)),
     }
 }
