@@ -1,10 +1,12 @@
 //! What holds of all snapshots, for the crates above.
-ghost use Rattle.std.specs.Prelude.{◌≡◌, ◌++◌, ◌∷◌, ℕ, [], Bool, List, All, IsPermutation, filter, map};
+ghost use Rattle.std.specs.Prelude.{◌≡◌, ◌≤◌, ◌++◌, ◌∷◌, ℕ, [], Bool, List, All, IsPermutation, filter, length, map};
+ghost use Rattle.std.specs.List.{Contains};
+ghost use Rattle.std.specs.List.Sorted.{IsSortedBy};
 ghost use Rattle.ing_rows.specs.Rows.{Row};
 ghost use Rattle.ing_parts.specs.declared.found.Found.{Found};
 ghost use Rattle.ing_parts.specs.declared.order.Order.{Order};
 ghost use Rattle.ing_parts.specs.declared.snapshot.Snapshot.{Snapshot};
-ghost use Rattle.ing_parts.specs.Answers.{BestState, IsAnswer, IsFrom, Offers, PassesOver, StandFor};
+ghost use Rattle.ing_parts.specs.Answers.{BestState, IsAnswer, IsFrom, Offers, PassesOver, StandFor, precedes};
 ghost use Rattle.ing_chunk.specs.declared.numbered.Numbered.{Numbered};
 ghost use Rattle.ing_parts.specs.Parts.{Adds, AddsRows, AreFrom, RowsAreFound, found_at, found_between};
 
@@ -45,6 +47,17 @@ pub fn offers_of_streams()
         Offers (found_between name start end es) b b }
     ensures none { (name : List ℕ) (start end : ℕ) (b : BestState) →
         Offers (found_between name start end []) b b }
+{}
+
+/// An answer has as many entries as it may at most, in its order, and each of them is one of those that it is an answer of.
+/// (Loki documentation: HTTP API, query range: limit and direction.)
+pub fn answers_are_first()
+    ensures most { (order : Order) (limit : ℕ) (all answer : List Found) →
+        IsAnswer order limit all answer → length answer ≤ limit }
+    ensures in_order { (order : Order) (limit : ℕ) (all answer : List Found) →
+        IsAnswer order limit all answer → IsSortedBy (precedes order) answer }
+    ensures among { (order : Order) (limit : ℕ) (all answer : List Found) →
+        IsAnswer order limit all answer → (f : Found) → Contains answer f → Contains all f }
 {}
 
 /// Entries stand for those of which they are a rearrangement, and for those for which others stand that they stand for; and

@@ -14,8 +14,8 @@ mod stream_name;
 pub use best::Best;
 pub use found::Found;
 pub use laws::{
-    additions_join, found_rows_have_no_order, offers_join, offers_of_streams, rows_are_found,
-    rows_join, standing_joins,
+    additions_join, answers_are_first, found_rows_have_no_order, offers_join, offers_of_streams,
+    rows_are_found, rows_join, standing_joins,
 };
 pub use listing::Listing;
 pub use offers::offer_block;
