@@ -11,6 +11,7 @@ ghost use Rattle.ing_codec.specs.Fields as spec;
 ghost use Rattle.ing_codec.specs.ChunkReading.{read_block_count, ended};
 
 use crate::fault::CodecFault;
+use byteorder::{BigEndian, ByteOrder};
 use ing_labels::{Labels, TextFault, canonical_names_are_decided};
 use ing_rows::{RowFault, Stamp, Tenant};
 use std::alloc::Global;
@@ -88,28 +89,16 @@ impl<'a> Fields<'a> {
     pub fn u32(self) -> Result<(u32, Fields<'a>), CodecFault>
         ensures { Returns (λ x. x) result (read_number w32 self.entry) }
     {
-        let Some((front, rest)) = self.rest.split_first_chunk::<4>() else {
-            return Err(CodecFault::Truncated);
-        };
-        let after = Fields {
-            at: self.at + 4,
-            rest,
-        };
-        Ok((u32::from_be_bytes(*front), after))
+        let (front, after) = self.bytes(4)?;
+        Ok((BigEndian::read_u32(front), after))
     }
 
     /// A number of eight bytes. `Truncated` where fewer are left.
     pub fn u64(self) -> Result<(u64, Fields<'a>), CodecFault>
         ensures { Returns (λ x. x) result (read_number w64 self.entry) }
     {
-        let Some((front, rest)) = self.rest.split_first_chunk::<8>() else {
-            return Err(CodecFault::Truncated);
-        };
-        let after = Fields {
-            at: self.at + 8,
-            rest,
-        };
-        Ok((u64::from_be_bytes(*front), after))
+        let (front, after) = self.bytes(8)?;
+        Ok((BigEndian::read_u64(front), after))
     }
 
     /// So many bytes. `Truncated` where fewer are left.

@@ -6,6 +6,7 @@ ghost use Rattle.std.specs.Int.{w32, w64, to_be_bytes};
 ghost use Rattle.ing_codec.specs.Fields.{short_text, long_text, front_text};
 
 use crate::fields::VERSION;
+use byteorder::{BigEndian, ByteOrder};
 use ing_rows::{Line, Tenant};
 use std::alloc::AllocError;
 
@@ -13,14 +14,18 @@ use std::alloc::AllocError;
 pub fn put_u32(out: &mut Vec<u8>, number: u32) -> Result<(), AllocError>
     ensures { OnOk result (out.new.items ≡ out.old.items ++ to_be_bytes w32 number) }
 {
-    out.extend_from_slice(&number.to_be_bytes())
+    let mut bytes = [0u8; 4];
+    BigEndian::write_u32(&mut bytes, number);
+    out.extend_from_slice(&bytes)
 }
 
 /// Writes a number as eight bytes, big-endian.
 pub fn put_u64(out: &mut Vec<u8>, number: u64) -> Result<(), AllocError>
     ensures { OnOk result (out.new.items ≡ out.old.items ++ to_be_bytes w64 number) }
 {
-    out.extend_from_slice(&number.to_be_bytes())
+    let mut bytes = [0u8; 8];
+    BigEndian::write_u64(&mut bytes, number);
+    out.extend_from_slice(&bytes)
 }
 
 /// Writes a tenant id: one byte of length, and the text.
