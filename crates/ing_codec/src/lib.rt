@@ -17,11 +17,11 @@ mod seen;
 mod stored_chunk;
 mod writers;
 
-pub use chunk_view::{ChunkView, encode_chunk};
+pub use chunk_view::{CHUNK_VERSION, ChunkView, encode_chunk};
 pub use extent::{Extent, put_extent};
 pub use fault::CodecFault;
 pub use fields::Fields;
-pub use index_row::{IndexRow, decode_row, encode_row};
+pub use index_row::{IndexRow, ROW_VERSION, decode_row, encode_row};
 pub use laws::{chunks_are_exact, rows_are_exact, worked_objects};
 pub use lent_block::{LentBlock, LentEntry};
 pub use lent_chunk::{LentChunk, decode_lent};

@@ -5,7 +5,6 @@ ghost use Rattle.std.specs.Str.{is_utf8};
 ghost use Rattle.std.specs.Int.{w32, w64, to_be_bytes};
 ghost use Rattle.ing_codec.specs.Fields.{short_text, long_text, front_text};
 
-use crate::fields::VERSION;
 use byteorder::{BigEndian, ByteOrder};
 use ing_rows::{Line, Tenant};
 use std::alloc::AllocError;
@@ -65,20 +64,21 @@ fn text_of(line: &Line) -> &str
     line.as_str()
 }
 
-/// Writes what each object begins with: the letters of its kind, the version, a tenant id and a canonical
+/// Writes what each object begins with: the letters of its kind, its version, a tenant id and a canonical
 /// name.
 pub(crate) fn put_front(
     out: &mut Vec<u8>,
     letters: &[u8],
+    version: u8,
     tenant: &Tenant,
     name: &str,
 ) -> Result<(), AllocError>
     requires { length name.now < 2 ^ 32 }
     ensures { OnOk result
-        (out.new.items ≡ out.old.items ++ front_text letters.now tenant.now name.now) }
+        (out.new.items ≡ out.old.items ++ front_text letters.now version tenant.now name.now) }
 {
     out.extend_from_slice(letters)?;
-    out.push(VERSION)?;
+    out.push(version)?;
     put_tenant(out, tenant)?;
     put_name(out, name)?;
     Ok(())
