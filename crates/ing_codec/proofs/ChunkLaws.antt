@@ -133,7 +133,7 @@ count_takes r x fits e =
     let one = number_takes w32 (2 ^ 32) wide32 r n.0 fits n.1 in
     subst (λ (y : ℕ × Rest). Takes r (to_be_bytes w32 y.0) y.1 × ((y.0 == 0) ≡ false)) (ok_is n.0 x p.1) (one.0, p.0)
 
-count_again : (n : ℕ) → n < 2 ^ 32 → 0 < n → Again read_block_count (to_be_bytes w32 n) n
+pub count_again : (n : ℕ) → n < 2 ^ 32 → 0 < n → Again read_block_count (to_be_bytes w32 n) n
 unfolding read_block_count
 count_again n lt some at more =
     let b = number_again w32 (2 ^ 32) wide32 n lt at more in

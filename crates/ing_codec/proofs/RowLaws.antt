@@ -103,7 +103,7 @@ extent_read r x e =
       is = ok_is (extent f.0.0 c.0.0 s.0.0 l.0.0 g.0.0, g.0.1) x g.2;
     }
 
-extent_takes : (r : Rest) (x : Extent × Rest) → IsBytes r.bytes → read_extent r ≡ Ok x → Takes r (extent_text x.0) x.1 × IsExtent x.0
+pub extent_takes : (r : Rest) (x : Extent × Rest) → IsBytes r.bytes → read_extent r ≡ Ok x → Takes r (extent_text x.0) x.1 × IsExtent x.0
 extent_takes r x fits e =
     let read = extent_read r x e in
     let ft = first_takes r read.first fits read.first_read in
@@ -120,7 +120,7 @@ extent_takes r x fits e =
 five_parts : (f c s l g more : List ℕ) → (f ++ (c ++ (s ++ (l ++ g)))) ++ more ≡ f ++ (c ++ (s ++ (l ++ (g ++ more))))
 five_parts f c s l g more = simp append_assoc
 
-extent_again : (x : Extent) → IsExtent x → Again read_extent (extent_text x) x
+pub extent_again : (x : Extent) → IsExtent x → Again read_extent (extent_text x) x
 unfolding read_extent
 extent_again x h at more =
     let greatest = to_be_bytes w64 x.greatest ++ more in

@@ -6,7 +6,7 @@ ghost use Rattle.std.specs.Int.{w32, w64, to_be_bytes};
 ghost use Rattle.ing_codec.specs.Fields.{short_text, long_text, front_text};
 
 use byteorder::{BigEndian, ByteOrder};
-use ing_rows::{Line, Tenant};
+use ing_rows::{Line, Stamp, Tenant};
 use std::alloc::AllocError;
 
 /// Writes a number as four bytes, big-endian.
@@ -25,6 +25,14 @@ pub fn put_u64(out: &mut Vec<u8>, number: u64) -> Result<(), AllocError>
     let mut bytes = [0u8; 8];
     BigEndian::write_u64(&mut bytes, number);
     out.extend_from_slice(&bytes)
+}
+
+/// Writes a stamp, in nanoseconds and below 2^63, as eight bytes, big-endian.
+pub fn put_stamp(out: &mut Vec<u8>, stamp: Stamp) -> Result<(), AllocError>
+    ensures text { OnOk result (out.new.items ≡ out.old.items ++ to_be_bytes w64 stamp) }
+    ensures range { stamp < 2 ^ 63 }
+{
+    put_u64(out, stamp.nanoseconds())
 }
 
 /// Writes a tenant id: one byte of length, and the text.
