@@ -10,7 +10,7 @@ use Rattle.ing_refusals.specs.Results.{◌>>=◌}
 use Rattle.ing_chunk.specs.declared.numbered.Numbered.{Numbered}
 use Rattle.ing_chunk.specs.Chunks.{in_blocks}
 use Rattle.ing_codec.specs.declared.fault.CodecFault.TheVariants.{BadField, Trailing}
-use Rattle.ing_codec.specs.Fields.{Rest, whole, read_number, read_first, read_front, front_text}
+use Rattle.ing_codec.specs.Fields.{Rest, whole, read_number, read_first, read_front, front_text, chunk_version}
 use Rattle.ing_chunk.specs.Parts.{IsWithin, IsPart, AreParts}
 use Rattle.ing_codec.specs.ChunkObjects.{ChunkObject, IsBlock, IsObject, entry_text, block_text, head_text, chunk_text}
 use Rattle.ing_codec.specs.ChunkReading.{read_block, read_blocks, read_block_count, read_chunk, part, is_count, ended, chunk_object}
@@ -133,7 +133,7 @@ count_takes r x fits e =
     let one = number_takes w32 (2 ^ 32) wide32 r n.0 fits n.1 in
     subst (λ (y : ℕ × Rest). Takes r (to_be_bytes w32 y.0) y.1 × ((y.0 == 0) ≡ false)) (ok_is n.0 x p.1) (one.0, p.0)
 
-count_again : (n : ℕ) → n < 2 ^ 32 → 0 < n → Again read_block_count (to_be_bytes w32 n) n
+pub count_again : (n : ℕ) → n < 2 ^ 32 → 0 < n → Again read_block_count (to_be_bytes w32 n) n
 unfolding read_block_count
 count_again n lt some at more =
     let b = number_again w32 (2 ^ 32) wide32 n lt at more in
@@ -164,20 +164,20 @@ some_blocks (b ∷ bs) h none = absurd cc
 pub chunk_takes : (bytes : List ℕ) (o : ChunkObject) → IsBytes bytes → read_chunk bytes ≡ Ok o → IsObject o × (bytes ≡ chunk_text o)
 unfolding read_chunk chunk_text
 chunk_takes bytes o fits e =
-    let h = bind_ok (read_front (codes "INGC") (whole bytes)) (λ h. read_first h.2 >>= λ f. read_block_count f.1 >>= λ k. read_blocks f.0 k.0 0 [] k.1 >>= λ b. ended (chunk_object h.0 h.1 f.0 b.0) b.1) o e in
+    let h = bind_ok (read_front (codes "INGC") chunk_version (whole bytes)) (λ h. read_first h.2 >>= λ f. read_block_count f.1 >>= λ k. read_blocks f.0 k.0 0 [] k.1 >>= λ b. ended (chunk_object h.0 h.1 f.0 b.0) b.1) o e in
     let f = bind_ok (read_first h.0.2) (λ f. read_block_count f.1 >>= λ k. read_blocks f.0 k.0 0 [] k.1 >>= λ b. ended (chunk_object h.0.0 h.0.1 f.0 b.0) b.1) o h.2 in
     let k = bind_ok (read_block_count f.0.1) (λ k. read_blocks f.0.0 k.0 0 [] k.1 >>= λ b. ended (chunk_object h.0.0 h.0.1 f.0.0 b.0) b.1) o f.2 in
     let b = bind_ok (read_blocks f.0.0 k.0.0 0 [] k.0.1) (λ b. ended (chunk_object h.0.0 h.0.1 f.0.0 b.0) b.1) o k.2 in
     let n = nothing_left (chunk_object h.0.0 h.0.1 f.0.0 b.0.0) b.0.1 o b.2 in
-    let front = front_takes (codes "INGC") (whole bytes) h.0 fits h.1 in
+    let front = front_takes (codes "INGC") chunk_version (whole bytes) h.0 fits h.1 in
     let ft = first_takes h.0.2 f.0 front.takes.fits f.1 in
     let kt = count_takes f.0.1 k.0 ft.0.fits k.1 in
     let bt = blocks_take f.0.0 k.0.0 0 [] k.0.1 b.0 kt.0.fits (omega (arith, ft.1)) (omega arith) b.1 in
     let made = chunk_object h.0.0 h.0.1 f.0.0 bt.more in
     let fk = then_takes h.0.2 (to_be_bytes w64 f.0.0) f.0.1 (to_be_bytes w32 k.0.0) k.0.1 ft.0 kt.0 in
-    let hfk = then_takes (whole bytes) (front_text (codes "INGC") h.0.0 h.0.1) h.0.2 (to_be_bytes w64 f.0.0 ++ to_be_bytes w32 k.0.0) k.0.1 front.takes fk in
-    let all = then_takes (whole bytes) (front_text (codes "INGC") h.0.0 h.0.1 ++ (to_be_bytes w64 f.0.0 ++ to_be_bytes w32 k.0.0)) k.0.1 (flat_map (block_text f.0.0) bt.more) b.0.1 hfk bt.takes in
-    let spelt = ended_text bytes (front_text (codes "INGC") h.0.0 h.0.1) (to_be_bytes w64 f.0.0) k.0.0 (length bt.more) (flat_map (block_text f.0.0) bt.more) b.0.1.bytes all.parts n.0 bt.count in
+    let hfk = then_takes (whole bytes) (front_text (codes "INGC") chunk_version h.0.0 h.0.1) h.0.2 (to_be_bytes w64 f.0.0 ++ to_be_bytes w32 k.0.0) k.0.1 front.takes fk in
+    let all = then_takes (whole bytes) (front_text (codes "INGC") chunk_version h.0.0 h.0.1 ++ (to_be_bytes w64 f.0.0 ++ to_be_bytes w32 k.0.0)) k.0.1 (flat_map (block_text f.0.0) bt.more) b.0.1 hfk bt.takes in
+    let spelt = ended_text bytes (front_text (codes "INGC") chunk_version h.0.0 h.0.1) (to_be_bytes w64 f.0.0) k.0.0 (length bt.more) (flat_map (block_text f.0.0) bt.more) b.0.1.bytes all.parts n.0 bt.count in
     let object : IsObject made = record {
       tenant = front.tenant;
       name = front.name;
@@ -199,10 +199,10 @@ four_parts w a b f = simp (append_assoc, append-nil)
 pub chunk_again : (o : ChunkObject) → IsObject o → read_chunk (chunk_text o) ≡ Ok o
 unfolding read_chunk chunk_text
 chunk_again o h =
-    let front = front_text (codes "INGC") o.tenant o.name in
+    let front = front_text (codes "INGC") chunk_version o.tenant o.name in
     let blocks = flat_map (block_text o.first) o.blocks in
     let start : AreParts (o.first + 0) o.blocks = subst (λ (m : ℕ). AreParts m o.blocks) (sym (add-zero o.first)) h.numbered.parts in
-    let hd = front_again (codes "INGC") o.tenant o.name refl h.tenant h.name h.numbered.name_length 0 (to_be_bytes w64 o.first ++ (to_be_bytes w32 (length o.blocks) ++ (blocks ++ []))) in
+    let hd = front_again (codes "INGC") chunk_version o.tenant o.name refl h.tenant h.name h.numbered.name_length 0 (to_be_bytes w64 o.first ++ (to_be_bytes w32 (length o.blocks) ++ (blocks ++ []))) in
     let f = first_again o.first (omega (arith, h.numbered.last)) hd.0 (to_be_bytes w32 (length o.blocks) ++ (blocks ++ [])) in
     let k = count_again (length o.blocks) (count_fits o h.numbered) (some_of_blocks o.blocks h.numbered.some) f.0 (blocks ++ []) in
     let b = blocks_again o.first o.blocks 0 [] start h.blocks (omega (arith, h.numbered.last)) (omega (arith, h.numbered.few)) k.0 [] in

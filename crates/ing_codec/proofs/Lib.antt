@@ -11,5 +11,6 @@ pub mod EntryLaws
 pub mod ChunkLaws
 pub mod RowLaws
 pub mod DecodeLaws
+pub mod ExactLaws
 pub mod WorkedLaws
 pub mod Counts

@@ -7,7 +7,7 @@ use Rattle.std.proofs.lemmas.List.{append-nil}
 use Rattle.ing_refusals.specs.Results.{◌>>=◌}
 use Rattle.ing_codec.specs.declared.extent.Extent.{Extent}
 use Rattle.ing_codec.specs.declared.fault.CodecFault.TheVariants.{BadField}
-use Rattle.ing_codec.specs.Fields.{Rest, whole, read_number, read_bytes, read_stamp, read_first, read_front, front_text}
+use Rattle.ing_codec.specs.Fields.{Rest, whole, read_number, read_bytes, read_stamp, read_first, read_front, front_text, row_version}
 use Rattle.ing_codec.specs.ChunkReading.{ended}
 use Rattle.ing_codec.specs.RowObjects.{RowObject, row_object, IsExtent, IsRow, extent, extent_text, row_text, read_count, read_size, read_greatest, read_extent, read_row}
 use Rattle.ing_codec.proofs.Binds.{bind_ok, passed, ok_is}
@@ -103,7 +103,7 @@ extent_read r x e =
       is = ok_is (extent f.0.0 c.0.0 s.0.0 l.0.0 g.0.0, g.0.1) x g.2;
     }
 
-extent_takes : (r : Rest) (x : Extent × Rest) → IsBytes r.bytes → read_extent r ≡ Ok x → Takes r (extent_text x.0) x.1 × IsExtent x.0
+pub extent_takes : (r : Rest) (x : Extent × Rest) → IsBytes r.bytes → read_extent r ≡ Ok x → Takes r (extent_text x.0) x.1 × IsExtent x.0
 extent_takes r x fits e =
     let read = extent_read r x e in
     let ft = first_takes r read.first fits read.first_read in
@@ -120,7 +120,7 @@ extent_takes r x fits e =
 five_parts : (f c s l g more : List ℕ) → (f ++ (c ++ (s ++ (l ++ g)))) ++ more ≡ f ++ (c ++ (s ++ (l ++ (g ++ more))))
 five_parts f c s l g more = simp append_assoc
 
-extent_again : (x : Extent) → IsExtent x → Again read_extent (extent_text x) x
+pub extent_again : (x : Extent) → IsExtent x → Again read_extent (extent_text x) x
 unfolding read_extent
 extent_again x h at more =
     let greatest = to_be_bytes w64 x.greatest ++ more in
@@ -143,16 +143,16 @@ ended_text bytes front extent key left e none = e ∙ ap (λ (t : List ℕ). (fr
 pub row_takes : (bytes : List ℕ) (o : RowObject) → IsBytes bytes → read_row bytes ≡ Ok o → IsRow o × (bytes ≡ row_text o)
 unfolding read_row row_text
 row_takes bytes o fits e =
-    let h = bind_ok (read_front (codes "INGR") (whole bytes)) (λ h. read_extent h.2 >>= λ x. read_bytes 32 x.1 >>= λ k. ended (row_object h.0 h.1 x.0 k.0) k.1) o e in
+    let h = bind_ok (read_front (codes "INGR") row_version (whole bytes)) (λ h. read_extent h.2 >>= λ x. read_bytes 32 x.1 >>= λ k. ended (row_object h.0 h.1 x.0 k.0) k.1) o e in
     let x = bind_ok (read_extent h.0.2) (λ x. read_bytes 32 x.1 >>= λ k. ended (row_object h.0.0 h.0.1 x.0 k.0) k.1) o h.2 in
     let k = bind_ok (read_bytes 32 x.0.1) (λ k. ended (row_object h.0.0 h.0.1 x.0.0 k.0) k.1) o x.2 in
     let n = nothing_left (row_object h.0.0 h.0.1 x.0.0 k.0.0) k.0.1 o k.2 in
-    let ht = front_takes (codes "INGR") (whole bytes) h.0 fits h.1 in
+    let ht = front_takes (codes "INGR") row_version (whole bytes) h.0 fits h.1 in
     let xt = extent_takes h.0.2 x.0 ht.takes.fits x.1 in
     let kt = bytes_take 32 x.0.1 k.0 xt.0.fits k.1 in
     let tail = then_takes h.0.2 (extent_text x.0.0) x.0.1 k.0.0 k.0.1 xt.0 kt.0 in
-    let all = then_takes (whole bytes) (front_text (codes "INGR") h.0.0 h.0.1) h.0.2 (extent_text x.0.0 ++ k.0.0) k.0.1 ht.takes tail in
-    let spelt = ended_text bytes (front_text (codes "INGR") h.0.0 h.0.1) (extent_text x.0.0) k.0.0 k.0.1.bytes all.parts n.0 in
+    let all = then_takes (whole bytes) (front_text (codes "INGR") row_version h.0.0 h.0.1) h.0.2 (extent_text x.0.0 ++ k.0.0) k.0.1 ht.takes tail in
+    let spelt = ended_text bytes (front_text (codes "INGR") row_version h.0.0 h.0.1) (extent_text x.0.0) k.0.0 k.0.1.bytes all.parts n.0 in
     let row : IsRow (row_object h.0.0 h.0.1 x.0.0 k.0.0) = record {
       tenant = ht.tenant;
       name = ht.name;
@@ -166,7 +166,7 @@ three_parts w x k = simp append-nil
 pub row_again : (o : RowObject) → IsRow o → read_row (row_text o) ≡ Ok o
 unfolding read_row row_text
 row_again o h =
-    let hd = front_again (codes "INGR") o.tenant o.name refl h.tenant h.name h.listed.name_length 0 (extent_text o.extent ++ (o.key ++ [])) in
+    let hd = front_again (codes "INGR") row_version o.tenant o.name refl h.tenant h.name h.listed.name_length 0 (extent_text o.extent ++ (o.key ++ [])) in
     let x = extent_again o.extent h.listed.extent hd.0 (o.key ++ []) in
     let k = bytes_again o.key 32 h.listed.key x.0 [] in
-    ap read_row (three_parts (front_text (codes "INGR") o.tenant o.name) (extent_text o.extent) o.key) ∙ rw (hd.1, x.1, k.1) refl
+    ap read_row (three_parts (front_text (codes "INGR") row_version o.tenant o.name) (extent_text o.extent) o.key) ∙ rw (hd.1, x.1, k.1) refl

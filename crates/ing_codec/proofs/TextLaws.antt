@@ -60,18 +60,22 @@ magic_again letters len at more =
     let b = bytes_again letters 4 len at more in
     (b.0, rw (b.1, eq_bytes letters) refl)
 
-version_takes : (r after : Rest) → IsBytes r.bytes → read_version r ≡ Ok after → Takes r (1 ∷ []) after
+version_takes : (version : ℕ) (r after : Rest) → IsBytes r.bytes → read_version version r ≡ Ok after → Takes r (version ∷ []) after
 unfolding read_version
-version_takes r after fits e =
-    let v = bind_ok (read_byte r) (λ v. cond (v.0 == 1) (Ok v.1) (Err BadVersion)) after e in
-    let g = passed (v.0.0 == 1) BadVersion (Ok v.0.1) after v.2 in
+version_takes version r after fits e =
+    let v = bind_ok (read_byte r) (λ v. cond (v.0 == version) (Ok v.1) (Err BadVersion)) after e in
+    let g = passed (v.0.0 == version) BadVersion (Ok v.0.1) after v.2 in
     let t = byte_takes r v.0 fits v.1 in
-    let same : v.0.0 ≡ 1 = omega (arith, nat_eq_true v.0.0 1 g.0) in
-    subst (λ (y : Rest). Takes r (1 ∷ []) y) (ok_is v.0.1 after g.1) (subst (λ (n : ℕ). Takes r (n ∷ []) v.0.1) same t)
+    let same : v.0.0 ≡ version = nat_eq_true v.0.0 version g.0 in
+    subst (λ (y : Rest). Takes r (version ∷ []) y) (ok_is v.0.1 after g.1) (subst (λ (n : ℕ). Takes r (n ∷ []) v.0.1) same t)
 
-version_again : (at : ℕ) (more : List ℕ) → (after : ℕ) × (read_version (rest at (1 ∷ more)) ≡ Ok (rest after more))
+-- a number is equal to itself
+nat_eq_self : (n : ℕ) → (n == n) ≡ true
+nat_eq_self n = grind (arith, nat_tests)
+
+version_again : (version at : ℕ) (more : List ℕ) → (after : ℕ) × (read_version version (rest at (version ∷ more)) ≡ Ok (rest after more))
 unfolding read_version
-version_again at more = (at + 1, refl)
+version_again version at more = (at + 1, rw (nat_eq_self version) refl)
 
 -- ---- texts
 
@@ -174,35 +178,35 @@ first_again n le at more =
 
 -- ---- what each object begins with
 
-pub record FrontRead (letters : List ℕ) (r : Rest) (x : List ℕ × List ℕ × Rest) : Type 0 where
-  pub takes : Takes r (front_text letters x.0 x.1) x.2
+pub record FrontRead (letters : List ℕ) (version : ℕ) (r : Rest) (x : List ℕ × List ℕ × Rest) : Type 0 where
+  pub takes : Takes r (front_text letters version x.0 x.1) x.2
   pub tenant : is_tenant x.0 ≡ true
   pub name : is_name x.1 ≡ true
   pub length : length x.1 < 2 ^ 32
 
-pub front_takes : (letters : List ℕ) (r : Rest) (x : List ℕ × List ℕ × Rest) → IsBytes r.bytes → read_front letters r ≡ Ok x → FrontRead letters r x
+pub front_takes : (letters : List ℕ) (version : ℕ) (r : Rest) (x : List ℕ × List ℕ × Rest) → IsBytes r.bytes → read_front letters version r ≡ Ok x → FrontRead letters version r x
 unfolding read_front
-front_takes letters r x fits e =
-    let m = bind_ok (read_magic letters r) (λ m. read_version m >>= λ v. read_tenant v >>= λ t. read_name t.1 >>= λ n. Ok (t.0, n.0, n.1)) x e in
-    let v = bind_ok (read_version m.0) (λ v. read_tenant v >>= λ t. read_name t.1 >>= λ n. Ok (t.0, n.0, n.1)) x m.2 in
+front_takes letters version r x fits e =
+    let m = bind_ok (read_magic letters r) (λ m. read_version version m >>= λ v. read_tenant v >>= λ t. read_name t.1 >>= λ n. Ok (t.0, n.0, n.1)) x e in
+    let v = bind_ok (read_version version m.0) (λ v. read_tenant v >>= λ t. read_name t.1 >>= λ n. Ok (t.0, n.0, n.1)) x m.2 in
     let t = bind_ok (read_tenant v.0) (λ t. read_name t.1 >>= λ n. Ok (t.0, n.0, n.1)) x v.2 in
     let n = bind_ok (read_name t.0.1) (λ n. Ok (t.0.0, n.0, n.1)) x t.2 in
     let m1 = magic_takes letters r m.0 fits m.1 in
-    let v1 = version_takes m.0 v.0 m1.fits v.1 in
+    let v1 = version_takes version m.0 v.0 m1.fits v.1 in
     let t1 = tenant_takes v.0 t.0 v1.fits t.1 in
     let n1 = name_takes t.0.1 n.0 t1.0.fits n.1 in
     let tn = then_takes v.0 (short_text t.0.0) t.0.1 (long_text n.0.0) n.0.1 t1.0 n1.0 in
-    let vtn = then_takes m.0 (1 ∷ []) v.0 (short_text t.0.0 ++ long_text n.0.0) n.0.1 v1 tn in
-    let all : Takes r (front_text letters t.0.0 n.0.0) n.0.1 = then_takes r letters m.0 (1 ∷ (short_text t.0.0 ++ long_text n.0.0)) n.0.1 m1 vtn in
-    subst (λ (y : List ℕ × List ℕ × Rest). FrontRead letters r y) (ok_is (t.0.0, n.0.0, n.0.1) x n.2) (record { takes = all; tenant = t1.1; name = n1.1; length = n1.2 })
+    let vtn = then_takes m.0 (version ∷ []) v.0 (short_text t.0.0 ++ long_text n.0.0) n.0.1 v1 tn in
+    let all : Takes r (front_text letters version t.0.0 n.0.0) n.0.1 = then_takes r letters m.0 (version ∷ (short_text t.0.0 ++ long_text n.0.0)) n.0.1 m1 vtn in
+    subst (λ (y : List ℕ × List ℕ × Rest). FrontRead letters version r y) (ok_is (t.0.0, n.0.0, n.0.1) x n.2) (record { takes = all; tenant = t1.1; name = n1.1; length = n1.2 })
 
-pub front_again : (letters tenant name : List ℕ) → length letters ≡ 4 → is_tenant tenant ≡ true → is_name name ≡ true → length name < 2 ^ 32 → (at : ℕ) (more : List ℕ)
-    → (after : ℕ) × (read_front letters (rest at (front_text letters tenant name ++ more)) ≡ Ok (tenant, name, rest after more))
+pub front_again : (letters : List ℕ) (version : ℕ) (tenant name : List ℕ) → length letters ≡ 4 → is_tenant tenant ≡ true → is_name name ≡ true → length name < 2 ^ 32 → (at : ℕ) (more : List ℕ)
+    → (after : ℕ) × (read_front letters version (rest at (front_text letters version tenant name ++ more)) ≡ Ok (tenant, name, rest after more))
 unfolding read_front
-front_again letters tenant name len ht hn lt at more =
-    let m = magic_again letters len at (1 ∷ (short_text tenant ++ (long_text name ++ more))) in
-    let v = version_again m.0 (short_text tenant ++ (long_text name ++ more)) in
+front_again letters version tenant name len ht hn lt at more =
+    let m = magic_again letters len at (version ∷ (short_text tenant ++ (long_text name ++ more))) in
+    let v = version_again version m.0 (short_text tenant ++ (long_text name ++ more)) in
     let t = tenant_again tenant ht v.0 (long_text name ++ more) in
     let n = name_again name hn lt t.0 more in
-    let regrouped : front_text letters tenant name ++ more ≡ letters ++ (1 ∷ (short_text tenant ++ (long_text name ++ more))) = simp append_assoc in
-    (n.0, ap (λ (b : List ℕ). read_front letters (rest at b)) regrouped ∙ rw (m.1, v.1, t.1, n.1) refl)
+    let regrouped : front_text letters version tenant name ++ more ≡ letters ++ (version ∷ (short_text tenant ++ (long_text name ++ more))) = simp append_assoc in
+    (n.0, ap (λ (b : List ℕ). read_front letters version (rest at b)) regrouped ∙ rw (m.1, v.1, t.1, n.1) refl)

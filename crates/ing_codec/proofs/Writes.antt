@@ -64,8 +64,12 @@ blocks_writable first from (b ∷ bs) low high h =
       blocks_writable first (from + length b) bs (omega arith) (omega (arith, len)) h.1,
     )
 
+-- blocks that follow one another from a first number on, with fewer than 2^32 entries, can be written
+pub all_writable : (first : ℕ) (bs : List (List Numbered)) → AreParts first bs → length (in_blocks bs) < 2 ^ 32 → All (IsBlockWritable first) bs
+all_writable first bs parts few = All-from_recursion (IsBlockWritable first) bs (blocks_writable first first bs (omega arith) (omega (arith, few)) parts)
+
 pub are_writable : (o : ChunkObject) → IsNumbered o → All (IsBlockWritable o.first) o.blocks
-are_writable o h = All-from_recursion (IsBlockWritable o.first) o.blocks (blocks_writable o.first o.first o.blocks (omega arith) (omega (arith, h.few)) h.parts)
+are_writable o h = all_writable o.first o.blocks h.parts h.few
 
 pub count_fits : (o : ChunkObject) → IsNumbered o → length o.blocks < 2 ^ 32
 count_fits o h = omega (arith, blocks_few o.first o.blocks h.parts, h.few)

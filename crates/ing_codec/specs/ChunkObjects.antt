@@ -7,7 +7,7 @@ use Rattle.ing_rows.specs.Texts.{is_tenant}
 use Rattle.ing_chunk.specs.declared.numbered.Numbered.{Numbered}
 use Rattle.ing_chunk.specs.Chunks.{AreInOrder, in_blocks}
 use Rattle.ing_chunk.specs.Parts.{AreParts}
-use Rattle.ing_codec.specs.Fields.{front_text, long_text, is_name}
+use Rattle.ing_codec.specs.Fields.{front_text, long_text, is_name, chunk_version}
 
 -- whose it is, the number of its first entry, and the entries of each block
 pub record ChunkObject : Type 0 where
@@ -27,7 +27,7 @@ block_text first b = to_be_bytes w32 (length b) ++ flat_map (entry_text first) b
 
 -- what stands before the first block
 abbrev pub head_text : ChunkObject → List ℕ
-head_text o = front_text (codes "INGC") o.tenant o.name ++ (to_be_bytes w64 o.first ++ to_be_bytes w32 (length o.blocks))
+head_text o = front_text (codes "INGC") chunk_version o.tenant o.name ++ (to_be_bytes w64 o.first ++ to_be_bytes w32 (length o.blocks))
 
 -- all of them: each chunk has this one spelling
 unfoldable pub chunk_text : ChunkObject → List ℕ

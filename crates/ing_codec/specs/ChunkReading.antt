@@ -7,7 +7,7 @@ use Rattle.ing_chunk.specs.Chunks.{comes_before}
 use Rattle.ing_codec.specs.declared.part.Part.{Part}
 use Rattle.ing_codec.specs.declared.fault.CodecFault.{CodecFault}
 use Rattle.ing_codec.specs.declared.fault.CodecFault.TheVariants.{BadField, OutOfOrder, Trailing}
-use Rattle.ing_codec.specs.Fields.{Rest, whole, read_number, read_line, read_stamp, read_first, read_front}
+use Rattle.ing_codec.specs.Fields.{Rest, whole, read_number, read_line, read_stamp, read_first, read_front, chunk_version}
 use Rattle.ing_chunk.specs.Parts.{is_taken}
 use Rattle.ing_codec.specs.ChunkObjects.{ChunkObject}
 
@@ -86,7 +86,7 @@ chunk_object tenant name first blocks = record { tenant = tenant; name = name; f
 -- all of the bytes: the chunk, or the first fault
 unfoldable pub read_chunk : List ℕ → Result ChunkObject CodecFault
 read_chunk bytes = do
-  h ← read_front (codes "INGC") (whole bytes)
+  h ← read_front (codes "INGC") chunk_version (whole bytes)
   f ← read_first h.2
   k ← read_block_count f.1
   b ← read_blocks f.0 k.0 0 [] k.1

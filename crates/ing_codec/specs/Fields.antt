@@ -20,9 +20,17 @@ short_text text = length text ∷ text
 abbrev pub long_text : List ℕ → List ℕ
 long_text text = to_be_bytes w32 (length text) ++ text
 
--- the letters of a kind of object, the version, a tenant and a canonical name, with which each object begins
-abbrev pub front_text : List ℕ → List ℕ → List ℕ → List ℕ
-front_text letters tenant name = letters ++ (1 ∷ (short_text tenant ++ long_text name))
+-- the version of a chunk
+abbrev pub chunk_version : ℕ
+chunk_version = 1
+
+-- the version of a row
+abbrev pub row_version : ℕ
+row_version = 1
+
+-- the letters of a kind of object, its version, a tenant and a canonical name, with which each object begins
+abbrev pub front_text : List ℕ → ℕ → List ℕ → List ℕ → List ℕ
+front_text letters version tenant name = letters ++ (version ∷ (short_text tenant ++ long_text name))
 
 -- ---- how fields are read
 
@@ -61,11 +69,11 @@ read_magic letters r = do
   m ← read_bytes 4 r
   if bytes_eq m.0 letters then Ok m.1 else Err BadMagic
 
--- the version, 1
-unfoldable pub read_version : Rest → Result Rest CodecFault
-read_version r = do
+-- the version that is expected
+unfoldable pub read_version : ℕ → Rest → Result Rest CodecFault
+read_version version r = do
   v ← read_byte r
-  if v.0 == 1 then Ok v.1 else Err BadVersion
+  if v.0 == version then Ok v.1 else Err BadVersion
 
 -- a text, where it is UTF-8 (RFC 3629), which begins at an offset
 abbrev pub utf8_at : ℕ → List ℕ → Result (List ℕ) CodecFault
@@ -111,10 +119,10 @@ read_first r = do
   if nat_le n.0 (2 ^ 62) then Ok n else Err (BadField r.at)
 
 -- what each object begins with: the tenant, the name, and what is left
-unfoldable pub read_front : List ℕ → Rest → Result (List ℕ × List ℕ × Rest) CodecFault
-read_front letters r = do
+unfoldable pub read_front : List ℕ → ℕ → Rest → Result (List ℕ × List ℕ × Rest) CodecFault
+read_front letters version r = do
   m ← read_magic letters r
-  v ← read_version m
+  v ← read_version version m
   t ← read_tenant v
   n ← read_name t.1
   Ok (t.0, n.0, n.1)

@@ -8,7 +8,7 @@ use Rattle.ing_chunk.specs.Chunks.{ChunkContents, count_in, size_of_chunk, span_
 use Rattle.ing_codec.specs.declared.extent.Extent.{Extent}
 use Rattle.ing_codec.specs.declared.fault.CodecFault.{CodecFault}
 use Rattle.ing_codec.specs.declared.fault.CodecFault.TheVariants.{BadField}
-use Rattle.ing_codec.specs.Fields.{Rest, whole, front_text, is_name, read_number, read_bytes, read_stamp, read_first, read_front}
+use Rattle.ing_codec.specs.Fields.{Rest, whole, front_text, is_name, read_number, read_bytes, read_stamp, read_first, read_front, row_version}
 use Rattle.ing_codec.specs.ChunkReading.{ended}
 
 -- of a stored chunk: its stream, the numbers, the size and the stamps of its entries, and its key
@@ -27,7 +27,7 @@ extent_text x = to_be_bytes w64 x.first ++ (to_be_bytes w32 x.count ++ (to_be_by
 
 -- the bytes of a row
 unfoldable pub row_text : RowObject → List ℕ
-row_text o = front_text (codes "INGR") o.tenant o.name ++ (extent_text o.extent ++ o.key)
+row_text o = front_text (codes "INGR") row_version o.tenant o.name ++ (extent_text o.extent ++ o.key)
 
 -- what has to hold of the numbers, the size and the stamps of the entries of a chunk
 pub record IsExtent (x : Extent) : Type 0 where
@@ -94,7 +94,7 @@ read_extent r = do
 -- all of the bytes: the row, or the first fault
 unfoldable pub read_row : List ℕ → Result RowObject CodecFault
 read_row bytes = do
-  h ← read_front (codes "INGR") (whole bytes)
+  h ← read_front (codes "INGR") row_version (whole bytes)
   x ← read_extent h.2
   k ← read_bytes 32 x.1
   ended (row_object h.0 h.1 x.0 k.0) k.1

@@ -1,5 +1,5 @@
 //! The entries and blocks of a chunk read from its bytes.
-ghost use Rattle.std.specs.Prelude.{◌≡◌, ◌++◌, ◌+◌, ◌<◌, ◌≤◌, ◌^◌, [], ◌∷◌, IfOk, length};
+ghost use Rattle.std.specs.Prelude.{◌≡◌, ◌++◌, ◌+◌, ◌*◌, ◌<◌, ◌≤◌, ◌^◌, [], ◌∷◌, IfOk, length};
 ghost use Rattle.ing_refusals.specs.Results.{Gives, Returns};
 ghost use Rattle.ing_chunk.specs.Chunks as chunks;
 ghost use Rattle.ing_codec.specs.ChunkReading as spec;
@@ -82,7 +82,7 @@ fn entries<'a>(
     ensures { Gives CodecFault.NoMemory (λ x. (x.0.items, x.1)) result
         (read_entries part part.count [] fields.entry) }
 {
-    let room = (fields.left() / ENTRY_BYTES).min(part.count as usize);
+    let room = room_for_entries(fields.left(), part.count);
     let mut found = Vec::with_capacity(alloc, room)?;
     let mut seen = Seen::new(alloc, part.first + part.start, room)?;
     let mut rest = fields;
@@ -131,8 +131,47 @@ fn block<'a>(
     Ok((LentBlock::in_order(found), after))
 }
 
+impl<'a> Fields<'a> {
+    /// So many blocks, which go on from a first number of at most 2^62, one after the other: each has a count of
+    /// one entry or more, and its entries, whose lines stay in the bytes. `Truncated` where a field passes the
+    /// end; `BadField` of a count that is 0 or with which a number reaches 2^62 or the entries 2^32, of an
+    /// entry's number outside of its block or there before, of a stamp, and of a line's length or text, as the
+    /// field of its kind; `OutOfOrder` of an entry that is not above the one before it. `NoMemory` may stand in
+    /// place of any answer: memory is taken for as many blocks and entries as the bytes that are left can hold,
+    /// at most, whatever the counts are, and for what was read. (Own.)
+    pub fn blocks(
+        self,
+        alloc: Global,
+        first: u64,
+        count: u32,
+    ) -> Result<(Vec<LentBlock<'a>>, Fields<'a>), CodecFault>
+        requires { first ≤ 2 ^ 62 }
+        ensures { Gives CodecFault.NoMemory (λ x. (x.0.items, x.1)) result
+            (read_blocks first count 0 [] self.entry) }
+    {
+        blocks(alloc, self, first, count)
+    }
+}
+
+/// How many entries room is made for before they are read: at most so many, and at most what the bytes that
+/// are left can hold.
+fn room_for_entries(left: usize, count: u32) -> usize
+    ensures covered { result * 16 ≤ left }
+    ensures few { result ≤ count }
+{
+    (left / ENTRY_BYTES).min(count as usize)
+}
+
+/// The same of blocks.
+fn room_for_blocks(left: usize, count: u32) -> usize
+    ensures covered { result * 20 ≤ left }
+    ensures few { result ≤ count }
+{
+    (left / BLOCK_BYTES).min(count as usize)
+}
+
 /// The blocks of a chunk.
-pub(crate) fn blocks<'a>(
+fn blocks<'a>(
     alloc: Global,
     fields: Fields<'a>,
     first: u64,
@@ -142,7 +181,7 @@ pub(crate) fn blocks<'a>(
     ensures { Gives CodecFault.NoMemory (λ x. (x.0.items, x.1)) result
         (read_blocks first count 0 [] fields.entry) }
 {
-    let room = (fields.left() / BLOCK_BYTES).min(count as usize);
+    let room = room_for_blocks(fields.left(), count);
     let mut found = Vec::with_capacity(alloc, room)?;
     let mut start: u64 = 0;
     let mut rest = fields;

@@ -8,7 +8,7 @@ ghost use Rattle.ing_codec.specs.RowObjects.{read_extent};
 
 use crate::fault::CodecFault;
 use crate::fields::{Fields, MAX_FIRST};
-use crate::writers::{put_u32, put_u64};
+use crate::writers::{put_stamp, put_u32, put_u64};
 use ing_chunk::Chunk;
 use ing_rows::Stamp;
 use std::alloc::AllocError;
@@ -49,9 +49,9 @@ impl Extent {
 
 impl<'a> Fields<'a> {
     /// How many entries a chunk with this first number has: a number of four bytes. `Truncated` where fewer
-    /// are left, `BadField` where it is 0 or a number would reach 2^62.
+    /// are left, `BadField` of the count where it is 0 or a number would reach 2^62. Takes no memory. (Own.)
     #[tactic(auto, unfolding(crate::specs::RowObjects::read_count))]
-    fn count(self, first: u64) -> Result<(u32, Fields<'a>), CodecFault>
+    pub fn count(self, first: u64) -> Result<(u32, Fields<'a>), CodecFault>
         requires { first ≤ 2 ^ 62 }
         ensures value { Returns (λ x. x) result (read_count first self.entry) }
         ensures some { IfOk result (λ x. (0 < x.0) × (first + x.0 ≤ 2 ^ 62)) }
@@ -66,9 +66,9 @@ impl<'a> Fields<'a> {
     }
 
     /// The size of so many entries: a number of eight bytes. `Truncated` where fewer are left, `BadField`
-    /// below 16 for each.
+    /// of the size below 16 for each. Takes no memory. (Own.)
     #[tactic(auto, unfolding(crate::specs::RowObjects::read_size))]
-    fn size(self, count: u32) -> Result<(u64, Fields<'a>), CodecFault>
+    pub fn size(self, count: u32) -> Result<(u64, Fields<'a>), CodecFault>
         ensures value { Returns (λ x. x) result (read_size count self.entry) }
         ensures enough { IfOk result (λ x. count * 16 ≤ x.0) }
     {
@@ -81,10 +81,11 @@ impl<'a> Fields<'a> {
         }
     }
 
-    /// The greatest of stamps of which this is the least: a stamp. `BadField` also where it is below the
-    /// least.
+    /// The greatest of stamps of which this is the least: a stamp, in nanoseconds. `Truncated` where fewer
+    /// than eight bytes are left, `BadField` of the stamp from 2^63 on, or where it is below the least. Takes no
+    /// memory. (Own.)
     #[tactic(auto, unfolding(crate::specs::RowObjects::read_greatest))]
-    fn greatest(self, least: Stamp) -> Result<(Stamp, Fields<'a>), CodecFault>
+    pub fn greatest(self, least: Stamp) -> Result<(Stamp, Fields<'a>), CodecFault>
         ensures value { Returns (λ x. x) result (read_greatest least self.entry) }
         ensures above { IfOk result (λ x. least ≤ x.0) }
     {
@@ -126,7 +127,7 @@ pub fn put_extent(out: &mut Vec<u8>, extent: &Extent) -> Result<(), AllocError>
     put_u64(out, extent.first)?;
     put_u32(out, extent.count)?;
     put_u64(out, extent.size)?;
-    put_u64(out, extent.least.nanoseconds())?;
-    put_u64(out, extent.greatest.nanoseconds())?;
+    put_stamp(out, extent.least)?;
+    put_stamp(out, extent.greatest)?;
     Ok(())
 }

@@ -19,7 +19,7 @@ pub enum CodecFault {
     /// The bytes do not begin with the four letters of the kind of object.
     #[error("the bytes begin as no object of this kind does")]
     BadMagic,
-    /// The version is not 1.
+    /// The version is not the one that is expected.
     #[error("the version is not known")]
     BadVersion,
     /// A field has a value that it may not have. For a number `at` is its first byte, for a text the first

@@ -11,13 +11,11 @@ ghost use Rattle.ing_codec.specs.Fields as spec;
 ghost use Rattle.ing_codec.specs.ChunkReading.{read_block_count, ended};
 
 use crate::fault::CodecFault;
+use byteorder::{BigEndian, ByteOrder};
 use ing_labels::{Labels, TextFault, canonical_names_are_decided};
 use ing_rows::{RowFault, Stamp, Tenant};
 use std::alloc::Global;
 use std::marker::Model;
-
-/// The only version of an object (own).
-pub(crate) const VERSION: u8 = 1;
 
 /// The most bytes of a tenant id (Loki documentation: multi-tenancy).
 const MAX_TENANT: u8 = 150;
@@ -88,28 +86,16 @@ impl<'a> Fields<'a> {
     pub fn u32(self) -> Result<(u32, Fields<'a>), CodecFault>
         ensures { Returns (λ x. x) result (read_number w32 self.entry) }
     {
-        let Some((front, rest)) = self.rest.split_first_chunk::<4>() else {
-            return Err(CodecFault::Truncated);
-        };
-        let after = Fields {
-            at: self.at + 4,
-            rest,
-        };
-        Ok((u32::from_be_bytes(*front), after))
+        let (front, after) = self.bytes(4)?;
+        Ok((BigEndian::read_u32(front), after))
     }
 
     /// A number of eight bytes. `Truncated` where fewer are left.
     pub fn u64(self) -> Result<(u64, Fields<'a>), CodecFault>
         ensures { Returns (λ x. x) result (read_number w64 self.entry) }
     {
-        let Some((front, rest)) = self.rest.split_first_chunk::<8>() else {
-            return Err(CodecFault::Truncated);
-        };
-        let after = Fields {
-            at: self.at + 8,
-            rest,
-        };
-        Ok((u64::from_be_bytes(*front), after))
+        let (front, after) = self.bytes(8)?;
+        Ok((BigEndian::read_u64(front), after))
     }
 
     /// So many bytes. `Truncated` where fewer are left.
@@ -141,13 +127,13 @@ impl<'a> Fields<'a> {
         }
     }
 
-    /// The version. `Truncated` where no byte is left, `BadVersion` where it is not 1.
+    /// The version that is expected. `Truncated` where no byte is left, `BadVersion` where it is another.
     #[tactic(auto, unfolding(crate::specs::Fields::read_version))]
-    pub fn version(self) -> Result<Fields<'a>, CodecFault>
-        ensures { Returns (λ x. x) result (read_version self.entry) }
+    pub fn version(self, expected: u8) -> Result<Fields<'a>, CodecFault>
+        ensures { Returns (λ x. x) result (read_version expected self.entry) }
     {
         let (version, after) = self.byte()?;
-        if version == VERSION {
+        if version == expected {
             Ok(after)
         } else {
             Err(CodecFault::BadVersion)
@@ -216,18 +202,20 @@ impl<'a> Fields<'a> {
         }
     }
 
-    /// What each object begins with: the letters of its kind, the version, a tenant id and a canonical name.
+    /// What each object begins with: the letters of its kind, the version that is expected, a tenant id and a
+    /// canonical name.
     #[tactic(auto, unfolding(crate::specs::Fields::read_front))]
     pub fn front(
         self,
         alloc: Global,
         letters: &[u8],
+        version: u8,
     ) -> Result<(Tenant, Labels, Fields<'a>), CodecFault>
         ensures value { Gives CodecFault.NoMemory (λ x. (x.0, canonical_of x.1, x.2)) result
-            (read_front letters.now self.entry) }
+            (read_front letters.now version self.entry) }
         ensures few { IfOk result (λ x. length (canonical_of x.1) < 2 ^ 32) }
     {
-        let (tenant, rest) = self.magic(letters)?.version()?.tenant(alloc)?;
+        let (tenant, rest) = self.magic(letters)?.version(version)?.tenant(alloc)?;
         let (labels, after) = rest.name(alloc)?;
         Ok((tenant, labels, after))
     }

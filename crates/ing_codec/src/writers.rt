@@ -5,22 +5,34 @@ ghost use Rattle.std.specs.Str.{is_utf8};
 ghost use Rattle.std.specs.Int.{w32, w64, to_be_bytes};
 ghost use Rattle.ing_codec.specs.Fields.{short_text, long_text, front_text};
 
-use crate::fields::VERSION;
-use ing_rows::{Line, Tenant};
+use byteorder::{BigEndian, ByteOrder};
+use ing_rows::{Line, Stamp, Tenant};
 use std::alloc::AllocError;
 
 /// Writes a number as four bytes, big-endian.
 pub fn put_u32(out: &mut Vec<u8>, number: u32) -> Result<(), AllocError>
     ensures { OnOk result (out.new.items ≡ out.old.items ++ to_be_bytes w32 number) }
 {
-    out.extend_from_slice(&number.to_be_bytes())
+    let mut bytes = [0u8; 4];
+    BigEndian::write_u32(&mut bytes, number);
+    out.extend_from_slice(&bytes)
 }
 
 /// Writes a number as eight bytes, big-endian.
 pub fn put_u64(out: &mut Vec<u8>, number: u64) -> Result<(), AllocError>
     ensures { OnOk result (out.new.items ≡ out.old.items ++ to_be_bytes w64 number) }
 {
-    out.extend_from_slice(&number.to_be_bytes())
+    let mut bytes = [0u8; 8];
+    BigEndian::write_u64(&mut bytes, number);
+    out.extend_from_slice(&bytes)
+}
+
+/// Writes a stamp, in nanoseconds and below 2^63, as eight bytes, big-endian.
+pub fn put_stamp(out: &mut Vec<u8>, stamp: Stamp) -> Result<(), AllocError>
+    ensures text { OnOk result (out.new.items ≡ out.old.items ++ to_be_bytes w64 stamp) }
+    ensures range { stamp < 2 ^ 63 }
+{
+    put_u64(out, stamp.nanoseconds())
 }
 
 /// Writes a tenant id: one byte of length, and the text.
@@ -60,20 +72,21 @@ fn text_of(line: &Line) -> &str
     line.as_str()
 }
 
-/// Writes what each object begins with: the letters of its kind, the version, a tenant id and a canonical
+/// Writes what each object begins with: the letters of its kind, its version, a tenant id and a canonical
 /// name.
 pub(crate) fn put_front(
     out: &mut Vec<u8>,
     letters: &[u8],
+    version: u8,
     tenant: &Tenant,
     name: &str,
 ) -> Result<(), AllocError>
     requires { length name.now < 2 ^ 32 }
     ensures { OnOk result
-        (out.new.items ≡ out.old.items ++ front_text letters.now tenant.now name.now) }
+        (out.new.items ≡ out.old.items ++ front_text letters.now version tenant.now name.now) }
 {
     out.extend_from_slice(letters)?;
-    out.push(VERSION)?;
+    out.push(version)?;
     put_tenant(out, tenant)?;
     put_name(out, name)?;
     Ok(())
