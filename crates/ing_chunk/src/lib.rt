@@ -9,6 +9,7 @@ mod kept;
 mod laws;
 mod numbered;
 mod run;
+mod sequence;
 
 pub use block::Block;
 pub use chunk::Chunk;

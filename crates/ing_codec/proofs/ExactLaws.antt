@@ -1,5 +1,5 @@
 -- The fields of objects, one by one: read as they were written, and written as they were read.
-use Rattle.std.proofs.Common.{◌≡◌, ℕ, ◌+◌, ◌^◌, ◌<◌, ◌≤◌, false, true, cond, List, [], ◌++◌, length, Result, Ok, Err, sym, subst, arith, add-zero}
+use Rattle.std.proofs.Common.{◌≡◌, ℕ, ◌+◌, ◌^◌, ◌<◌, ◌≤◌, false, true, cond, List, [], length, Result, Ok, Err, sym, subst, arith, add-zero}
 use Rattle.std.specs.Prelude.{◌==◌}
 use Rattle.std.specs.Int.{w32, w64, to_be_bytes}
 use Rattle.std.specs.List.{flat_map}
@@ -8,7 +8,6 @@ use Rattle.std.proofs.lemmas.Bool.Decides.{nat_tests}
 use Rattle.ing_rows.specs.Texts.{is_tenant}
 use Rattle.ing_chunk.specs.declared.numbered.Numbered.{Numbered}
 use Rattle.ing_chunk.specs.Parts.{AreParts, max_line}
-use Rattle.ing_codec.specs.declared.extent.Extent.{Extent}
 use Rattle.ing_codec.specs.declared.fault.CodecFault.{CodecFault}
 use Rattle.ing_codec.specs.declared.fault.CodecFault.TheVariants.{BadField}
 use Rattle.ing_codec.specs.Fields.{Rest, short_text, long_text, is_name, read_bytes, read_number, read_tenant, read_name, read_line, read_stamp, read_first}

@@ -8,7 +8,7 @@ use crate::best::Best;
 use crate::found::Found;
 use crate::order::Order;
 use crate::stream_name::StreamName;
-use ing_chunk::{Block, Numbered, spans_bound_stamps};
+use ing_chunk::{Block, Head, Numbered, spans_bound_stamps};
 use std::alloc::{AllocError, Global};
 
 /// Whether an entry is to be offered: its stamp is in the range, and it may be kept.
@@ -143,4 +143,25 @@ pub fn offer_block(
         start,
         end,
     )
+}
+
+/// The same of a head. Where its entries came in order, those in the range alone are looked at.
+pub(crate) fn offer_head(
+    best: &mut Best,
+    alloc: Global,
+    name: &StreamName,
+    head: &Head,
+    start: u64,
+    end: u64,
+) -> Result<(), AllocError>
+    ensures { OnOk result
+        (Offers (found_between name.now start end head.now) best.old best.new) }
+{
+    if is_passed_over(best, head.span(), start, end) {
+        return Ok(());
+    }
+    match head.between(start, end) {
+        Some(run) => offer_entries(best, alloc, name, run, start, end),
+        None => offer_entries(best, alloc, name, head.entries(), start, end),
+    }
 }

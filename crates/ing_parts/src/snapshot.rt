@@ -6,7 +6,7 @@ ghost use Rattle.ing_parts.specs.Parts.{Adds, entries_in, found_of};
 use crate::best::Best;
 use crate::laws::additions_join;
 use crate::listing::Listing;
-use crate::offers::{is_passed_over, offer_entries};
+use crate::offers::{is_passed_over, offer_entries, offer_head};
 use crate::order::{Order, Question};
 use crate::part::{Part, Source};
 use crate::stream_name::StreamName;
@@ -162,10 +162,10 @@ impl<R: Receipt> Snapshot<R> {
     fn add_head(&mut self, alloc: Global, name: &StreamName, head: &Head) -> Result<(), AllocError>
         ensures { OnOk result (Adds (map (found_of name.now) head.now) self.old self.new) }
     {
-        if self.passes_over(head.span()) {
-            return Ok(());
-        }
-        self.add_entries(alloc, name, head.entries())
+        let start = self.start;
+        let end = self.end;
+        offer_head(&mut self.best, alloc, name, head, start, end)?;
+        Ok(())
     }
 
     /// Adds closed blocks, the first one first.

@@ -1,0 +1,12 @@
+use Rattle.std.proofs.Common.{ap, ◌∙◌, subst}
+use Rattle.std.specs.Prelude.{OnOk}
+use Rattle.ing_parts.specs.Answers.{Offers}
+use Rattle.ing_parts.specs.Parts.{found_between}
+use Rattle.ing_parts.proofs.OfferLaws.{between_again}
+use Rattle.ing_parts.proofs.offers.offer_head.Goals as goal
+
+pub returns-in-Some : goal.returns-in-Some
+returns-in-Some c =
+    subst (λ l. OnOk c.offer_entries.result (Offers l c.args.best.now c.offer_entries.new.best))
+    (ap (found_between c.args.name.now c.args.start c.args.end) c.in-Some.ensures.value ∙ between_again c.args.name.now c.args.start c.args.end c.args.head.now)
+    c.offer_entries.ensures
