@@ -1,5 +1,5 @@
 -- Of entries in order the first has the least stamp, and the last the greatest.
-use Rattle.std.proofs.Common.{cond, ◌==◌, ◌≡◌, ◌-◌, ◌<◌, ◌≤◌, ◌^◌, Bool, true, false, refl, List, length, get_or, ap, sym, subst, arith}
+use Rattle.std.proofs.Common.{cond, ◌==◌, ◌≡◌, ℕ, suc, ◌+◌, ◌-◌, ◌<◌, ◌≤◌, ◌^◌, Bool, true, false, refl, List, ◌∷◌, ◌++◌, length, length-append, get_or, ap, sym, subst, arith}
 use Rattle.std.specs.Prelude.{All}
 use Rattle.std.specs.Cmp.{IsStrictWeakOrder, IsTotalOrder}
 use Rattle.std.specs.declared.cmp.Ordering.TheVariants.{Less, Equal, Greater}
@@ -7,10 +7,11 @@ use Rattle.std.specs.Ordering.{is_lt, nat_cmp, ordering_then, then_cmp, on}
 use Rattle.std.proofs.Math.Dec.{ltb}
 use Rattle.std.proofs.lemmas.Bool.{lt-ltb, ltb-false, ltb-true}
 use Rattle.std.proofs.lemmas.Cmp.{nat_cmp_total, on_total, then_total}
+use Rattle.std.proofs.lemmas.List.{get_or-append-add, get_or_append_left}
 use Rattle.std.proofs.lemmas.List.Elements.{All-from_get_or, All-get_or}
 use Rattle.std.proofs.lemmas.List.Sorted.{ranks_by, sorted_far}
 use Rattle.ing_chunk.specs.declared.numbered.Numbered.{Numbered}
-use Rattle.ing_chunk.specs.Chunks.{AreInOrder, comes_before, greatest_of, least_of}
+use Rattle.ing_chunk.specs.Chunks.{AreInOrder, StampsRise, comes_before, greatest_of, least_of}
 use Rattle.ing_chunk.proofs.Sums.{at_least, at_most, from_greatest, from_least}
 
 total : IsTotalOrder (then_cmp (on (λ (e : Numbered). e.entry.stamp) nat_cmp) (on (λ (e : Numbered). e.number) nat_cmp))
@@ -47,3 +48,23 @@ ordered_greatest es last up some is =
     let there : (get_or es (length es - 1) last).entry.stamp ≤ greatest_of es = All-get_or (λ (e : Numbered). e.entry.stamp ≤ greatest_of es) es (length es - 1) last (omega arith) (at_most (greatest_of es) es (omega arith)) in
     let low : last.entry.stamp ≤ greatest_of es = subst (λ (x : Numbered). x.entry.stamp ≤ greatest_of es) (sym is) there in
     omega arith
+
+-- none before one has a higher stamp, and none behind it a lower one
+pub stamps_rise : StampsRise
+stamps_rise before after e up =
+    let all = before ++ e ∷ after in
+    let n : ℕ = length before in
+    let many : length all ≡ n + suc (length after) = length-append before (e ∷ after) in
+    let at_end : n + 0 ≡ n = omega arith in
+    let here : get_or all n e ≡ e = subst (λ m. get_or all m e ≡ e) at_end (get_or-append-add before (e ∷ after) 0 e) in (
+      All-from_get_or (λ (x : Numbered). x.entry.stamp ≤ e.entry.stamp) before e
+          (λ k within.
+          let at : get_or all k e ≡ get_or before k e = get_or_append_left before (e ∷ after) e k within in
+          not_later (get_or before k e) e
+          (subst (λ x. comes_before e x ≡ false) at (subst (λ x. comes_before x (get_or all k e) ≡ false) here (sorted_far comes_before is_order all up k n e (omega (arith, within)) (omega (arith, many)))))),
+      All-from_get_or (λ (x : Numbered). e.entry.stamp ≤ x.entry.stamp) after e
+          (λ k within.
+          let at : get_or all (n + suc k) e ≡ get_or after k e = get_or-append-add before (e ∷ after) (suc k) e in
+          not_later e (get_or after k e)
+          (subst (λ x. comes_before x e ≡ false) at (subst (λ x. comes_before (get_or all (n + suc k) e) x ≡ false) here (sorted_far comes_before is_order all up n (n + suc k) e (omega arith) (omega (arith, within, many)))))),
+    )

@@ -352,3 +352,9 @@ abbrev pub SpansBoundStamps : Type 0
 SpansBoundStamps =
     (start end : ℕ) (es : List Numbered) → (greatest_of es < start) ⊎ (end ≤ least_of es)
     → filter (is_between start end) es ≡ []
+
+-- of entries in order none has a lower stamp than one before it
+abbrev pub StampsRise : Type 0
+StampsRise =
+    (before after : List Numbered) (e : Numbered) → AreInOrder (before ++ e ∷ after)
+    → All (λ x. x.entry.stamp ≤ e.entry.stamp) before × All (λ x. e.entry.stamp ≤ x.entry.stamp) after

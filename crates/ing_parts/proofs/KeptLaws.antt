@@ -10,6 +10,7 @@ use Rattle.ing_parts.specs.declared.order.Order.TheVariants.{Forward, Backward}
 use Rattle.ing_parts.specs.Answers.{BestState, IsAnswer, IsFrom, IsPast, Offers, PassesOver, precedes}
 use Rattle.ing_parts.specs.Kept.{IsBarred, ahead}
 use Rattle.ing_parts.proofs.Insertion.{sorted_taken}
+use Rattle.ing_parts.proofs.SomeLaws.{some_first}
 use Rattle.ing_parts.proofs.StandLaws.{is_first, precedes_is_order, stand_ahead}
 
 -- ---- stamps in the order
@@ -46,7 +47,7 @@ all_of_them order f (g ∷ gs) none =
 
 -- what has enough ahead of it is passed over
 pub passed : (b : BestState) (f : Found) → b.limit ≤ ahead (precedes b.order) f b.held → Offers (f ∷ []) b b
-passed b f enough = record { order = refl; limit = refl; stand = stand_ahead b.order b.limit b.held f enough }
+passed b f enough = record { order = refl; limit = refl; drawn = some_first b.held (f ∷ []); stand = stand_ahead b.order b.limit b.held f enough }
 
 pub barred_passes : (b : BestState) (bar from : ℕ) → IsBarred b.order b.limit b.held (Some bar) → IsPast b.order bar from → PassesOver from b
 barred_passes b bar from h past f is = passed b f (h f (past_from b.order bar from f.entry.stamp past is))

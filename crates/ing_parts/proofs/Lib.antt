@@ -5,4 +5,5 @@ mod ListingLaws
 mod OfferLaws
 pub mod RangeLaws
 mod Reordered
+mod SomeLaws
 mod StandLaws

@@ -1,17 +1,18 @@
 -- Entries that are offered one after another.
-use Rattle.std.proofs.Common.{◌≡◌, Bool, true, false, not, cond, filter, ℕ, ◌+◌, ◌<◌, List, [], ◌∷◌, ◌++◌, map, length, drop, take, get_or, suc, add-one, drop-cons, append_assoc, append-nil, refl, ap, sym, ◌∙◌, subst, arith}
+use Rattle.std.proofs.Common.{◌≡◌, Bool, true, false, not, cond, filter, ℕ, ◌+◌, ◌<◌, ◌≤◌, List, [], ◌∷◌, ◌++◌, map, length, drop, take, get_or, suc, add-one, drop-cons, append_assoc, append-nil, refl, ap, sym, ◌∙◌, subst, arith}
 use Rattle.std.specs.Prelude.{All, IsPermutation}
-use Rattle.std.proofs.lemmas.List.{map-append, take_more}
-use Rattle.std.proofs.lemmas.List.Elements.{All-nil, All-cons, All-head, All-tail, filter-append}
+use Rattle.std.proofs.lemmas.List.{map-append, take-append-drop, take_more}
+use Rattle.std.proofs.lemmas.List.Elements.{All-nil, All-cons, All-head, All-push, All-tail, filter-append}
 use Rattle.std.proofs.lemmas.List.Sorted.{IsPermutation-append_comm, IsPermutation-append_right}
 use Rattle.ing_chunk.specs.declared.numbered.Numbered.{Numbered}
 use Rattle.ing_parts.specs.declared.found.Found.{Found}
-use Rattle.ing_chunk.specs.Chunks.{in_blocks, is_between}
+use Rattle.ing_chunk.specs.Chunks.{AreInOrder, StampsRise, in_blocks, is_between}
 use Rattle.ing_parts.specs.declared.order.Order.{Order}
 use Rattle.ing_parts.specs.declared.order.Order.TheVariants.{Forward, Backward}
-use Rattle.ing_parts.specs.Answers.{BestState, IsAnswer, IsFrom, Offers, PassesOver, StandFor}
+use Rattle.ing_parts.specs.Answers.{AreSomeOf, BestState, IsAnswer, IsFrom, Offers, PassesOver, StandFor}
 use Rattle.ing_parts.specs.Parts.{AreFrom, found_between, found_of, is_within, within}
 use Rattle.ing_parts.proofs.RangeLaws.{missed}
+use Rattle.ing_parts.proofs.SomeLaws.{some_alike, some_beside, some_first, some_through}
 use Rattle.ing_parts.proofs.StandLaws.{stand_alike, stand_answered, stand_beside, stand_still, stand_through}
 
 from_itself : (order : Order) (stamp : ℕ) → IsFrom order stamp stamp
@@ -19,12 +20,13 @@ from_itself Forward stamp = omega arith
 from_itself Backward stamp = omega arith
 
 pub offers_none : (b : BestState) → Offers [] b b
-offers_none b = record { order = refl; limit = refl; stand = subst (StandFor b.order b.limit b.held) (sym (append-nil b.held)) (stand_still b.order b.limit b.held) }
+offers_none b = record { order = refl; limit = refl; drawn = some_first b.held []; stand = subst (StandFor b.order b.limit b.held) (sym (append-nil b.held)) (stand_still b.order b.limit b.held) }
 
 pub offers_both : (x y : List Found) (old mid new : BestState) → Offers x old mid → Offers y mid new → Offers (x ++ y) old new
 offers_both x y old mid new h k = record {
   order = k.order ∙ h.order;
   limit = k.limit ∙ h.limit;
+  drawn = subst (AreSomeOf new.held) (append_assoc old.held x y) (some_through new.held (mid.held ++ y) ((old.held ++ x) ++ y) k.drawn (some_beside mid.held (old.held ++ x) y h.drawn));
   stand =
       let later : StandFor old.order old.limit new.held (mid.held ++ y) = subst (λ o. StandFor o old.limit new.held (mid.held ++ y)) h.order (subst (λ n. StandFor mid.order n new.held (mid.held ++ y)) h.limit k.stand) in
       let sooner : StandFor old.order old.limit (mid.held ++ y) ((old.held ++ x) ++ y) = stand_beside old.order old.limit mid.held (old.held ++ x) y h.stand in
@@ -35,6 +37,7 @@ pub offers_alike : (x y : List Found) (old new : BestState) → IsPermutation x 
 offers_alike x y old new same h = record {
   order = h.order;
   limit = h.limit;
+  drawn = some_through new.held (old.held ++ x) (old.held ++ y) h.drawn (some_alike (old.held ++ x) (old.held ++ y) (IsPermutation-append_right old.held x y same));
   stand = stand_through old.order old.limit new.held (old.held ++ x) (old.held ++ y) h.stand (stand_alike old.order old.limit (old.held ++ x) (old.held ++ y) (IsPermutation-append_right old.held x y same));
 }
 
@@ -114,6 +117,42 @@ all_from order from name start end (e ∷ es) h =
 -- nothing from there on changes anything
 pub offers_from : (name : List ℕ) (start end from : ℕ) (es : List Numbered) (b : BestState) → PassesOver from b → AreFrom b.order from es → Offers (found_between name start end es) b b
 offers_from name start end from es b pass h = offers_passed from b (found_between name start end es) pass (all_from b.order from name start end es h)
+
+-- the same of what is found of entries
+found_from : (order : Order) (from : ℕ) (name : List ℕ) (start end : ℕ) (es : List Numbered) → All (λ e. IsFrom order from e.entry.stamp) es → All (λ f. IsFrom order from f.entry.stamp) (found_between name start end es)
+found_from order from name start end [] h = All-nil (λ f. IsFrom order from f.entry.stamp)
+found_from order from name start end (e ∷ es) h =
+    step (is_within start end (found_of name e)) (All-head (λ (x : Numbered). IsFrom order from x.entry.stamp) e es h) (found_from order from name start end es (All-tail (λ (x : Numbered). IsFrom order from x.entry.stamp) e es h)) where
+      step : (t : Bool) → IsFrom order from e.entry.stamp → All (λ f. IsFrom order from f.entry.stamp) (found_between name start end es) → All (λ f. IsFrom order from f.entry.stamp) (cond t (found_of name e ∷ found_between name start end es) (found_between name start end es))
+      step true here rest = All-cons (λ f. IsFrom order from f.entry.stamp) (found_of name e) (found_between name start end es) here rest
+      step false here rest = rest
+
+pub found_passed : (name : List ℕ) (start end from : ℕ) (es : List Numbered) (b : BestState) → PassesOver from b → All (λ e. IsFrom b.order from e.entry.stamp) es → Offers (found_between name start end es) b b
+found_passed name start end from es b pass h = offers_passed from b (found_between name start end es) pass (found_from b.order from name start end es h)
+
+-- those of a run from one on that is passed over, in the order in which it rises
+module _ (rise : StampsRise) (name : List ℕ) (start end : ℕ) (run : List Numbered) (up : AreInOrder run) (i : ℕ) (e : Numbered) (within : i < length run) (is : e ≡ get_or run i e) where
+  split : run ≡ take i run ++ e ∷ drop (i + 1) run
+  split = sym (take-append-drop i run) ∙ ap (λ l. take i run ++ l) (left_from run i e within is)
+
+  both_sides : All (λ x. x.entry.stamp ≤ e.entry.stamp) (take i run) × All (λ x. e.entry.stamp ≤ x.entry.stamp) (drop (i + 1) run)
+  both_sides = rise (take i run) (drop (i + 1) run) e (subst AreInOrder split up)
+
+  pub rest_of_run : (old b : BestState) → b.order ≡ Forward → PassesOver e.entry.stamp b → Offers (found_between name start end (take i run)) old b → Offers (found_between name start end run) old b
+  rest_of_run old b forward pass so_far =
+      let rest : All (λ (x : Numbered). IsFrom b.order e.entry.stamp x.entry.stamp) (e ∷ drop (i + 1) run) =
+      subst (λ o. All (λ (x : Numbered). IsFrom o e.entry.stamp x.entry.stamp) (e ∷ drop (i + 1) run)) (sym forward)
+      (All-cons (λ (x : Numbered). e.entry.stamp ≤ x.entry.stamp) e (drop (i + 1) run) (omega arith) both_sides.1) in
+      offers_next name start end (take i run) (e ∷ drop (i + 1) run) run old b b split so_far (found_passed name start end e.entry.stamp (e ∷ drop (i + 1) run) b pass rest)
+
+  -- and those up to one, where it falls
+  pub front_of_run : (old b : BestState) → b.order ≡ Backward → PassesOver e.entry.stamp b → Offers (found_between name start end (drop (i + 1) run)) old b → Offers (found_between name start end run) old b
+  front_of_run old b backward pass so_far =
+      let front : All (λ (x : Numbered). IsFrom b.order e.entry.stamp x.entry.stamp) (take i run ++ e ∷ []) =
+      subst (λ o. All (λ (x : Numbered). IsFrom o e.entry.stamp x.entry.stamp) (take i run ++ e ∷ [])) (sym backward)
+      (All-push (λ (x : Numbered). x.entry.stamp ≤ e.entry.stamp) (take i run) e both_sides.0 (omega arith)) in
+      offers_previous name start end (drop (i + 1) run) (take i run ++ e ∷ []) run old b b (split ∙ sym (append_assoc (take i run) (e ∷ []) (drop (i + 1) run))) so_far
+      (found_passed name start end e.entry.stamp (take i run ++ e ∷ []) b pass front)
 
 pub holds : (b : Bool) → not b ≡ false → b ≡ true
 holds true h = refl

@@ -9,9 +9,10 @@ use Rattle.ing_chunk.specs.Chunks.{ChunkContents, entries_of, entries_of_all, is
 use Rattle.ing_parts.specs.declared.part.Part.{Part}
 use Rattle.ing_parts.specs.declared.found.Found.{Found}
 use Rattle.ing_parts.specs.declared.snapshot.Snapshot.{Snapshot}
-use Rattle.ing_parts.specs.Answers.{Offers, StandFor}
-use Rattle.ing_parts.specs.Parts.{Adds, found_between, found_of, found_in, found_among, is_within, wanted, within}
+use Rattle.ing_parts.specs.Answers.{AreSomeOf, Offers, StandFor}
+use Rattle.ing_parts.specs.Parts.{Adds, found_between, found_of, found_in, found_among, is_within, standing, wanted, within}
 use Rattle.ing_parts.proofs.Reordered.{filter_reordered}
+use Rattle.ing_parts.proofs.SomeLaws.{some_alike, some_behind, some_beside, some_first, some_pass, some_still, some_through}
 use Rattle.ing_parts.proofs.StandLaws.{stand_alike, stand_beside, stand_still, stand_through}
 
 -- what is wanted of entries is what is found of those in the range
@@ -45,6 +46,7 @@ adds_none name es s none = record {
   end = refl;
   order = refl;
   limit = refl;
+  drawn = some_first (standing s) (map (found_of name) es);
   stand = subst (StandFor s.best.order s.best.limit (wanted s)) (sym (append-nil (wanted s)) ∙ ap (λ l. wanted s ++ l) (sym (missed s.start s.end name es none))) (stand_still s.best.order s.best.limit (wanted s));
 }
 
@@ -55,14 +57,25 @@ adds_part p old new front start end best parts =
     (λ i. (best i).held ++ within (start i) (end i) (found_among (parts i)))
     ∙ ap (λ l. old.best.held ++ l) (within_more old.start old.end old.parts.items p)
     ∙ sym (append_assoc old.best.held (within old.start old.end (found_among old.parts.items)) (within old.start old.end (found_in p))) in
+    let all : standing new ≡ standing old ++ found_in p =
+    (λ i. (best i).held ++ found_among (parts i))
+    ∙ ap (λ l. old.best.held ++ l) (found_more old.parts.items p)
+    ∙ sym (append_assoc old.best.held (found_among old.parts.items) (found_in p)) in
     record {
       front = front;
       start = start;
       end = end;
       order = ap (λ b. b.order) best;
       limit = ap (λ b. b.limit) best;
+      drawn = subst (AreSomeOf (standing new)) all (some_still (standing new));
       stand = subst (StandFor old.best.order old.best.limit (wanted new)) more (stand_still old.best.order old.best.limit (wanted new));
     }
+
+-- behind others, two lists change places
+aside : (us xs ys : List Found) → IsPermutation ((us ++ xs) ++ ys) ((us ++ ys) ++ xs)
+aside us xs ys =
+    subst (λ l. IsPermutation l ((us ++ ys) ++ xs)) (sym (append_assoc us xs ys))
+    (subst (λ l. IsPermutation (us ++ (xs ++ ys)) l) (sym (append_assoc us ys xs)) (IsPermutation-append_right us (xs ++ ys) (ys ++ xs) (IsPermutation-append_comm xs ys)))
 
 -- what is offered to those that it keeps
 pub adds_offered : {R : Type 0} (name : List ℕ) (es : List Numbered) (old new : Snapshot R) → new.front ≡ old.front → new.start ≡ old.start → new.end ≡ old.end → new.parts.items ≡ old.parts.items → Offers (found_between name old.start old.end es) old.best new.best → Adds (map (found_of name) es) old new
@@ -72,17 +85,23 @@ adds_offered name es old new front start end parts h =
     let all = found_between name old.start old.end es in
     let there = within old.start old.end (found_among old.parts.items) in
     let kept : StandFor o n (new.best.held ++ there) ((old.best.held ++ all) ++ there) = stand_beside o n new.best.held (old.best.held ++ all) there h.stand in
-    let same : IsPermutation ((old.best.held ++ all) ++ there) ((old.best.held ++ there) ++ all) =
-    subst (λ l. IsPermutation l ((old.best.held ++ there) ++ all)) (sym (append_assoc old.best.held all there))
-    (subst (λ l. IsPermutation (old.best.held ++ (all ++ there)) l) (sym (append_assoc old.best.held there all))
-    (IsPermutation-append_right old.best.held (all ++ there) (there ++ all) (IsPermutation-append_comm all there))) in
+    let same : IsPermutation ((old.best.held ++ all) ++ there) ((old.best.held ++ there) ++ all) = aside old.best.held all there in
     let is : new.best.held ++ there ≡ wanted new = λ i. new.best.held ++ within (sym start i) (sym end i) (found_among (sym parts i)) in
+    let among = found_among old.parts.items in
+    let found = map (found_of name) es in
+    let drawn : AreSomeOf (new.best.held ++ among) ((old.best.held ++ among) ++ found) =
+    some_through (new.best.held ++ among) ((old.best.held ++ all) ++ among) ((old.best.held ++ among) ++ found)
+    (some_beside new.best.held (old.best.held ++ all) among h.drawn)
+    (some_through ((old.best.held ++ all) ++ among) ((old.best.held ++ among) ++ all) ((old.best.held ++ among) ++ found)
+    (some_alike ((old.best.held ++ all) ++ among) ((old.best.held ++ among) ++ all) (aside old.best.held all among))
+    (some_behind (old.best.held ++ among) all found (some_pass (is_within old.start old.end) found))) in
     record {
       front = front;
       start = start;
       end = end;
       order = h.order;
       limit = h.limit;
+      drawn = subst (λ l. AreSomeOf (new.best.held ++ found_among l) (standing old ++ found)) (sym parts) drawn;
       stand = subst (λ l. StandFor o n l (wanted old ++ all)) is
           (stand_through o n (new.best.held ++ there) ((old.best.held ++ all) ++ there) (wanted old ++ all) kept (stand_alike o n ((old.best.held ++ all) ++ there) ((old.best.held ++ there) ++ all) same));
     }
@@ -95,6 +114,7 @@ adds_nothing s = record {
   end = refl;
   order = refl;
   limit = refl;
+  drawn = some_first (standing s) [];
   stand = subst (StandFor s.best.order s.best.limit (wanted s)) (sym (append-nil (wanted s))) (stand_still s.best.order s.best.limit (wanted s));
 }
 
@@ -116,6 +136,7 @@ adds_both a b old mid new h k =
       end = k.end ∙ h.end;
       order = k.order ∙ h.order;
       limit = k.limit ∙ h.limit;
+      drawn = subst (AreSomeOf (standing new)) (append_assoc (standing old) a b) (some_through (standing new) (standing mid ++ b) ((standing old ++ a) ++ b) k.drawn (some_beside (standing mid) (standing old ++ a) b h.drawn));
       stand = subst (StandFor o n (wanted new)) all (stand_through o n (wanted new) (wanted mid ++ there) ((wanted old ++ here) ++ there) later sooner);
     }
 
@@ -132,6 +153,7 @@ adds_alike a b old new same h =
       end = h.end;
       order = h.order;
       limit = h.limit;
+      drawn = some_through (standing new) (standing old ++ a) (standing old ++ b) h.drawn (some_alike (standing old ++ a) (standing old ++ b) (IsPermutation-append_right (standing old) a b same));
       stand = stand_through o n (wanted new) (wanted old ++ here) (wanted old ++ there) h.stand (stand_alike o n (wanted old ++ here) (wanted old ++ there) (IsPermutation-append_right (wanted old) here there (filter_reordered (is_within old.start old.end) a b same)));
     }
 

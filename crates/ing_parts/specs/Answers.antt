@@ -1,6 +1,6 @@
 -- The first entries in an order, and which may be left out (Loki documentation: HTTP API, query range: limit and direction;
 -- the order of entries of equal stamps is own).
-use Rattle.std.specs.Prelude.{◌≡◌, ℕ, ◌<◌, ◌≤◌, Bool, List, [], ◌∷◌, ◌++◌, take, IsPermutation}
+use Rattle.std.specs.Prelude.{◌≡◌, ℕ, ◌==◌, ◌<◌, ◌≤◌, Bool, ◌&&◌, List, [], ◌∷◌, ◌++◌, bytes_eq, filter, length, take, IsPermutation}
 use Rattle.std.specs.List.Sorted.{IsSortedBy}
 use Rattle.std.specs.Ordering.{is_lt, nat_cmp, ordering_then}
 use Rattle.std.specs.Cmp.Lexicographic.{slice_cmp}
@@ -27,6 +27,20 @@ pub record IsAnswer (order : Order) (limit : ℕ) (all answer : List Found) : Ty
   pub in_order : IsSortedBy (precedes order) sorted
   pub cut : answer ≡ take limit sorted
 
+-- Some of all, none of them more often than it stands there: with the others they are all, in some order. So none of them is
+-- invented, and none is doubled.
+pub record AreSomeOf (some all : List Found) : Type 0 where
+  pub others : List Found
+  pub same : IsPermutation (some ++ others) all
+
+-- an entry has this number of the stream of this name
+abbrev pub is_at : List ℕ → ℕ → Found → Bool
+is_at name number f = bytes_eq f.name name && (f.number == number)
+
+-- of no stream an entry stands twice
+abbrev pub StandApart : List Found → Type 0
+StandApart found = (name : List ℕ) (number : ℕ) → length (filter (is_at name number) found) ≤ 1
+
 -- some of them stand for all: together with whatever others they have an answer that all have with these
 abbrev pub StandFor : Order → ℕ → List Found → List Found → Type 0
 StandFor order limit some all =
@@ -50,10 +64,11 @@ pub record BestState : Type 0 where
   pub limit : ℕ
   pub held : List Found
 
--- these are offered: what is kept then stands for what was kept before and these
+-- these are offered: what is kept then is of what was kept before and of these, and stands for them
 pub record Offers (all : List Found) (old new : BestState) : Type 0 where
   pub order : new.order ≡ old.order
   pub limit : new.limit ≡ old.limit
+  pub drawn : AreSomeOf new.held (old.held ++ all)
   pub stand : StandFor old.order old.limit new.held (old.held ++ all)
 
 -- none from this stamp on changes an answer

@@ -12,7 +12,7 @@ use Rattle.ing_parts.specs.declared.part.Source.{Source}
 use Rattle.ing_parts.specs.declared.part.Source.TheVariants.{Block, Stored}
 use Rattle.ing_parts.specs.declared.order.Order.{Order}
 use Rattle.ing_parts.specs.declared.order.Order.TheVariants.{Forward, Backward}
-use Rattle.ing_parts.specs.Answers.{StandFor}
+use Rattle.ing_parts.specs.Answers.{AreSomeOf, StandFor}
 
 -- the entries of a place
 abbrev pub entries_in : {R : Type 0} → Source R → List Numbered
@@ -56,22 +56,29 @@ AreFrom Backward from es = greatest_of es ≤ from
 abbrev pub wanted : {R : Type 0} → Snapshot R → List Found
 wanted s = s.best.held ++ within s.start s.end (found_among s.parts.items)
 
--- what is wanted of these entries is added to a snapshot, as far as it may be in an answer
+-- the entries that stand in a snapshot: those that it keeps, and all of its parts
+abbrev pub standing : {R : Type 0} → Snapshot R → List Found
+standing s = s.best.held ++ found_among s.parts.items
+
+-- what is wanted of these entries is added to a snapshot, as far as it may be in an answer; no other is added, and none twice
 pub record Adds {R : Type 0} (all : List Found) (old new : Snapshot R) : Type 0 where
   pub front : new.front ≡ old.front
   pub start : new.start ≡ old.start
   pub end : new.end ≡ old.end
   pub order : new.best.order ≡ old.best.order
   pub limit : new.best.limit ≡ old.best.limit
+  pub drawn : AreSomeOf (standing new) (standing old ++ all)
   pub stand : StandFor old.best.order old.best.limit (wanted new) (wanted old ++ within old.start old.end all)
 
 -- the same of these rows
 abbrev pub AddsRows : {R : Type 0} → List Row → Snapshot R → Snapshot R → Type 0
 AddsRows rows old new = Adds (map found_at rows) old new
 
--- what is wanted of a snapshot stands for what is in its range of these rows
-abbrev pub HasRows : {R : Type 0} → List Row → Snapshot R → Type 0
-HasRows rows s = StandFor s.best.order s.best.limit (wanted s) (within s.start s.end (map found_at rows))
+-- what stands in a snapshot is of these rows, none invented and none twice; and what is wanted of it stands for what is in its
+-- range of them
+pub record HasRows {R : Type 0} (rows : List Row) (s : Snapshot R) : Type 0 where
+  pub drawn : AreSomeOf (standing s) (map found_at rows)
+  pub stand : StandFor s.best.order s.best.limit (wanted s) (within s.start s.end (map found_at rows))
 
 -- ---- rows of chunks
 

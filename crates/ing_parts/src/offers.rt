@@ -1,6 +1,6 @@
 //! Entries of one stream in memory, offered to the best.
 ghost use Rattle.std.specs.Prelude.{◌≡◌, ℕ, List, ◌∷◌, [], OnOk, true, false};
-ghost use Rattle.ing_chunk.specs.Chunks.{IsSpanOf, is_between};
+ghost use Rattle.ing_chunk.specs.Chunks.{AreInOrder, IsSpanOf, is_between};
 ghost use Rattle.ing_parts.specs.Answers.{Offers};
 ghost use Rattle.ing_parts.specs.Parts.{found_between};
 
@@ -8,7 +8,7 @@ use crate::best::Best;
 use crate::found::Found;
 use crate::order::Order;
 use crate::stream_name::StreamName;
-use ing_chunk::{Block, Head, Numbered, spans_bound_stamps};
+use ing_chunk::{Block, Head, Numbered, spans_bound_stamps, stamps_rise};
 use std::alloc::{AllocError, Global};
 
 /// Whether an entry is to be offered: its stamp is in the range, and it may be kept.
@@ -99,6 +99,75 @@ pub(crate) fn offer_entries(
     }
 }
 
+/// The same of entries in order of stamp, the first one first: none is looked at behind the first that may not be kept.
+fn offer_run_from_first(
+    best: &mut Best,
+    alloc: Global,
+    name: &StreamName,
+    run: &[Numbered],
+    start: u64,
+    end: u64,
+) -> Result<(), AllocError>
+    requires forward { best.old.order ≡ Order.Forward }
+    requires ordered { AreInOrder run.now }
+    ensures { OnOk result
+        (Offers (found_between name.now start end run.now) best.old best.new) }
+{
+    stamps_rise();
+    for numbered in run {
+        if best.bars(numbered.entry.stamp.nanoseconds()) {
+            return Ok(());
+        }
+        offer_one(best, alloc, name, numbered, start, end)?;
+    }
+    Ok(())
+}
+
+/// The same, the last one first.
+fn offer_run_from_last(
+    best: &mut Best,
+    alloc: Global,
+    name: &StreamName,
+    run: &[Numbered],
+    start: u64,
+    end: u64,
+) -> Result<(), AllocError>
+    requires backward { best.old.order ≡ Order.Backward }
+    requires ordered { AreInOrder run.now }
+    ensures { OnOk result
+        (Offers (found_between name.now start end run.now) best.old best.new) }
+{
+    stamps_rise();
+    for index in (0..run.len()).rev() {
+        let numbered = &run[index];
+        if best.bars(numbered.entry.stamp.nanoseconds()) {
+            return Ok(());
+        }
+        offer_one(best, alloc, name, numbered, start, end)?;
+    }
+    Ok(())
+}
+
+/// Offers copies of those entries of a stream, which are in order of stamp, whose stamp is at least the start and below the end, in
+/// nanoseconds. They begin where an answer begins, and end where no further one may be kept. `AllocError` where memory ran out.
+pub(crate) fn offer_run(
+    best: &mut Best,
+    alloc: Global,
+    name: &StreamName,
+    run: &[Numbered],
+    start: u64,
+    end: u64,
+) -> Result<(), AllocError>
+    requires ordered { AreInOrder run.now }
+    ensures { OnOk result
+        (Offers (found_between name.now start end run.now) best.old best.new) }
+{
+    match best.order() {
+        Order::Forward => offer_run_from_first(best, alloc, name, run, start, end),
+        Order::Backward => offer_run_from_last(best, alloc, name, run, start, end),
+    }
+}
+
 /// Whether their span shows that entries change no answer: none has a stamp that is at least the start and below the end, in
 /// nanoseconds, or none may be kept. Constant.
 pub(crate) fn is_passed_over(best: &Best, span: Option<(u64, u64)>, start: u64, end: u64) -> bool
@@ -135,7 +204,7 @@ pub fn offer_block(
     if is_passed_over(best, block.span(), start, end) {
         return Ok(());
     }
-    offer_entries(
+    offer_run(
         best,
         alloc,
         name,
@@ -161,7 +230,7 @@ pub(crate) fn offer_head(
         return Ok(());
     }
     match head.between(start, end) {
-        Some(run) => offer_entries(best, alloc, name, run, start, end),
+        Some(run) => offer_run(best, alloc, name, run, start, end),
         None => offer_entries(best, alloc, name, head.entries(), start, end),
     }
 }

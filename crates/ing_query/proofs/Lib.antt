@@ -3,3 +3,5 @@ mod GatherLaws
 mod StoredLaws
 mod FlatLaws
 mod AnswerLaws
+mod NumberLaws
+mod OnceLaws

@@ -1,6 +1,8 @@
 -- What is known of a stored chunk, and what a fault of a query tells of the store (own).
-use Rattle.std.specs.Prelude.{◌≡◌, ℕ, ◌≤◌, List, Result, Ok, Err, IfErr}
+use Rattle.std.specs.Prelude.{◌≡◌, ℕ, ◌==◌, ◌≤◌, List, filter, length, Result, Ok, Err, IfErr}
 use Rattle.sha2.specs.Sha256.{sha256}
+use Rattle.ing_chunk.specs.declared.numbered.Numbered.{Numbered}
+use Rattle.ing_chunk.specs.Chunks.{in_blocks}
 use Rattle.ing_codec.specs.ChunkObjects.{ChunkObject, IsObject}
 use Rattle.ing_codec.specs.ChunkReading.{read_chunk}
 use Rattle.ing_parts.specs.Listings.{Listed, IsLike}
@@ -8,13 +10,20 @@ use Rattle.ing_store.specs.StoreFaults.{HasFailed}
 use Rattle.ing_query.specs.declared.fault.QueryFault.{QueryFault}
 use Rattle.ing_query.specs.declared.fault.QueryFault.TheVariants.{NoMemory, StoreFault, BadObject}
 
--- a chunk is taken for what is listed: it is read from bytes of the key, and has the stream, the first number and the count
+-- each number stands in the one as often as in the other
+abbrev pub HaveSameNumbers : List Numbered → List Numbered → Type 0
+HaveSameNumbers xs ys =
+    (number : ℕ) → length (filter (λ e. e.number == number) xs) ≡ length (filter (λ e. e.number == number) ys)
+
+-- A chunk is taken for what is listed: it is read from bytes of the key, and has the stream, the first number and the count, and
+-- so exactly the numbers.
 pub record IsTaken (listed : Listed) (o : ChunkObject) : Type 0 where
   pub bytes : List ℕ
   pub key : listed.key ≡ sha256 bytes
   pub read : read_chunk bytes ≡ Ok o
   pub is : IsObject o
   pub like : IsLike listed o
+  pub numbers : HaveSameNumbers (in_blocks o.blocks) (in_blocks listed.blocks)
 
 -- bytes that have the key of what is listed spell no chunk of its stream, its first number and its count
 pub record AreBad (listed : Listed) (bytes : List ℕ) : Type 0 where

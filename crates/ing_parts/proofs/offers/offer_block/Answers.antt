@@ -7,6 +7,6 @@ use Rattle.ing_parts.proofs.offers.offer_block.Goals as goal
 
 pub returns : goal.returns
 returns c =
-    subst (λ l. OnOk c.offer_entries.result (Offers l c.args.best.now c.offer_entries.new.best))
+    subst (λ l. OnOk c.offer_run.result (Offers l c.args.best.now c.offer_run.new.best))
     (ap (found_between c.args.name.now c.args.start c.args.end) c.entries_between.ensures.value ∙ between_again c.args.name.now c.args.start c.args.end c.args.block.now)
-    c.offer_entries.ensures
+    c.offer_run.ensures

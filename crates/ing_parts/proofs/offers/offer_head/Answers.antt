@@ -7,6 +7,6 @@ use Rattle.ing_parts.proofs.offers.offer_head.Goals as goal
 
 pub returns-in-Some : goal.returns-in-Some
 returns-in-Some c =
-    subst (λ l. OnOk c.offer_entries.result (Offers l c.args.best.now c.offer_entries.new.best))
+    subst (λ l. OnOk c.offer_run.result (Offers l c.args.best.now c.offer_run.new.best))
     (ap (found_between c.args.name.now c.args.start c.args.end) c.in-Some.ensures.value ∙ between_again c.args.name.now c.args.start c.args.end c.args.head.now)
-    c.offer_entries.ensures
+    c.offer_run.ensures

@@ -1,6 +1,7 @@
 use Rattle.std.proofs.Common.{rules, [], length, append-nil, refl, ap, sym, subst, arith}
-use Rattle.ing_parts.specs.Answers.{BestState, IsPast, Offers, StandFor}
+use Rattle.ing_parts.specs.Answers.{AreSomeOf, BestState, IsPast, Offers, StandFor}
 use Rattle.ing_parts.proofs.KeptLaws.{answer_bars}
+use Rattle.ing_parts.proofs.SomeLaws.{some_answer}
 use Rattle.ing_parts.proofs.StandLaws.{answer_stands}
 use Rattle.ing_parts.proofs.best.Best.raise.Goals as goal
 
@@ -20,6 +21,7 @@ returns-in-Some c =
     let offers : Offers [] old new = record {
       order = refl;
       limit = refl;
+      drawn = subst (AreSomeOf c.cut.new.held.items) (sym (append-nil inside.held.items)) (some_answer inside.order inside.limit inside.held.items c.cut.new.held.items c.cut.ensures.answer);
       stand = subst (StandFor inside.order inside.limit c.cut.new.held.items) (sym (append-nil inside.held.items)) (answer_stands inside.order inside.limit inside.held.items c.cut.new.held.items c.cut.ensures.answer);
     } in
     subst (λ (b : BestState). Offers [] b new) c.self.view_is offers
