@@ -48,6 +48,9 @@ fn run_over<H: AllocGlobal + Wait, R: Read, W: Write>(
     writer: &mut W,
 ) -> Result<Result<(), Ending>, Fail> {
     let settings = Settings::from_toml(rt.alloc(), "")?;
+    if settings.shards() != 1 {
+        return Err("one shard".into());
+    }
     let store = MemoryStore::new(rt.alloc())?;
     let mut end = store.end(rt, fuse);
     Ok(run(rt.alloc(), reader, writer, &mut end, settings))
@@ -343,6 +346,9 @@ fn a_refused_allocation_ends_the_run_and_the_next_is_whole(rt: HostRuntime) -> R
             Ok(settings) => settings,
             Err(_) => Settings::from_toml(rt.alloc(), "")?,
         };
+        if settings.shards() != 1 {
+            return Err("one shard".into());
+        }
         let mut reader = PUSHES
             .as_bytes()
             .chain(SWEEP.as_bytes())

@@ -48,7 +48,7 @@ module _ (no_order : (test : Row → Bool) (rows others : List Row) → IsPermut
       let q = λ (r : Row). p r.stream in
       let all = map found_at (filter q mine) in
       let stand : StandFor query.order query.limit (wanted s) (within s.start s.end all) =
-      subst (λ o. StandFor o query.limit (wanted s) (within s.start s.end all)) order (subst (λ n. StandFor s.best.order n (wanted s) (within s.start s.end all)) limit has) in
+      subst (λ o. StandFor o query.limit (wanted s) (within s.start s.end all)) order (subst (λ n. StandFor s.best.order n (wanted s) (within s.start s.end all)) limit has.stand) in
       record {
         all = all;
         same = no_order q rows mine (IsPermutation-sym mine rows same);

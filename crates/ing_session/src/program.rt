@@ -108,6 +108,7 @@ pub fn start_on<T: AllocGlobal + Wait, R: Read, W: Write>(
 /// The settings that the bytes of a file give, with one shard.
 fn settings_of_file(alloc: Global, file: &[u8]) -> Result<Settings, Ending>
     ensures settings { IfOk result (λ settings. started_by file.now ≡ Ok settings) }
+    ensures one { IfOk result (λ settings. settings.shards ≡ 1) }
     ensures refused { IfErr result (λ e. IfSome (refusal_of e) (λ refusal.
         started_by file.now ≡ Err refusal)) }
     ensures memory { IfErr result (λ e. refusal_of e ≡ None → e ≡ Ending.NoMemory) }

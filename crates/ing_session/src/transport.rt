@@ -21,7 +21,7 @@ use std::io::{Read, Write};
 const ENOUGH: usize = 65_536;
 
 /// Reads commands line by line, answers each in a line, and writes a report at the end of input; flushes put into the store
-/// by `end`. Replies are held back while they have fewer than 64 KiB together and a whole further line is at hand: so the
+/// by `end`. The settings are of one shard. Replies are held back while they have fewer than 64 KiB together and a whole further line is at hand: so the
 /// memory that they take does not grow with the lines that are read ahead. They are written out before anything is read, and
 /// before the run ends.
 ///
@@ -34,6 +34,7 @@ pub fn run<R: Read, W: Write, S: StoreEnd>(
     end: &mut S,
     settings: Settings,
 ) -> Result<(), Ending>
+    requires one { settings.shards ≡ 1 }
     // What is written is, line for line, what the model answers to the lines read, by how the uploads ended; and none failed
     // without a cause.
     ensures output { OnOk result (IfSome (R.remaining reader.old) (λ input.
@@ -67,7 +68,8 @@ fn answer_all<R: Read, W: Write, S: StoreEnd>(
     settings: Settings,
     replies: &mut Vec<u8>,
 ) -> Result<(), Ending>
-    requires { replies.old.items ≡ [] }
+    requires one { settings.shards ≡ 1 }
+    requires none { replies.old.items ≡ [] }
     ensures output { OnOk result (IfSome (R.remaining reader.old) (λ input.
         AnswersAll S.is_honest settings input (S.failure_count end.old) (S.failure_count end.new)
         (W.contents writer.old) (with_replies (W.contents writer.new) replies.new.items))) }
@@ -81,7 +83,7 @@ fn answer_all<R: Read, W: Write, S: StoreEnd>(
     ensures end { GoesOn S.never_fails S.failure_count end.old end.new }
     ensures ending { IfErr result (λ e. IsTrue (is_of_run e)) }
 {
-    let mut session = Session::new(alloc, settings);
+    let mut session = Session::new(alloc, settings)?;
     let mut lines = Lines::new(alloc)?;
     let mut line = Vec::new(alloc);
     loop {

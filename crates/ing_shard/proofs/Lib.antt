@@ -9,6 +9,8 @@ mod JudgeLaws
 mod ListedLaws
 mod LiveLaws
 mod NameLaws
+mod OnceLaws
+mod OwnLaws
 mod Parts
 mod PickLaws
 mod PositionLaws

@@ -1,9 +1,10 @@
 -- What contracts see of a shard.
-use Rattle.std.specs.Prelude.{ℕ, List, [], ◌∷◌, ◌++◌, filter, length, if◌then◌else◌, Option, Some, None}
+use Rattle.std.specs.Prelude.{◌≡◌, ℕ, ◌<◌, ◌^◌, List, [], ◌∷◌, ◌++◌, filter, length, if◌then◌else◌, Option, Some, None, slice_get}
 use Rattle.ing_labels.specs.Labels.{LabelMap}
 use Rattle.ing_labels.specs.Canonical.{canonical_of}
 use Rattle.ing_rows.specs.declared.entry.Entry.{Entry}
 use Rattle.ing_rows.specs.Rows.{StreamKey, Row, State, IsSame, has_stream, is_stored}
+use Rattle.ing_rows.specs.Placement.{shard_of}
 use Rattle.ing_rows.specs.Events.{Reply}
 use Rattle.ing_rows.specs.Events as events
 use Rattle.ing_limits.specs.Settings.{StoreSettings}
@@ -23,6 +24,26 @@ pub record Contents : Type 0 where
 -- the shard's rows and marks are those of the state, in whatever order
 abbrev pub Stands : Contents → State → Type 0
 Stands contents st = IsSame contents.state st
+
+-- A stream is a shard's own, by its number and how many shards there are: it has its place there, and its canonical name is short
+-- enough to be written into a chunk object.
+pub record IsOwn (shards number : ℕ) (s : StreamKey) : Type 0 where
+  pub placed : shard_of s.tenant s.name shards ≡ number
+  pub short : length s.name < 2 ^ 32
+
+-- each of these is
+abbrev pub AreOwn : ℕ → ℕ → List StreamKey → Type 0
+AreOwn shards number listed = (i : ℕ) (s : StreamKey) → slice_get listed i ≡ Some s → IsOwn shards number s
+
+-- what no call changes: its settings and its number
+pub record IsSameShard (old new : Contents) : Type 0 where
+  pub settings : new.settings ≡ old.settings
+  pub number : new.number ≡ old.number
+
+-- it is the only shard that there is
+pub record IsOnly (contents : Contents) : Type 0 where
+  pub one : contents.settings.shards ≡ 1
+  pub first : contents.number ≡ 0
 
 -- the stream of a tenant's labels
 abbrev pub stream_of : List ℕ → LabelMap → StreamKey

@@ -1,6 +1,7 @@
 pub mod Coded
 pub mod Contents
 pub mod Faults
+pub mod FinishFaults
 pub mod KeptFacts
 pub mod OneStream
 pub mod Flights

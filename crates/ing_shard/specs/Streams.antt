@@ -4,6 +4,7 @@ use Rattle.std.specs.List.{enumerate_from, list_any}
 use Rattle.std.specs.Option.{option_map}
 use Rattle.ing_labels.specs.Canonical.{canonical_of}
 use Rattle.ing_labels.specs.Labels.{IsLabelSet}
+use Rattle.ing_limits.specs.Settings.{StoreSettings}
 use Rattle.ing_postings.specs.declared.listed.Listed.{Listed}
 use Rattle.ing_rows.specs.declared.entry.Entry.{Entry}
 use Rattle.ing_rows.specs.Rows.{StreamKey, Row, State, empty_state, is_head, is_block, is_in_flight, is_stored, same_stream}
@@ -16,6 +17,7 @@ use Rattle.ing_rows.specs.Turns.{beside, IsMarked}
 use Rattle.ing_chunk.specs.Chunks.{ChunkContents}
 use Rattle.ing_sealed.specs.Slots.{Slot, slot_at}
 use Rattle.ing_stream.specs.Contents.{whole_state}
+use Rattle.ing_shard.specs.Contents.{AreOwn}
 use Rattle.ing_shard.specs.OneStream.{Stream}
 use Rattle.ing_shard.specs.Flights.{AreApart, Flown, IsAt}
 use Rattle.ing_shard.specs.declared.tenants.TenantKept.{TenantKept}
@@ -184,3 +186,10 @@ pub record FliesAt (number f index : ℕ) (chunk : ChunkContents) (olds news : L
   pub key : key_of now ≡ key_of st
   pub claims : Claims (key_of st) chunk.first f (whole olds) (whole news)
   pub stands : slice_get now.chunks.sealed index ≡ Some (slot_at (Flight f) chunk)
+
+-- ---- the shard
+
+-- what is kept beside the streams of a shard is what they give, and each of them is its own
+pub record IsShard {R : Type 0} (settings : StoreSettings) (number : ℕ) (streams : Streams R) : Type 0 where
+  pub held : AreHeld streams
+  pub own : AreOwn settings.shards number (map key_of streams.list.items)

@@ -80,9 +80,11 @@ impl ClaimedChunk {
     }
 }
 
-/// The right to say what became of a claimed chunk: it is stored, or it is given back. It cannot be dropped.
+/// The right to say what became of a claimed chunk: it is stored, or it is given back. It cannot be dropped. The canonical name
+/// of the chunk's stream has fewer than 2^32 bytes, so that the chunk and its index row can be written.
 pub struct Ticket {
     pub(crate) claimed: ClaimedChunk,
+    ghost short: { length (canonical_of claimed.labels) < 2 ^ 32 },
 }
 
 /// What may be dropped, and a ticket beside it. The two impls would overlap if a ticket could be dropped, which the check
@@ -134,14 +136,13 @@ impl Ticket {
     }
 
     /// Puts the whole chunk into a store, and then its index row, and gives what the shard lists of it and the receipt of
-    /// the row. No canonical name may have 2^32 bytes. `NoMemory` where memory ran out, and any other fault only where the
-    /// end has failed; a fault leaves open what of both is stored. (Own.)
+    /// the row. `NoMemory` where memory ran out, and any other fault only where the end has failed; a fault leaves open what of
+    /// both is stored. (Own.)
     pub fn upload<S: StoreEnd>(
         &self,
         alloc: Global,
         end: &mut S,
     ) -> Result<Flushed<S::Receipt>, StoreFault>
-        requires { length (canonical_of self.now.claimed.labels) < 2 ^ 32 }
         ensures uploaded { IfOk result (λ done. IsUploaded self.now.claimed done.listing
             (S.Receipt.bytes done.row) (S.Receipt.name done.row)) }
         ensures count { IsCounted (S.failure_count end.old) (S.failure_count end.new) result }
@@ -152,15 +153,13 @@ impl Ticket {
         upload(alloc, end, &claimed.tenant, &claimed.labels, &claimed.chunk)
     }
 
-    /// Puts the whole chunk into a store, without its index row, and gives what the shard lists of it. No canonical name may
-    /// have 2^32 bytes. `NoMemory` where memory ran out, and any other fault only where the end has failed; a fault leaves
-    /// open whether the chunk is stored. (Own.)
+    /// Puts the whole chunk into a store, without its index row, and gives what the shard lists of it. `NoMemory` where memory
+    /// ran out, and any other fault only where the end has failed; a fault leaves open whether the chunk is stored. (Own.)
     pub fn upload_chunk<S: StoreEnd>(
         &self,
         alloc: Global,
         end: &mut S,
     ) -> Result<Listing<S::Receipt>, StoreFault>
-        requires { length (canonical_of self.now.claimed.labels) < 2 ^ 32 }
         ensures uploaded { IfOk result (λ listing. IsChunkUploaded self.now.claimed listing) }
         ensures count { IsCounted (S.failure_count end.old) (S.failure_count end.new) result }
         ensures sure { S.never_fails end.old → (S.never_fails end.new)
@@ -171,14 +170,13 @@ impl Ticket {
     }
 
     /// Puts the index row of the chunk into a store, whether the chunk stands there or not, and gives the receipt of the
-    /// row. The chunk is written out for its key. No canonical name may have 2^32 bytes. `NoMemory` where memory ran out, and
-    /// any other fault only where the end has failed; a fault leaves open whether the row is stored. (Own.)
+    /// row. The chunk is written out for its key. `NoMemory` where memory ran out, and any other fault only where the end has
+    /// failed; a fault leaves open whether the row is stored. (Own.)
     pub fn upload_row<S: StoreEnd>(
         &self,
         alloc: Global,
         end: &mut S,
     ) -> Result<S::Receipt, StoreFault>
-        requires { length (canonical_of self.now.claimed.labels) < 2 ^ 32 }
         ensures uploaded { IfOk result (λ row. IsRowUploaded self.now.claimed
             (S.Receipt.bytes row) (S.Receipt.name row)) }
         ensures count { IsCounted (S.failure_count end.old) (S.failure_count end.new) result }

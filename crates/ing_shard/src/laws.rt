@@ -1,7 +1,8 @@
-//! What holds of all selectors, for the crates above.
-ghost use Rattle.std.specs.Prelude.{ℕ, Bool, List};
+//! What holds of all selectors and of all shards, for the crates above.
+ghost use Rattle.std.specs.Prelude.{ℕ, ◌<◌, ◌^◌, Bool, List, length};
 ghost use Rattle.ing_labels.specs.Selectors.{Match};
 ghost use Rattle.ing_rows.specs.Rows.{StreamKey};
+ghost use Rattle.ing_shard.specs.Contents.{Contents, IsOnly, IsOwn};
 ghost use Rattle.ing_shard.specs.Picked.{Picks};
 
 use ing_labels::{canonical_names_are_decided, canonical_names_are_exact};
@@ -15,3 +16,9 @@ pub fn streams_are_picked()
     canonical_names_are_decided();
     canonical_names_are_exact();
 }
+
+/// Each stream whose canonical name can be written is the own of the only shard that there is.
+pub fn an_only_shard_has_all()
+    ensures { (shard : Contents) (s : StreamKey) → IsOnly shard → length s.name < 2 ^ 32 →
+        IsOwn shard.settings.shards shard.number s }
+{}

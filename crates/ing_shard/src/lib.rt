@@ -4,6 +4,7 @@
 mod claimed;
 mod due;
 mod fault;
+mod finish_fault;
 mod flushes;
 mod judge;
 mod laws;
@@ -18,5 +19,6 @@ mod tenants;
 pub use claimed::{ClaimedChunk, Finished, Stranger, Stray, Ticket};
 pub use due::{Due, Op};
 pub use fault::PushFault;
-pub use laws::streams_are_picked;
+pub use finish_fault::FinishFault;
+pub use laws::{an_only_shard_has_all, streams_are_picked};
 pub use shard::{Pushed, Shard};

@@ -1,7 +1,6 @@
 //! Chunks of a shard on their way into a store in memory. One allocation at most is refused in a run of these tests: what was
 //! refused has changed nothing, and the same call then succeeds.
-ghost use Rattle.std.specs.Prelude.{◌<◌, ◌^◌, IfOk, length};
-ghost use Rattle.ing_labels.specs.Canonical.{canonical_of};
+ghost use Rattle.std.specs.Prelude.{IfOk};
 ghost use Rattle.ing_shard.specs.Flights.{IsUploaded};
 
 use ing_labels::{LabelLimits, Labels};
@@ -9,7 +8,7 @@ use ing_limits::Settings;
 use ing_postings::StreamNo;
 use ing_rows::{Entry, Gauges, Line, Stamp, Tenant};
 use ing_sealed::Flushed;
-use ing_shard::{PushFault, Pushed, Shard, Ticket};
+use ing_shard::{FinishFault, PushFault, Pushed, Shard, Ticket};
 use ing_store::{Fuse, MemoryEnd, MemoryReceipt, MemoryStore, StoreEnd, StoreFault};
 use std::alloc::{AllocError, Global};
 use std::process::Abort;
@@ -45,7 +44,7 @@ impl<'a> Owned<'a> {
     /// A shard without entries.
     pub fn fresh(alloc: Global, tenant: &str, settings: &str) -> Result<Owned<'a>, Fail> {
         Ok(Owned {
-            shard: Shard::fresh(alloc, Settings::from_toml(alloc, settings)?, 0),
+            shard: Shard::fresh(alloc, Settings::from_toml(alloc, settings)?, 0)?,
             tenant: Tenant::of_text(alloc, tenant)?,
         })
     }
@@ -74,6 +73,9 @@ impl<'a> Owned<'a> {
             })?;
         }
         let now = stamp(lines.first().map_or(0, |first| first.0))?;
+        if !self.shard.owns(&self.tenant, &labels) {
+            return Err("a stream of the shard".into());
+        }
         Ok(self.shard.push(alloc, &self.tenant, &labels, entries, now))
     }
 
@@ -94,18 +96,12 @@ impl<'a> Owned<'a> {
         }
     }
 
-    /// The same, where one waits and the name of the stream is not too long.
-    pub fn claim(&mut self, rt: &impl Abort, alloc: Global) -> Result<Ticket, Fail>
-        ensures { IfOk result (λ ticket. length (canonical_of ticket.claimed.labels) < 2 ^ 32) }
-    {
-        let Some(ticket) = self.try_claim(rt, alloc)? else {
-            return Err("a chunk that waits".into());
-        };
-        if ticket.claimed().labels().name().len() > 0xffff_ffff {
-            self.give_back(ticket)?;
-            return Err("a short name".into());
+    /// The same, where one waits.
+    pub fn claim(&mut self, rt: &impl Abort, alloc: Global) -> Result<Ticket, Fail> {
+        match self.try_claim(rt, alloc)? {
+            Some(ticket) => Ok(ticket),
+            None => Err("a chunk that waits".into()),
         }
-        Ok(ticket)
     }
 
     /// Lets the chunk of a ticket wait again.
@@ -123,13 +119,16 @@ impl<'a> Owned<'a> {
         end: &mut MemoryEnd<'a, R>,
         ticket: Ticket,
         refused: &mut usize,
-    ) -> Result<(), Fail>
-        requires { length (canonical_of ticket.claimed.labels) < 2 ^ 32 }
-    {
+    ) -> Result<(), Fail> {
         match upload(alloc, end, &ticket, refused) {
             Ok(flushed) => match self.shard.finish(ticket, flushed) {
                 Ok(_) => Ok(()),
-                Err(_) => Err("a chunk in flight".into()),
+                Err(FinishFault::NoMemory { ticket, flushed }) => {
+                    drop(flushed);
+                    self.give_back(ticket)?;
+                    Err(AllocError.into())
+                }
+                Err(FinishFault::Stranger(_)) => Err("a chunk in flight".into()),
             },
             Err(fault) => {
                 self.give_back(ticket)?;
@@ -146,7 +145,6 @@ fn upload<S: StoreEnd>(
     ticket: &Ticket,
     refused: &mut usize,
 ) -> Result<Flushed<S::Receipt>, StoreFault>
-    requires { length (canonical_of ticket.now.claimed.labels) < 2 ^ 32 }
     ensures { IfOk result (λ done. IsUploaded ticket.now.claimed done.listing
         (S.Receipt.bytes done.row) (S.Receipt.name done.row)) }
 {
@@ -258,8 +256,14 @@ fn is_stranger_to<'a, R: Wait + Abort>(
             return Err(fault.into());
         }
     };
-    let Err(stranger) = other.shard.finish(ticket, flushed) else {
-        return Ok(false);
+    let stranger = match other.shard.finish(ticket, flushed) {
+        Ok(_) => return Ok(false),
+        Err(FinishFault::NoMemory { ticket, flushed }) => {
+            drop(flushed);
+            one.give_back(ticket)?;
+            return Err(AllocError.into());
+        }
+        Err(FinishFault::Stranger(stranger)) => stranger,
     };
     let named = stranger.flushed.row.object.name() == ROW_NAME
         && stranger.flushed.listing.receipt().object.name() == CHUNK_NAME;

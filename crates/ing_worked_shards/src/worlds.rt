@@ -153,6 +153,9 @@ fn run<R: Wait>(rt: &R, alloc: Global, acts: &[Act]) -> Result<(Vec<Told>, Gauge
         return Err("short names".into());
     }
     let settings = Settings::from_toml(alloc, "")?;
+    if settings.shards() != 1 {
+        return Err("one shard".into());
+    }
     let (world, replies) = run_world(rt, alloc, &store, settings, &events)?;
     let gauges = world.gauges(&tenant);
     world.put_away();

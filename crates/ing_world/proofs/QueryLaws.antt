@@ -76,7 +76,7 @@ module _ (picked : StreamKey → Bool) (start end : ℕ) where
     answer_told order limit rows ns s found kept has first last same_order same_limit answer =
         let all = map found_at (filter (λ (r : Row). picked r.stream) rows) in
         let stand : StandFor order limit (wanted s) (within s.start s.end all) =
-        subst (λ o. StandFor o limit (wanted s) (within s.start s.end all)) same_order (subst (λ n. StandFor s.best.order n (wanted s) (within s.start s.end all)) same_limit has) in
+        subst (λ o. StandFor o limit (wanted s) (within s.start s.end all)) same_order (subst (λ n. StandFor s.best.order n (wanted s) (within s.start s.end all)) same_limit has.stand) in
         let ranged : StandFor order limit (wanted s) (within start end all) =
         subst (λ n. StandFor order limit (wanted s) (within start n all)) last (subst (λ n. StandFor order limit (wanted s) (within n s.end all)) first stand) in
         answer_of order limit (within start end all) (within start end (map found_told (filter (λ n. picked n.stream) ns))) found (found_as_told rows ns kept)

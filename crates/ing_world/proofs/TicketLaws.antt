@@ -1,11 +1,9 @@
 -- What open tickets keep.
-use Rattle.std.proofs.Common.{◌≡◌, ◌≢◌, ℕ, zero, suc, Bool, true, false, cond, inl, inr, ◌⊎◌, ◌<◌, ◌^◌, List, [], ◌∷◌, ◌++◌, length, refl, ap, sym, ◌∙◌, subst, arith, get_or, set, Option, Some, None}
+use Rattle.std.proofs.Common.{◌≡◌, ◌≢◌, ℕ, zero, suc, inl, inr, ◌⊎◌, ◌<◌, List, [], ◌∷◌, ◌++◌, length, refl, ap, sym, ◌∙◌, subst, arith, get_or, set, Option, Some, None}
 use Rattle.std.specs.Prelude.{slice_get}
 use Rattle.std.proofs.lemmas.List.{set-get_or}
 use Rattle.std.proofs.lemmas.Option.{slice_get-get_or}
-use Rattle.ing_rows.specs.declared.entry.Entry.{Entry}
-use Rattle.ing_rows.specs.Rows.{StreamKey, has_stream}
-use Rattle.ing_shard.specs.Contents.{Contents, listed_after}
+use Rattle.ing_shard.specs.Contents.{Contents, IsOnly, IsSameShard}
 use Rattle.ing_shard.specs.Flights.{FlightsStay, Flown, IsInFlight, OtherFlightsStay}
 use Rattle.ing_world.specs.declared.event.Object.{Object}
 use Rattle.ing_world.specs.declared.event.Object.TheVariants.{Chunk, Row}
@@ -65,16 +63,17 @@ past (x ∷ ts) o is = past ts o is
 
 -- ---- what is held
 
-abbrev pub AreNamed : List StreamKey → Type 0
-AreNamed listed = (i : ℕ) (s : StreamKey) → slice_get listed i ≡ Some s → length s.name < 2 ^ 32
+-- the only shard stays the only one
+pub only_on : (old new : Contents) → IsOnly old → IsSameShard old new → IsOnly new
+only_on old new only same = record { one = ap (λ s. s.shards) same.settings ∙ only.one; first = same.number ∙ only.first }
 
 -- what was in flight stays so
-pub held_on : (old new : Contents) (ts : Tickets) → TicketsAreHeld old ts → FlightsStay old new → AreNamed new.listed → TicketsAreHeld new ts
-held_on old new ts held stay named =
+pub held_on : (old new : Contents) (ts : Tickets) → TicketsAreHeld old ts → FlightsStay old new → IsSameShard old new → TicketsAreHeld new ts
+held_on old new ts held stay same =
     record {
       flies = λ t o is. stay o.flown (held.flies t o is);
       apart = held.apart;
-      named = named;
+      only = only_on old new held.only same;
     }
 
 pub with_flown : (object : Object) (o : OpenState) → (with_object object o).flown ≡ o.flown
@@ -90,7 +89,7 @@ held_with shard ts us t o p held there same changed =
       apart = λ u v q r is has flight.
           (let one = before u q is in let other = before v r has in
           held.apart u v one.0 other.0 one.1 other.1 (ap (λ f. f.flight) one.2 ∙ flight ∙ sym (ap (λ f. f.flight) other.2)));
-      named = held.named;
+      only = held.only;
     } where
       before : (u : ℕ) (q : OpenState) → open_at us u ≡ Some q → (r : OpenState) × (open_at ts u ≡ Some r) × (r.flown ≡ q.flown)
       before u q is = by (same_or u t) where
@@ -103,13 +102,13 @@ held_with shard ts us t o p held there same changed =
         by (inr other) = (q, ap joined (sym (changed.others u other)) ∙ is, refl)
 
 -- one ticket more, for a chunk in a flight of its own
-pub held_more : (old new : Contents) (ts : Tickets) (f : Flown) → TicketsAreHeld old ts → FlightsStay old new → AreNamed new.listed → IsInFlight f new
+pub held_more : (old new : Contents) (ts : Tickets) (f : Flown) → TicketsAreHeld old ts → FlightsStay old new → IsSameShard old new → IsInFlight f new
     → ((g : Flown) → IsInFlight g old → g.flight ≢ f.flight) → TicketsAreHeld new (ts ++ Some (opened f) ∷ [])
-held_more old new ts f held stay named flies apart =
+held_more old new ts f held stay same flies apart =
     record {
       flies = λ t p is. in_flight t p (open_more ts (opened f) p t is);
       apart = λ t u p q is has flight. alone t u p q flight (open_more ts (opened f) p t is) (open_more ts (opened f) q u has);
-      named = named;
+      only = only_on old new held.only same;
     } where
       in_flight : (t : ℕ) (p : OpenState) → (open_at ts t ≡ Some p) ⊎ ((t ≡ length ts) × (p ≡ opened f)) → IsInFlight p.flown new
       in_flight t p (inl there) = stay p.flown (held.flies t p there)
@@ -123,31 +122,15 @@ held_more old new ts f held stay named flies apart =
       alone t u p q flight (inr last) (inr other) = last.0 ∙ sym other.0
 
 -- a ticket is closed, and its chunk flies no more
-pub held_without : (old new : Contents) (ts us : Tickets) (t : ℕ) (o : OpenState) → TicketsAreHeld old ts → OtherFlightsStay o.flown.flight old new → AreNamed new.listed
+pub held_without : (old new : Contents) (ts us : Tickets) (t : ℕ) (o : OpenState) → TicketsAreHeld old ts → OtherFlightsStay o.flown.flight old new → IsSameShard old new
     → open_at ts t ≡ Some o → Becomes t None ts us → TicketsAreHeld new us
-held_without old new ts us t o held stay named there changed =
+held_without old new ts us t o held stay same there changed =
     record {
       flies = λ u p is. (let was = before u p is in stay p.flown (λ flight. was.1 (held.apart u t p o was.0 there flight)) (held.flies u p was.0));
       apart = λ u v p q is has flight. held.apart u v p q (before u p is).0 (before v q has).0 flight;
-      named = named;
+      only = only_on old new held.only same;
     } where
       before : (u : ℕ) (p : OpenState) → open_at us u ≡ Some p → (open_at ts u ≡ Some p) × (u ≢ t)
       before u p is = (ap joined (sym (changed.others u other)) ∙ is, other) where
         other : u ≢ t
         other at = let now : open_at us t ≡ None = ap joined changed.at in let both : None ≡ Some p = sym now ∙ ap (open_at us) (sym at) ∙ is in cc
-
--- ---- names
-
-named_more : (listed : List StreamKey) (s : StreamKey) → length s.name < 2 ^ 32 → AreNamed listed → AreNamed (listed ++ s ∷ [])
-named_more [] s short named zero t is = let same : s ≡ t = cc in subst (λ k. length k.name < 2 ^ 32) same short
-named_more [] s short named (suc i) t is = absurd cc
-named_more (x ∷ xs) s short named zero t is = named zero t is
-named_more (x ∷ xs) s short named (suc i) t is = named_more xs s short (λ j. named (suc j)) i t is
-
--- a stream that is listed has a short name
-pub named_after : (s : StreamKey) (es : List Entry) (listed : List StreamKey) → length s.name < 2 ^ 32 → AreNamed listed → AreNamed (listed_after s es listed)
-named_after s [] listed short named = named
-named_after s (e ∷ es) listed short named = by (has_stream s listed) where
-  by : (b : Bool) → AreNamed (cond b listed (listed ++ s ∷ []))
-  by true = named
-  by false = named_more listed s short named

@@ -1,13 +1,13 @@
 -- What holds of a world between events, and what running it comes to.
 -- What names no section of the Loki documentation is own.
-use Rattle.std.specs.Prelude.{◌≡◌, ℕ, ◌<◌, ◌^◌, List, map, length, IsPermutation, slice_get, Option, Some}
+use Rattle.std.specs.Prelude.{◌≡◌, ℕ, List, map, IsPermutation, Option, Some}
 use Rattle.ing_rows.specs.declared.rules.Rules.{Rules}
 use Rattle.ing_rows.specs.Events as events
 use Rattle.ing_rows.specs.Events.{Event, Run, accepted_of}
 use Rattle.ing_rows.specs.Kept.{Numbered, numbered}
-use Rattle.ing_rows.specs.Rows.{StreamKey, empty_state}
+use Rattle.ing_rows.specs.Rows.{empty_state}
 use Rattle.ing_rows.specs.Sound.{IsSound}
-use Rattle.ing_shard.specs.Contents.{Contents}
+use Rattle.ing_shard.specs.Contents.{Contents, IsOnly}
 use Rattle.ing_shard.specs.Flights.{IsInFlight}
 use Rattle.ing_world.specs.declared.event.WorldEvent.{WorldEvent}
 use Rattle.ing_world.specs.declared.reply.Reply.{Reply}
@@ -15,11 +15,11 @@ use Rattle.ing_world.specs.declared.world.World.{World}
 use Rattle.ing_world.specs.Worlds.{OpenState, WorldState, empty_world, open_at}
 use Rattle.ing_world.specs.Turns.{StandsInFull, Tale, Turn, Turns}
 
--- The chunks of open tickets are in flight, each in a flight of its own; the names of the streams are short.
+-- The shard is the only one; the chunks of open tickets are in flight, each in a flight of its own.
 pub record TicketsAreHeld (shard : Contents) (tickets : List (Option OpenState)) : Type 0 where
+  pub only : IsOnly shard
   pub flies : (t : ℕ) (o : OpenState) → open_at tickets t ≡ Some o → IsInFlight o.flown shard
   pub apart : (t u : ℕ) (o p : OpenState) → open_at tickets t ≡ Some o → open_at tickets u ≡ Some p → o.flown.flight ≡ p.flown.flight → t ≡ u
-  pub named : (i : ℕ) (s : StreamKey) → slice_get shard.listed i ≡ Some s → length s.name < 2 ^ 32
 
 abbrev pub AreHeld : {R : Type 0} → World R → Type 0
 AreHeld w = TicketsAreHeld w.shard w.tickets.items

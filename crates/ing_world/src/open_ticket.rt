@@ -1,11 +1,11 @@
 //! A ticket that is open, and which of its objects are stored.
-ghost use Rattle.std.specs.Prelude.{◌≡◌, ◌<◌, ◌^◌, ◌&&◌, IfErr, OnOk, OnErr, false, length, true};
+ghost use Rattle.std.specs.Prelude.{◌≡◌, ◌&&◌, IfErr, OnOk, OnErr, false, true};
 ghost use Rattle.sha2.specs.Sha256.{sha256};
 ghost use Rattle.ing_codec.specs.ChunkObjects.{chunk_text};
-ghost use Rattle.ing_labels.specs.Canonical.{canonical_of};
 ghost use Rattle.ing_limits.specs.Ranges.{rules_for};
 ghost use Rattle.ing_rows.specs.Events as events;
 ghost use Rattle.ing_rows.specs.Events.{Finish, GiveBack, GivenBack, Step};
+ghost use Rattle.ing_shard.specs.Contents.{IsSameShard};
 ghost use Rattle.ing_shard.specs.Flights.{IsInFlight, OtherFlightsStay, key_in, object_in};
 ghost use Rattle.ing_store.specs.StoreFaults.{IsCounted};
 ghost use Rattle.ing_world.specs.Worlds.{opened, with_object};
@@ -13,7 +13,7 @@ ghost use Rattle.ing_world.specs.Worlds.{opened, with_object};
 use crate::event::Object;
 use ing_parts::Listing;
 use ing_sealed::Flushed;
-use ing_shard::{Shard, Stray, Ticket};
+use ing_shard::{FinishFault, Shard, Stray, Ticket};
 use ing_store::{Receipt, StoreEnd, StoreFault};
 use std::alloc::Global;
 use std::marker::Model;
@@ -49,9 +49,8 @@ impl<R: Receipt> Model for OpenTicket<R> {
 }
 
 impl<R: Receipt> OpenTicket<R> {
-    /// A ticket without receipts. The canonical name of its stream has fewer than 2^32 bytes.
+    /// A ticket without receipts.
     pub fn new(ticket: Ticket) -> OpenTicket<R>
-        requires { length (canonical_of ticket.claimed.labels) < 2 ^ 32 }
         ensures { result ≡ opened ticket.claimed }
     {
         OpenTicket {
@@ -102,17 +101,19 @@ impl<R: Receipt> OpenTicket<R> {
         }
     }
 
-    /// Lists its chunk, which is in flight, as stored.
-    pub fn finish(self, shard: &mut Shard<R>)
+    /// Lists its chunk, which is in flight, as stored. Comes back where memory runs out.
+    pub fn finish(self, shard: &mut Shard<R>) -> Result<(), OpenTicket<R>>
         requires ready { (self.has_chunk && self.has_row) ≡ true }
         requires flies { IsInFlight self.flown shard.old }
         ensures step { let f = self.flown in
-            Step (rules_for shard.old.settings) shard.old.state
+            OnOk result (Step (rules_for shard.old.settings) shard.old.state
             (Finish (key_in f) f.chunk.first f.flight (sha256 (chunk_text (object_in f))))
-            events.Finished shard.new.state }
-        ensures others { OtherFlightsStay self.flown.flight shard.old shard.new }
-        ensures same { (shard.new.settings ≡ shard.old.settings)
-            × (shard.new.number ≡ shard.old.number) × (shard.new.listed ≡ shard.old.listed) }
+            events.Finished shard.new.state) }
+        ensures others { OnOk result (OtherFlightsStay self.flown.flight shard.old shard.new) }
+        ensures same { IsSameShard shard.old shard.new }
+        ensures listed { shard.new.listed ≡ shard.old.listed }
+        ensures back { IfErr result (λ back. back ≡ self) }
+        ensures err { OnErr result (shard.new ≡ shard.old) }
     {
         let OpenTicket {
             ticket,
@@ -123,8 +124,15 @@ impl<R: Receipt> OpenTicket<R> {
             unreachable!("it has both receipts");
         };
         match shard.finish(ticket, Flushed { listing, row }) {
-            Ok(_) => {}
-            Err(_) => unreachable!("the chunk of an open ticket is in flight"),
+            Ok(_) => Ok(()),
+            Err(FinishFault::NoMemory { ticket, flushed }) => Err(OpenTicket {
+                ticket,
+                listing: Some(flushed.listing),
+                row: Some(flushed.row),
+            }),
+            Err(FinishFault::Stranger(_)) => {
+                unreachable!("the chunk of an open ticket is in flight")
+            }
         }
     }
 
@@ -134,8 +142,8 @@ impl<R: Receipt> OpenTicket<R> {
             (GiveBack self.flown.flight) GivenBack shard.new.state) }
         ensures others { OnOk result (OtherFlightsStay self.flown.flight shard.old shard.new) }
         ensures stray { OnErr result (IsInFlight self.flown shard.old → ⊥) }
-        ensures same { (shard.new.settings ≡ shard.old.settings)
-            × (shard.new.number ≡ shard.old.number) × (shard.new.listed ≡ shard.old.listed) }
+        ensures same { IsSameShard shard.old shard.new }
+        ensures listed { shard.new.listed ≡ shard.old.listed }
     {
         let OpenTicket {
             ticket,

@@ -24,7 +24,7 @@ fn fuse_of(outcome: Outcome) -> Fuse {
 }
 
 /// Runs one shard with these settings, over this store, through the events, and gives a reply for each; what is left of it has to
-/// be put away. The canonical name of each stream that is pushed to has fewer than 2^32 bytes. (Own.)
+/// be put away. There is one shard, and the canonical name of each stream that is pushed to has fewer than 2^32 bytes. (Own.)
 ///
 /// `AllocError` where memory runs out.
 pub fn run_world<'a, W: Wait>(
@@ -34,11 +34,12 @@ pub fn run_world<'a, W: Wait>(
     settings: Settings,
     events: &[WorldEvent],
 ) -> Result<(World<MemoryReceipt<'a>>, Vec<Reply>), AllocError>
+    requires one { settings.shards ≡ 1 }
     requires names { All IsShort events.now }
     ensures run { IfOk result (λ ran.
         HasRun (rules_for settings) events.now ran.1.items ran.0) }
 {
-    let mut world = World::new(alloc, settings);
+    let mut world = World::new(alloc, settings)?;
     match run_on(&mut world, rt, alloc, store, events) {
         Ok(replies) => Ok((world, replies)),
         Err(error) => {
@@ -105,7 +106,7 @@ fn turn<'a, W: Wait>(
             let mut end = store.end(rt, fuse_of(*outcome));
             world.put(alloc, &mut end, *ticket, *object, *outcome)
         }
-        WorldEvent::Finish { ticket } => Ok(world.finish(*ticket)),
+        WorldEvent::Finish { ticket } => world.finish(*ticket),
         WorldEvent::GiveBack { ticket } => Ok(world.give_back(*ticket)),
         WorldEvent::Query {
             tenant,

@@ -173,6 +173,9 @@ pub fn differs<R: AllocGlobal + Wait>(rt: &R, acts: &[Act], met: &mut Met) -> Re
         bail!("a name is too long");
     }
     let settings = Settings::from_toml(alloc, SETTINGS)?;
+    if settings.shards() != 1 {
+        bail!("the settings are not of one shard");
+    }
     let one = tenant(alloc, 0)?;
     let other = tenant(alloc, 1)?;
     let (world, replies) = run_world(rt, alloc, &store, settings, &events)?;

@@ -8,7 +8,7 @@ use ing_parts::{Found, Order, Question, Snapshot};
 use ing_postings::StreamNo;
 use ing_query::{QueryFault, read_part, run_query};
 use ing_rows::{Entry, Line, Stamp, Tenant};
-use ing_shard::{Shard, Ticket};
+use ing_shard::{FinishFault, Shard, Ticket};
 use ing_store::{DigestReceipt, StoreEnd, StoreFault};
 use std::alloc::{AllocError, Global};
 use std::test::Fail;
@@ -67,7 +67,7 @@ fn stamp(nanoseconds: u64) -> Result<Stamp, Fail> {
 impl Owned {
     fn fresh(alloc: Global) -> Result<Owned, Fail> {
         Ok(Owned {
-            shard: Shard::fresh(alloc, Settings::from_toml(alloc, "")?, 0),
+            shard: Shard::fresh(alloc, Settings::from_toml(alloc, "")?, 0)?,
             tenant: Tenant::of_text(alloc, "t")?,
             all: Selector::parse(alloc, "{a=\"1\"}")?,
         })
@@ -87,6 +87,9 @@ impl Owned {
                 line: Line::of_text(alloc, text)?,
             })?;
         }
+        if !self.shard.owns(&self.tenant, &labels) {
+            return Err("a stream of the shard".into());
+        }
         self.shard
             .push(alloc, &self.tenant, &labels, entries, stamp(5)?)?;
         Ok(())
@@ -97,13 +100,14 @@ impl Owned {
         let Some(ticket) = self.shard.claim(alloc, StreamNo::new(0))? else {
             return Err("a chunk that waits".into());
         };
-        if ticket.claimed().labels().name().len() > 0xffff_ffff {
-            return self.give_back(ticket, "a short name");
-        }
         match ticket.upload(alloc, end) {
             Ok(flushed) => match self.shard.finish(ticket, flushed) {
                 Ok(_) => Ok(()),
-                Err(_) => Err("a chunk in flight".into()),
+                Err(FinishFault::NoMemory { ticket, flushed }) => {
+                    drop(flushed);
+                    self.give_back(ticket, "memory")
+                }
+                Err(FinishFault::Stranger(_)) => Err("a chunk in flight".into()),
             },
             Err(_) => self.give_back(ticket, "an upload"),
         }

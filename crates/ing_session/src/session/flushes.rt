@@ -1,6 +1,9 @@
 //! What a flush does: it seals, and works off what is queued.
 ghost use Rattle.std.specs.Prelude.{◌≡◌, IfOk, OnOk, Ok, slice_get};
 ghost use Rattle.ing_limits.specs.Ranges.{rules_for};
+ghost use Rattle.ing_rows.specs.Events.{GiveBack, GivenBack, Step};
+ghost use Rattle.ing_shard.specs.Contents.{IsSameShard};
+ghost use Rattle.ing_shard.specs.Flights.{IsInFlight};
 ghost use Rattle.ing_session.specs.Commands as commands;
 ghost use Rattle.ing_session.specs.Flushing.{Outcome, Ends, GoesOn, HaveCause, failed_by, stored_by};
 ghost use Rattle.ing_session.specs.Held.{Held, IsHeld};
@@ -12,7 +15,7 @@ use super::Session;
 use crate::command::Flush;
 use crate::reply::Reply;
 use ing_rows::{flushes_have_no_order, seals_have_no_order};
-use ing_shard::Op;
+use ing_shard::{FinishFault, Op, Ticket};
 use ing_store::{Receipt, StoreEnd, StoreFault};
 use std::alloc::AllocError;
 use std::mem;
@@ -107,16 +110,39 @@ impl<R: Receipt> Session<R> {
                     failed: 0,
                     stored: 1,
                 }),
-                Err(_) => unreachable!("what was just claimed is in flight"),
+                Err(FinishFault::NoMemory { ticket, flushed }) => {
+                    drop(flushed);
+                    self.give_back(ticket);
+                    Err(AllocError)
+                }
+                Err(FinishFault::Stranger(_)) => {
+                    unreachable!("what was just claimed is in flight")
+                }
             },
-            Err(fault) => match self.shard.give_back(ticket) {
-                Ok(()) if fault == StoreFault::NoMemory => Err(AllocError),
-                Ok(()) => Ok(Uploads {
+            Err(fault) => {
+                self.give_back(ticket);
+                if fault == StoreFault::NoMemory {
+                    return Err(AllocError);
+                }
+                Ok(Uploads {
                     failed: 1,
                     stored: 0,
-                }),
-                Err(_) => unreachable!("what was just claimed is in flight"),
-            },
+                })
+            }
+        }
+    }
+
+    /// Gives a chunk back that is in flight.
+    fn give_back(&mut self, ticket: Ticket)
+        requires flies { IsInFlight ticket.claimed self.old.shard }
+        ensures step { Step (rules_for self.old.shard.settings) self.old.shard.state
+            (GiveBack ticket.claimed.flight) GivenBack self.new.shard.state }
+        ensures same { IsSameShard self.old.shard self.new.shard }
+        ensures listed { self.new.shard.listed ≡ self.old.shard.listed }
+        ensures ops { self.new.ops.items ≡ self.old.ops.items }
+    {
+        if self.shard.give_back(ticket).is_err() {
+            unreachable!("the chunk is in flight");
         }
     }
 }

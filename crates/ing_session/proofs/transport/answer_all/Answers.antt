@@ -8,8 +8,8 @@ pub loop-line-init : goal.loop-line-init
 loop-line-init g c =
     let lines = c.in_ok-lines.lines in
     record {
-      served = begins g.S.StoreEnd.is_honest c.args.settings c.new-session.result (g.S.StoreEnd.failure_count c.args.end.now) (g.W.Write.contents c.args.writer.now) c.args.replies.now.items (unread lines) (is_ended lines)
-          c.requires c.in_ok-lines.ensures.open c.in_ok-lines.ensures.nothing_read c.new-session.ensures.settings c.new-session.ensures.empty (g.R.Read.remaining c.args.reader.now);
+      served = begins g.S.StoreEnd.is_honest c.args.settings c.in_ok-session.session (g.S.StoreEnd.failure_count c.args.end.now) (g.W.Write.contents c.args.writer.now) c.args.replies.now.items (unread lines) (is_ended lines)
+          c.requires.none c.in_ok-lines.ensures.open c.in_ok-lines.ensures.nothing_read c.in_ok-session.ensures.settings c.in_ok-session.ensures.empty (g.R.Read.remaining c.args.reader.now);
       end = (omega arith, λ sure. (sure, refl));
     }
 

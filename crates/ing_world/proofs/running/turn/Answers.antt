@@ -22,7 +22,7 @@ returns-in-Claim-clause-turn g c =
 
 pub returns-in-Finish-clause-turn : goal.returns-in-Finish-clause-turn
 returns-in-Finish-clause-turn g c =
-    subst (λ e. (accepted : List Numbered) → IsKept c.args.world.now accepted → HasTurned (rules_for c.args.world.now.shard.settings) (Tells e) c.finish.result c.args.world.now c.finish.new.self accepted) (sym c.in-Finish.is) c.finish.ensures.turn
+    subst (λ e. IfOk c.finish.result (λ reply. (accepted : List Numbered) → IsKept c.args.world.now accepted → HasTurned (rules_for c.args.world.now.shard.settings) (Tells e) reply c.args.world.now c.finish.new.self accepted)) (sym c.in-Finish.is) c.finish.ensures.turn
 
 pub returns-in-GiveBack-clause-turn : goal.returns-in-GiveBack-clause-turn
 returns-in-GiveBack-clause-turn g c =

@@ -1,0 +1,18 @@
+-- What comes back of a finish that is refused (own).
+use Rattle.std.specs.Prelude.{◌≡◌}
+use Rattle.ing_refusals.specs.declared.refusal.Refusal.{Refusal}
+use Rattle.ing_refusals.specs.declared.refusal.Refusal.TheVariants as refusal
+use Rattle.ing_sealed.specs.declared.uploads.Flushed.{Flushed}
+use Rattle.ing_shard.specs.declared.finish_fault.FinishFault.{FinishFault}
+use Rattle.ing_shard.specs.declared.finish_fault.FinishFault.TheVariants.{NoMemory, Stranger}
+use Rattle.ing_shard.specs.Flights.{Flown}
+
+-- all that was handed over; it is a stranger only where the chunk does not fly
+abbrev pub GivesAllBack : {R : Type 0} → Flown → Flushed R → Type 0 → FinishFault R → Type 0
+GivesAllBack f flushed flies (NoMemory ticket back) = (ticket.claimed ≡ f) × (back ≡ flushed)
+GivesAllBack f flushed flies (Stranger stranger) = (stranger.stray.claimed ≡ f) × (stranger.flushed ≡ flushed) × (flies → ⊥)
+
+-- which refusal it is
+abbrev pub finish_refusal_of : {R : Type 0} → FinishFault R → Refusal
+finish_refusal_of (NoMemory ticket back) = refusal.NoMemory
+finish_refusal_of (Stranger stranger) = refusal.Stranger
