@@ -4,10 +4,12 @@ ghost use Rattle.std.specs.Io.KnownBytes.{Appends};
 ghost use Rattle.std.specs.String.{string_bytes};
 ghost use Rattle.ing_limits.specs.Settings.{StoreSettings};
 ghost use Rattle.ing_session.specs.Endings.{ending_status, ending_text, refusal_of, status_of};
+ghost use Rattle.ing_session.specs.Fronts.{AppendsFront};
 ghost use Rattle.ing_session.specs.Runs.{AnswersAll, AnswersWhatWasRead, AnswersFirstLines};
 ghost use Rattle.ing_session.specs.Starting.{NamesFile, started_by};
 
 use crate::ending::Ending;
+use crate::output::{put, put_out};
 use crate::transport::run;
 use ing_limits::Settings;
 use ing_store::{Fuse, MemoryStore};
@@ -124,9 +126,11 @@ fn settings_of_file(alloc: Global, file: &[u8]) -> Result<Settings, Ending>
 }
 
 /// The end of the program: writes why it ended to standard error, where it did not end well, and gives the exit status.
-/// Where that cannot be written, the status still tells. Takes no memory.
+/// Where that cannot be written, a front of the line may stand there, and the status still tells. Takes no memory.
 pub fn conclude<E: Write>(ended: Result<(), Ending>, errors: &mut E) -> u8
     ensures status { result ≡ status_of ended }
+    ensures line { IfErr ended (λ e.
+        AppendsFront (E.contents errors.old) (E.contents errors.new) (ending_text e)) }
     ensures silent { OnOk ended (errors.new ≡ errors.old) }
 {
     match ended {
@@ -138,12 +142,14 @@ pub fn conclude<E: Write>(ended: Result<(), Ending>, errors: &mut E) -> u8
     }
 }
 
-/// Writes the line that says why the program ended.
+/// Writes the line that says why the program ended. After an error a front of it is written.
 fn write_ending<E: Write>(ending: &Ending, errors: &mut E) -> io::Result<()>
-    ensures { OnOk result (Appends (E.contents errors.old) (E.contents errors.new) (ending_text ending.now)) }
+    ensures whole { OnOk result
+        (Appends (E.contents errors.old) (E.contents errors.new) (ending_text ending.now)) }
+    ensures front { OnErr result
+        (AppendsFront (E.contents errors.old) (E.contents errors.new) (ending_text ending.now)) }
 {
-    errors.write_all(b"ingestd: ")?;
-    errors.write_all(ending.refusal().name().as_bytes())?;
-    errors.write_all(b"\n")?;
-    errors.flush()
+    put(errors, b"ingestd: ")?;
+    put(errors, ending.refusal().name().as_bytes())?;
+    put_out(errors, b"\n")
 }
