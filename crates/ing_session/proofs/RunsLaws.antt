@@ -1,14 +1,13 @@
 -- One more line of the input is answered, or the run ends.
 use Rattle.std.proofs.Common.{◌≡◌, ◌≢◌, ℕ, ◌+◌, ◌<◌, ◌≤◌, Bool, true, false, List, [], ◌∷◌, ◌++◌, length, refl, sym, ap, subst, ◌∙◌, arith, append_assoc, append-nil, None, Some, Ok, Err, inl, inr}
-use Rattle.std.specs.Prelude.{Option, Result, ◌⊎◌, IfSome, IfErr, OnOk, IsTrue}
+use Rattle.std.specs.Prelude.{Option, Result, IfSome, IfErr, OnOk, IsTrue}
 use Rattle.std.specs.List.{AllByRecursion, flat_map}
 use Rattle.std.specs.Io.KnownBytes.{Appends, Keeps, Consumes, IsAtEnd, prepend_known}
 use Rattle.std.proofs.lemmas.List.{map-append}
 use Rattle.std.proofs.lemmas.List.Concat.{flat_map-cons}
 use Rattle.std.proofs.lemmas.List.Sums.{sum_by_push}
-use Rattle.std.proofs.lemmas.Bool.Decides.{eqb_tells, nat_tests}
+use Rattle.std.proofs.lemmas.Bool.Decides.{nat_tests}
 use Rattle.ing_limits.specs.Settings.{StoreSettings}
-use Rattle.ing_store.specs.StoreFaults.{HasFailed}
 use Rattle.ing_session.specs.declared.command.fault.LineFault.TheVariants.{BadCommand}
 use Rattle.ing_session.specs.declared.lines.NextLine.TheVariants.{Line, TooLong, End}
 use Rattle.ing_store.specs.declared.store_end.Receipt.{Ghosts}
@@ -16,7 +15,6 @@ use Rattle.ing_session.specs.declared.session.Session.{Session}
 use Rattle.ing_session.specs.declared.ending.Ending.{Ending}
 use Rattle.ing_session.specs.declared.ending.Ending.TheVariants.{NoMemory, NotToml, UnknownSetting, BadSetting, InputFault, OutputFault, BadArguments, NoSettings}
 use Rattle.ing_session.specs.Endings.{is_of_run}
-use Rattle.ing_session.specs.Flushing.{HaveCause}
 use Rattle.ing_session.specs.Fronts.{AppendsFront, Grows}
 use Rattle.ing_session.specs.Held.{Held, nothing_held, IsHeld}
 use Rattle.ing_session.specs.Lines.{lines_of, with_feed, EndsLine, TakesLine}
@@ -25,6 +23,7 @@ use Rattle.ing_session.specs.Queries.{Unasked}
 use Rattle.ing_session.specs.Replies.{line_text}
 use Rattle.ing_session.specs.Session.{Turn, turn, MayBe, MayBeFrom, is_long, line_fault, answer_to, after_line, report_of, answers_from, answers_of, failed_at, failed_in, held_after, lines_in, output_of}
 use Rattle.ing_session.specs.Runs.{AnswersAll, AnswersWhatWasRead, AnswersFirstLines, AnswersFront, Answers, Serves, ServesKnown, with_replies}
+use Rattle.ing_session.proofs.CausesLaws.{no_failure, causes_on, causes_more}
 use Rattle.ing_session.proofs.FrontsLaws.{front_held}
 use Rattle.ing_session.proofs.LinesLaws.{lines_of-ended, lines_of-open_last, lines_of-rest}
 
@@ -64,32 +63,6 @@ held_same h k q s keeps same = subst (λ l. Keeps h (with_replies k l)) (sym sam
 pub keeps_same : (a : Option (List ℕ)) → Keeps a a
 keeps_same None = tt
 keeps_same (Some x) = refl
-
--- ---- failures and their causes
-
-pub no_failure : (n : ℕ) → HaveCause n n 0
-no_failure n = (omega arith, inl refl)
-
-fails_on : (a b c : ℕ) → HasFailed a b → b ≤ c → HasFailed a c
-fails_on a b c (inl lt) le = inl (omega (arith, lt, le))
-fails_on a b c (inr last) le = inr last
-
-pub causes_on : (a b c n : ℕ) → HaveCause a b n → b ≤ c → HaveCause a c n
-causes_on a b c n (risen, inl none) le = (omega (arith, risen, le), inl none)
-causes_on a b c n (risen, inr failed) le = (omega (arith, risen, le), inr (fails_on a b c failed le))
-
-eq_or_less : (a b : ℕ) → a ≤ b → (a ≡ b) ⊎ (a < b)
-eq_or_less a b le = elim (eqb_tells a b) [ inl same ↦ inl same.1 | inr other ↦ inr (omega (arith, le, other.1)) ]
-
--- the first of the two readings may be an earlier one
-fails_from : (a b c : ℕ) → a ≤ b → b ≤ c → HasFailed b c → HasFailed a c
-fails_from a b c le more (inl lt) = inl (omega (arith, lt, le))
-fails_from a b c le more (inr last) = elim (eq_or_less a b le) [ inl same ↦ inr (rw same last) | inr less ↦ inl (omega (arith, less, more)) ]
-
-pub causes_more : (a b c n m : ℕ) → HaveCause a b n → HaveCause b c m → HaveCause a c (n + m)
-causes_more a b c n m (risen, inl none) (more, inl neither) = (omega (arith, risen, more), inl (rw (none, neither) refl))
-causes_more a b c n m (risen, inl none) (more, inr failed) = (omega (arith, risen, more), inr (fails_from a b c risen more failed))
-causes_more a b c n m (risen, inr failed) (more, cause) = (omega (arith, risen, more), inr (fails_on a b c failed more))
 
 -- ---- one line more
 

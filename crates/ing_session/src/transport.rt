@@ -37,8 +37,8 @@ pub fn run<R: Read, W: Write, S: StoreEnd>(
     end: &mut S,
     settings: Settings,
 ) -> Result<(), Ending>
-    // What is written is, line for line, what the model answers to the lines read, by how the uploads ended; and none failed
-    // without a cause.
+    // What is written is, line for line, what the model answers to the lines read, by how the uploads ended; and each that
+    // failed has a cause of its own.
     ensures output { OnOk result (IfSome (R.remaining reader.old) (λ input.
         AnswersAll S.is_honest settings input (S.failure_count end.old) (S.failure_count end.new)
         (W.contents writer.old) (W.contents writer.new))) }
