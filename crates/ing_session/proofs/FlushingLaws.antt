@@ -1,5 +1,5 @@
 -- The operations of a flush, one after another.
-use Rattle.std.proofs.Common.{◌≡◌, ◌≢◌, ℕ, ◌+◌, ◌<◌, ◌≤◌, List, [], ◌∷◌, ◌++◌, length, get_or, take, refl, sym, ap, subst, ◌∙◌, arith, None, Some, Err, inr}
+use Rattle.std.proofs.Common.{◌≡◌, ◌≢◌, ℕ, ◌+◌, ◌<◌, ◌≤◌, List, [], ◌∷◌, ◌++◌, length, get_or, take, refl, sym, ap, subst, ◌∙◌, arith, None, Some, Err}
 use Rattle.std.specs.Prelude.{Option, slice_get}
 use Rattle.std.proofs.lemmas.List.{take_more}
 use Rattle.std.proofs.lemmas.List.Sorted.{IsPermutation-refl, IsPermutation-trans}
@@ -17,6 +17,7 @@ use Rattle.ing_codec.specs.ChunkObjects.{chunk_text}
 use Rattle.sha2.specs.Sha256.{sha256}
 use Rattle.ing_shard.specs.declared.due.Op.{Op}
 use Rattle.ing_shard.specs.Flights.{Flown, key_in, object_in}
+use Rattle.ing_session.proofs.CausesLaws.{one_failure}
 use Rattle.ing_session.specs.Flushing.{Outcome, NoneWaited, GaveBack, Stored, Ends, EndSo, GoesOn, HaveCause, failed_by, stored_by, failed_among, stored_among}
 
 same_refl : (a : State) → IsSame a a
@@ -56,8 +57,8 @@ module _ (rules : List ℕ → Rules) (s : Option StreamKey) (x : Flown) (a b c 
 -- an upload that failed has a cause
 pub failed_cause : (before after : ℕ) (fault : StoreFault) → IsCounted {T = ℕ} before after (Err fault) → fault ≢ faults.NoMemory → HaveCause before after 1
 failed_cause before after faults.NoMemory counted other = absurd (other refl)
-failed_cause before after faults.Failed counted other = (counted.0, inr counted.1)
-failed_cause before after faults.Damaged counted other = (counted.0, inr counted.1)
+failed_cause before after faults.Failed counted other = one_failure before after counted.0 counted.1
+failed_cause before after faults.Damaged counted other = one_failure before after counted.0 counted.1
 
 -- one operation more
 module _ (rules : List ℕ → Rules) (listed : List StreamKey) where

@@ -5,6 +5,8 @@ pub mod PushLaws
 pub mod StartingLaws
 mod WritingLaws
 pub mod FlushingLaws
+pub mod CausesLaws
+pub mod FrontsLaws
 mod NameLaws
 pub mod RunsLaws
 mod ObeyLaws

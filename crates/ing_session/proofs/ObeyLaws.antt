@@ -18,7 +18,7 @@ use Rattle.ing_session.specs.Replies.{flush_data, line_text}
 use Rattle.ing_session.specs.Runs.{Answers, IsFlushed, Obeys}
 use Rattle.ing_session.specs.Session.{CommandMayBe, after_command, command_reply, growing_in, is_blank, is_long, line_fault, to_flush}
 use Rattle.ing_session.specs.Views.{reply_data}
-use Rattle.ing_session.proofs.RunsLaws.{no_failure}
+use Rattle.ing_session.proofs.CausesLaws.{no_failure}
 
 module _ {R : Type 0} {g : Ghosts R} (honest : Type 0) (settings : StoreSettings) (old : Held) (new : Session R g) where
   -- a command that works nothing off

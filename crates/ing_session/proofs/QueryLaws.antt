@@ -1,5 +1,5 @@
 -- What a query comes to, from what its shard and its store gave.
-use Rattle.std.proofs.Common.{◌≡◌, ◌≢◌, ℕ, ◌≤◌, Bool, List, [], ◌∷◌, append-nil, zero-add, filter, map, arith, refl, subst, sym, ◌∙◌, None, Result, Ok, Err, inl, inr}
+use Rattle.std.proofs.Common.{◌≡◌, ◌≢◌, ℕ, ◌≤◌, Bool, List, [], ◌∷◌, append-nil, zero-add, filter, map, arith, refl, subst, sym, ◌∙◌, None, Result, Ok, Err}
 use Rattle.std.specs.Prelude.{IfOk, IsErr, IsPermutation}
 use Rattle.std.specs.declared.alloc.AllocError.{AllocError}
 use Rattle.std.proofs.lemmas.List.Concat.{flat_map-cons}
@@ -32,7 +32,7 @@ use Rattle.ing_session.specs.Replies.{fault_data}
 use Rattle.ing_session.specs.Runs.{Obeys}
 use Rattle.ing_session.specs.Session.{query_reply}
 use Rattle.ing_session.specs.Views.{reply_data}
-use Rattle.ing_session.proofs.RunsLaws.{no_failure}
+use Rattle.ing_session.proofs.CausesLaws.{no_failure, one_failure, same_count}
 
 -- what is wanted of one snapshot
 pub one_wanted : {R : Type 0} (s : Snapshot R) → wanted_in (s ∷ []) ≡ wanted s
@@ -95,6 +95,6 @@ module _ {R : Type 0} {g : Ghosts R} (honest : Type 0) (settings : StoreSettings
   not_answered before after fault (Err e) reads good counted memory told = tt
   not_answered before after NoMemory (Ok reply) reads good counted memory told = let no = memory refl in absurd cc
   not_answered before after (StoreFault key) (Ok reply) reads good counted memory told = λ old holds.
-      obeys_query old Failed before after (reply_data reply) holds reads told (counted.0, inr counted.1)
+      obeys_query old Failed before after (reply_data reply) holds reads told (one_failure before after counted.0 counted.1)
   not_answered before after (BadObject key) (Ok reply) reads good counted memory told = λ old holds.
-      obeys_query old Damaged before after (reply_data reply) holds (reads, good) told (omega (arith, counted), inl refl)
+      obeys_query old Damaged before after (reply_data reply) holds (reads, good) told (same_count before after counted)

@@ -1,26 +1,30 @@
 -- One more line of the input is answered, or the run ends.
-use Rattle.std.proofs.Common.{◌≡◌, ℕ, ◌+◌, ◌<◌, ◌≤◌, Bool, true, false, List, [], ◌∷◌, ◌++◌, length, refl, sym, ap, subst, ◌∙◌, arith, append_assoc, append-nil, None, Some, inl, inr}
-use Rattle.std.specs.Prelude.{Option, ◌⊎◌, IfSome}
+use Rattle.std.proofs.Common.{◌≡◌, ◌≢◌, ℕ, ◌+◌, ◌<◌, ◌≤◌, Bool, true, false, List, [], ◌∷◌, ◌++◌, length, refl, sym, ap, subst, ◌∙◌, arith, append_assoc, append-nil, None, Some, Ok, Err, inl, inr}
+use Rattle.std.specs.Prelude.{Option, Result, IfSome, IfErr, OnOk, IsTrue}
 use Rattle.std.specs.List.{AllByRecursion, flat_map}
 use Rattle.std.specs.Io.KnownBytes.{Appends, Keeps, Consumes, IsAtEnd, prepend_known}
 use Rattle.std.proofs.lemmas.List.{map-append}
 use Rattle.std.proofs.lemmas.List.Concat.{flat_map-cons}
 use Rattle.std.proofs.lemmas.List.Sums.{sum_by_push}
-use Rattle.std.proofs.lemmas.Bool.Decides.{eqb_tells, nat_tests}
+use Rattle.std.proofs.lemmas.Bool.Decides.{nat_tests}
 use Rattle.ing_limits.specs.Settings.{StoreSettings}
-use Rattle.ing_store.specs.StoreFaults.{HasFailed}
 use Rattle.ing_session.specs.declared.command.fault.LineFault.TheVariants.{BadCommand}
 use Rattle.ing_session.specs.declared.lines.NextLine.TheVariants.{Line, TooLong, End}
 use Rattle.ing_store.specs.declared.store_end.Receipt.{Ghosts}
 use Rattle.ing_session.specs.declared.session.Session.{Session}
-use Rattle.ing_session.specs.Flushing.{HaveCause}
+use Rattle.ing_session.specs.declared.ending.Ending.{Ending}
+use Rattle.ing_session.specs.declared.ending.Ending.TheVariants.{NoMemory, NotToml, UnknownSetting, BadSetting, InputFault, OutputFault, BadArguments, NoSettings}
+use Rattle.ing_session.specs.Endings.{is_of_run}
+use Rattle.ing_session.specs.Fronts.{AppendsFront, Grows}
 use Rattle.ing_session.specs.Held.{Held, nothing_held, IsHeld}
 use Rattle.ing_session.specs.Lines.{lines_of, with_feed, EndsLine, TakesLine}
 use Rattle.ing_session.specs.Parts.{HasNoFeed, max_line}
 use Rattle.ing_session.specs.Queries.{Unasked}
 use Rattle.ing_session.specs.Replies.{line_text}
-use Rattle.ing_session.specs.Session.{Turn, turn, MayBe, MayBeFrom, is_long, line_fault, answer_to, after_line, report_of, answers_from, answers_of, failed_at, failed_in, held_after, lines_in}
-use Rattle.ing_session.specs.Runs.{AnswersAll, AnswersWhatWasRead, AnswersFirstLines, Answers, Serves, ServesKnown, with_replies}
+use Rattle.ing_session.specs.Session.{Turn, turn, MayBe, MayBeFrom, is_long, line_fault, answer_to, after_line, report_of, answers_from, answers_of, failed_at, failed_in, held_after, lines_in, output_of}
+use Rattle.ing_session.specs.Runs.{AnswersAll, AnswersWhatWasRead, AnswersFirstLines, AnswersFront, Answers, Serves, ServesKnown, with_replies}
+use Rattle.ing_session.proofs.CausesLaws.{no_failure, causes_on, causes_more}
+use Rattle.ing_session.proofs.FrontsLaws.{front_held}
 use Rattle.ing_session.proofs.LinesLaws.{lines_of-ended, lines_of-open_last, lines_of-rest}
 
 -- ---- what is written and held back
@@ -59,32 +63,6 @@ held_same h k q s keeps same = subst (λ l. Keeps h (with_replies k l)) (sym sam
 pub keeps_same : (a : Option (List ℕ)) → Keeps a a
 keeps_same None = tt
 keeps_same (Some x) = refl
-
--- ---- failures and their causes
-
-pub no_failure : (n : ℕ) → HaveCause n n 0
-no_failure n = (omega arith, inl refl)
-
-fails_on : (a b c : ℕ) → HasFailed a b → b ≤ c → HasFailed a c
-fails_on a b c (inl lt) le = inl (omega (arith, lt, le))
-fails_on a b c (inr last) le = inr last
-
-pub causes_on : (a b c n : ℕ) → HaveCause a b n → b ≤ c → HaveCause a c n
-causes_on a b c n (risen, inl none) le = (omega (arith, risen, le), inl none)
-causes_on a b c n (risen, inr failed) le = (omega (arith, risen, le), inr (fails_on a b c failed le))
-
-eq_or_less : (a b : ℕ) → a ≤ b → (a ≡ b) ⊎ (a < b)
-eq_or_less a b le = elim (eqb_tells a b) [ inl same ↦ inl same.1 | inr other ↦ inr (omega (arith, le, other.1)) ]
-
--- the first of the two readings may be an earlier one
-fails_from : (a b c : ℕ) → a ≤ b → b ≤ c → HasFailed b c → HasFailed a c
-fails_from a b c le more (inl lt) = inl (omega (arith, lt, le))
-fails_from a b c le more (inr last) = elim (eq_or_less a b le) [ inl same ↦ inr (rw same last) | inr less ↦ inl (omega (arith, less, more)) ]
-
-pub causes_more : (a b c n m : ℕ) → HaveCause a b n → HaveCause b c m → HaveCause a c (n + m)
-causes_more a b c n m (risen, inl none) (more, inl neither) = (omega (arith, risen, more), inl (rw (none, neither) refl))
-causes_more a b c n m (risen, inl none) (more, inr failed) = (omega (arith, risen, more), inr (fails_from a b c risen more failed))
-causes_more a b c n m (risen, inr failed) (more, cause) = (omega (arith, risen, more), inr (fails_on a b c failed more))
 
 -- ---- one line more
 
@@ -254,6 +232,13 @@ module _ {R : Type 0} {g : Ghosts R} (honest : Type 0) (settings : StoreSettings
 
 -- ---- what has been written when it ends early
 
+-- the lines that were answered are the first ones
+first_lines : {R : Type 0} {g : Ghosts R} (honest : Type 0) (settings : StoreSettings) (session : Session R g) (input : List ℕ) (before after : ℕ) (first now : Option (List ℕ)) (was : Bool) (left : List ℕ)
+    → (serves : Serves honest settings session input before after first now was left) → (b : Bool) → was ≡ b → lines_of input ≡ lines_in serves.turns ++ lines_of left
+first_lines honest settings session input before after first now was left serves true is =
+    (serves.read is).0 ∙ sym (append-nil (lines_in serves.turns)) ∙ ap (λ l. lines_in serves.turns ++ lines_of l) (sym (serves.read is).1)
+first_lines honest settings session input before after first now was left serves false is = ap lines_of (serves.taken is) ∙ lines_of-rest (lines_in serves.turns) left serves.no_feeds
+
 module _ {R : Type 0} {g : Ghosts R} (honest : Type 0) (settings : StoreSettings) (session : Session R g) (input : List ℕ) (before b1 b2 : ℕ) (first now : Option (List ℕ)) (was : Bool) where
   -- memory ran out
   pub stops : (left h : Option (List ℕ)) → ServesKnown honest settings session input before b1 first now was left → Keeps now h → b1 ≤ b2 → AnswersFirstLines honest settings input before b2 first h
@@ -262,16 +247,13 @@ module _ {R : Type 0} {g : Ghosts R} (honest : Type 0) (settings : StoreSettings
       record {
         turns = serves.turns;
         others = lines_of left;
-        first = by_end was refl;
+        first = first_lines honest settings session input before b1 first now was left serves was refl;
         may_be = record {
           flushes = serves.may_be.flushes;
           causes = causes_on before b1 b2 (failed_in serves.turns) serves.may_be.causes risen;
         };
         answered = kept first now h (answers_of settings serves.turns) serves.answered keeps;
-      } where
-        by_end : (b : Bool) → was ≡ b → lines_of input ≡ lines_in serves.turns ++ lines_of left
-        by_end true is = (serves.read is).0 ∙ sym (append-nil (lines_in serves.turns)) ∙ ap (λ l. lines_in serves.turns ++ lines_of l) (sym (serves.read is).1)
-        by_end false is = ap lines_of (serves.taken is) ∙ lines_of-rest (lines_in serves.turns) left serves.no_feeds
+      }
 
   -- a read failed
   pub fails : (left rest h : Option (List ℕ)) (bytes : List ℕ) → ServesKnown honest settings session input before b1 first now was left → was ≡ false → HasNoFeed bytes → Consumes left rest bytes → Keeps now h
@@ -288,3 +270,78 @@ module _ {R : Type 0} {g : Ghosts R} (honest : Type 0) (settings : StoreSettings
         may_be = serves.may_be;
         answered = kept first now h (answers_of settings serves.turns) serves.answered keeps;
       }
+
+-- a write failed while it went on
+pub breaks : {R : Type 0} {g : Ghosts R} (honest : Type 0) (settings : StoreSettings) (session : Session R g) (input : List ℕ) (before after : ℕ) (first c k : Option (List ℕ)) (r : List ℕ) (was : Bool) (left : Option (List ℕ))
+    → ServesKnown honest settings session input before after first (with_replies c r) was left → Grows first c → AppendsFront c k r → AnswersFront honest settings input before after first k
+breaks honest settings session input before after first c k r was None serves grown f = absurd serves
+breaks honest settings session input before after first c k r was (Some left) serves grown f =
+    record {
+      turns = serves.turns;
+      others = lines_of left;
+      first = first_lines honest settings session input before after first (with_replies c r) was left serves was refl;
+      may_be = serves.may_be;
+      front = inl (front_held first c k r (answers_of settings serves.turns) grown serves.answered f);
+    }
+
+-- the last write failed
+module _ (honest : Type 0) (settings : StoreSettings) (input : List ℕ) (before after : ℕ) (first c k : Option (List ℕ)) (r : List ℕ) (grown : Grows first c) (f : AppendsFront c k r) where
+  -- of all answers and the report
+  breaks_all : AnswersAll honest settings input before after first (with_replies c r) → AnswersFront honest settings input before after first k
+  breaks_all a =
+      record {
+        turns = a.turns;
+        others = [];
+        first = a.all ∙ sym (append-nil (lines_in a.turns));
+        may_be = a.may_be;
+        front = inr (refl, front_held first c k r (output_of settings a.turns) grown a.answered f);
+      }
+
+  -- of the answers where memory had run out
+  breaks_first : AnswersFirstLines honest settings input before after first (with_replies c r) → AnswersFront honest settings input before after first k
+  breaks_first a =
+      record {
+        turns = a.turns;
+        others = a.others;
+        first = a.first;
+        may_be = a.may_be;
+        front = inl (front_held first c k r (answers_of settings a.turns) grown a.answered f);
+      }
+
+  -- of the answers where a read had failed
+  breaks_read : (rest : Option (List ℕ)) → AnswersWhatWasRead honest settings input rest before after first (with_replies c r) → AnswersFront honest settings input before after first k
+  breaks_read None a = absurd a.read
+  breaks_read (Some rest) a =
+      record {
+        turns = a.turns;
+        others = lines_of (a.last ++ rest);
+        first = ap lines_of (a.read ∙ append_assoc (flat_map with_feed (lines_in a.turns)) a.last rest) ∙ lines_of-rest (lines_in a.turns) (a.last ++ rest) a.no_feeds;
+        may_be = a.may_be;
+        front = inl (front_held first c k r (answers_of settings a.turns) grown a.answered f);
+      }
+
+  breaks_known : (rest : Option (List ℕ)) (ended : Result (Unit {0}) Ending) → ended ≢ Err OutputFault → IfErr ended (λ e. IsTrue (is_of_run e))
+      → OnOk ended (AnswersAll honest settings input before after first (with_replies c r))
+      → (ended ≡ Err InputFault → AnswersWhatWasRead honest settings input rest before after first (with_replies c r))
+      → (ended ≡ Err NoMemory → AnswersFirstLines honest settings input before after first (with_replies c r))
+      → AnswersFront honest settings input before after first k
+  breaks_known rest (Ok done) other of_run all read memory = breaks_all all
+  breaks_known rest (Err NoMemory) other of_run all read memory = breaks_first (memory refl)
+  breaks_known rest (Err InputFault) other of_run all read memory = breaks_read rest (read refl)
+  breaks_known rest (Err OutputFault) other of_run all read memory = absurd (other refl)
+  breaks_known rest (Err NotToml) other of_run all read memory = absurd cc
+  breaks_known rest (Err (UnknownSetting name)) other of_run all read memory = absurd cc
+  breaks_known rest (Err (BadSetting name)) other of_run all read memory = absurd cc
+  breaks_known rest (Err BadArguments) other of_run all read memory = absurd cc
+  breaks_known rest (Err NoSettings) other of_run all read memory = absurd cc
+
+-- the same, of what is known of the input
+pub breaks_ended : (honest : Type 0) (settings : StoreSettings) (before after : ℕ) (first c k : Option (List ℕ)) (r : List ℕ) (known rest : Option (List ℕ)) (ended : Result (Unit {0}) Ending) → Grows first c → AppendsFront c k r
+    → ended ≢ Err OutputFault → IfErr ended (λ e. IsTrue (is_of_run e))
+    → OnOk ended (IfSome known (λ input. AnswersAll honest settings input before after first (with_replies c r)))
+    → (ended ≡ Err InputFault → IfSome known (λ input. AnswersWhatWasRead honest settings input rest before after first (with_replies c r)))
+    → (ended ≡ Err NoMemory → IfSome known (λ input. AnswersFirstLines honest settings input before after first (with_replies c r)))
+    → IfSome known (λ input. AnswersFront honest settings input before after first k)
+breaks_ended honest settings before after first c k r None rest ended grown f other of_run all read memory = tt
+breaks_ended honest settings before after first c k r (Some input) rest ended grown f other of_run all read memory =
+    breaks_known honest settings input before after first c k r grown f rest ended other of_run all read memory

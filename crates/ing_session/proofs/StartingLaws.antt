@@ -11,7 +11,7 @@ use Rattle.ing_limits.specs.declared.fault.SettingsFault.{SettingsFault}
 use Rattle.ing_limits.specs.declared.fault.SettingsFault.TheVariants.{NoMemory, NotToml, UnknownSetting, BadSetting}
 use Rattle.ing_session.specs.declared.ending.Ending.{Ending}
 use Rattle.ing_session.specs.Endings.{ending_of_settings, refusal_of}
-use Rattle.ing_session.specs.Starting.{with_one_shard, started_by}
+use Rattle.ing_session.specs.Starting.{GiveSettings, NamesFile, started_by, with_one_shard}
 
 -- bytes that are no UTF-8 are no TOML
 pub started_unread : (file : List ℕ) → (IsUtf8 file → ⊥) → started_by file ≡ Err not_toml
@@ -54,3 +54,14 @@ if_some_then P Q (Some x) f p = f x p
 
 pub at_zero : (P : ℕ → ℕ → Type 0) (a b : ℕ) → a ≡ 0 → b ≡ 0 → P a b → P 0 0
 at_zero P a b first last p = subst (λ x. P x 0) first (subst (λ x. P a x) last p)
+
+-- ---- what is said by the bytes of a file
+
+-- it is said by the words that name the file
+pub give : (words : List (List ℕ)) (file bytes : List ℕ) (P : StoreSettings → Type 0) → NamesFile words file → bytes ≡ file → ((x : StoreSettings) × (started_by bytes ≡ Ok x) × P x) → GiveSettings words P
+give words file bytes P named same (x, is, p) = (file, named, x, subst (λ b. started_by b ≡ Ok x) same is, p)
+
+pub give_known : (words : List (List ℕ)) (file bytes : List ℕ) (P : List ℕ → StoreSettings → Type 0) → NamesFile words file → bytes ≡ file → (known : Option (List ℕ))
+    → IfSome known (λ input. (x : StoreSettings) × (started_by bytes ≡ Ok x) × P input x) → IfSome known (λ input. GiveSettings words (P input))
+give_known words file bytes P named same None said = tt
+give_known words file bytes P named same (Some input) said = give words file bytes (P input) named same said

@@ -1,8 +1,7 @@
 -- What becomes of the operations that a flush works off.
-use Rattle.std.specs.Prelude.{◌≡◌, ◌⊎◌, ℕ, ◌≤◌, List, [], ◌∷◌, sum_by, slice_get, Option, Some, None}
+use Rattle.std.specs.Prelude.{◌≡◌, ◌⊎◌, ℕ, ◌+◌, ◌^◌, ◌≤◌, List, [], ◌∷◌, sum_by, slice_get, Option, Some, None}
 use Rattle.sha2.specs.Sha256.{sha256}
 use Rattle.ing_codec.specs.ChunkObjects.{chunk_text}
-use Rattle.ing_store.specs.StoreFaults.{HasFailed}
 use Rattle.ing_rows.specs.declared.rules.Rules.{Rules}
 use Rattle.ing_rows.specs.Rows.{StreamKey, State, IsSame}
 use Rattle.ing_rows.specs.Events.{Event, Reply, Claim, Finish, GiveBack, Claimed, NothingToClaim, Finished, GivenBack, Step, Run}
@@ -10,7 +9,8 @@ use Rattle.ing_shard.specs.declared.due.Op.{Op}
 use Rattle.ing_shard.specs.Flights.{Flown, key_in, object_in}
 
 -- What became of an operation: no chunk of its stream waited any more; or the oldest that waited was claimed, and its upload
--- failed, so that it waits again, or it was uploaded and is stored.
+-- failed, so that it waits again, or it was uploaded and is stored. An upload that failed here is one that the store failed: where
+-- memory runs out in an upload, its flush is not answered, and the run ends.
 pub data Outcome : Type 0 where
   NoneWaited : Outcome
   GaveBack : Flown → Outcome
@@ -63,9 +63,10 @@ EndSo rules listed (op ∷ ops) (outcome ∷ outcomes) old new =
 EndSo rules listed [] (outcome ∷ outcomes) old new = ⊥
 EndSo rules listed (op ∷ ops) [] old new = ⊥
 
--- so many uploads failed between two readings of a store end's count of failures: none, or the end has failed
+-- So many uploads and queries failed between two readings of a store end's count of failures: it rose by as many at least, or it
+-- stands at its last value, 2^64-1. It is given as 64 bits, so it is never more.
 abbrev pub HaveCause : ℕ → ℕ → ℕ → Type 0
-HaveCause before after failed = (before ≤ after) × ((failed ≡ 0) ⊎ HasFailed before after)
+HaveCause before after failed = (before ≤ after) × ((before + failed ≤ after) ⊎ (2 ^ 64 ≤ after + 1))
 
 -- what calls leave of an end of a store: its count of failures does not fall, and where it never fails it stays so, and the count
 -- stays too

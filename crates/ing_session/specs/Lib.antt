@@ -3,6 +3,7 @@ pub mod Endings
 pub mod Faults
 pub mod FlushCommands
 pub mod Flushing
+pub mod Fronts
 pub mod GaugesCommands
 pub mod Held
 pub mod Lines

@@ -1,5 +1,5 @@
 -- What a run has written by the time it ends, and while it goes on.
-use Rattle.std.specs.Prelude.{◌≡◌, ℕ, false, true, Bool, List, [], ◌++◌, Option, Some, None, Result}
+use Rattle.std.specs.Prelude.{◌≡◌, ◌⊎◌, ℕ, false, true, Bool, List, [], ◌++◌, Option, Some, None, Result}
 use Rattle.std.specs.List.{AllByRecursion, flat_map}
 use Rattle.std.specs.Io.KnownBytes.{Appends, Consumes, append_known}
 use Rattle.ing_limits.specs.Settings.{StoreSettings}
@@ -8,6 +8,7 @@ use Rattle.ing_rows.specs.Rows.{State}
 use Rattle.ing_session.specs.declared.command.fault.LineFault.{LineFault}
 use Rattle.ing_session.specs.Commands.{Command}
 use Rattle.ing_session.specs.Flushing.{Outcome, HaveCause, failed_among, stored_among}
+use Rattle.ing_session.specs.Fronts.{AppendsFront}
 use Rattle.ing_session.specs.Lines.{lines_of, with_feed}
 use Rattle.ing_store.specs.declared.store_end.Receipt.{Ghosts}
 use Rattle.ing_session.specs.declared.session.Session.{Session}
@@ -46,6 +47,15 @@ pub record AnswersFirstLines (honest : Type 0) (settings : StoreSettings) (input
   pub first : lines_of input ≡ lines_in turns ++ others
   pub may_be : MayBeAnswered honest settings before after turns
   pub answered : Appends old new (answers_of settings turns)
+
+-- Where a write failed: a front of the answers to the first lines of the input, and nothing else. Where these are all its lines,
+-- the report may have been begun too.
+pub record AnswersFront (honest : Type 0) (settings : StoreSettings) (input : List ℕ) (before after : ℕ) (old new : Option (List ℕ)) : Type 0 where
+  pub turns : List Turn
+  pub others : List (List ℕ)
+  pub first : lines_of input ≡ lines_in turns ++ others
+  pub may_be : MayBeAnswered honest settings before after turns
+  pub front : AppendsFront old new (answers_of settings turns) ⊎ ((others ≡ []) × AppendsFront old new (output_of settings turns))
 
 -- ---- for private clauses
 

@@ -22,3 +22,7 @@ abbrev pub NamesFile : List (List ℕ) → List ℕ → Type 0
 NamesFile [] file = file ≡ []
 NamesFile (path ∷ []) file = ⊤
 NamesFile (path ∷ next ∷ more) file = ⊥
+
+-- these argument words name a settings file, and its bytes give settings of which this is said
+abbrev pub GiveSettings : List (List ℕ) → (StoreSettings → Type 0) → Type 0
+GiveSettings words P = (file : List ℕ) × NamesFile words file × (settings : StoreSettings) × (started_by file ≡ Ok settings) × P settings

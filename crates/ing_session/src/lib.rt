@@ -5,6 +5,7 @@
 mod command;
 mod ending;
 mod lines;
+mod output;
 mod program;
 mod reply;
 mod session;

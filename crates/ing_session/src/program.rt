@@ -4,10 +4,12 @@ ghost use Rattle.std.specs.Io.KnownBytes.{Appends};
 ghost use Rattle.std.specs.String.{string_bytes};
 ghost use Rattle.ing_limits.specs.Settings.{StoreSettings};
 ghost use Rattle.ing_session.specs.Endings.{ending_status, ending_text, refusal_of, status_of};
-ghost use Rattle.ing_session.specs.Runs.{AnswersAll, AnswersWhatWasRead, AnswersFirstLines};
-ghost use Rattle.ing_session.specs.Starting.{NamesFile, started_by};
+ghost use Rattle.ing_session.specs.Fronts.{AppendsFront};
+ghost use Rattle.ing_session.specs.Runs.{AnswersAll, AnswersWhatWasRead, AnswersFirstLines, AnswersFront};
+ghost use Rattle.ing_session.specs.Starting.{GiveSettings, NamesFile, started_by};
 
 use crate::ending::Ending;
+use crate::output::{put, put_out};
 use crate::transport::run;
 use ing_limits::Settings;
 use ing_store::{Fuse, MemoryStore};
@@ -32,9 +34,23 @@ pub fn start<F: Files + AllocGlobal + Wait, R: Read, W: Write>(
     writer: &mut W,
 ) -> Result<(), Ending>
     ensures output { OnOk result (IfSome (R.remaining reader.old) (λ input.
-        (file : List ℕ) × NamesFile (map string_bytes words.now) file
-        × (settings : StoreSettings) × (started_by file ≡ Ok settings)
-        × AnswersAll ⊤ settings input 0 0 (W.contents writer.old) (W.contents writer.new))) }
+        GiveSettings (map string_bytes words.now) (λ settings.
+        AnswersAll ⊤ settings input 0 0 (W.contents writer.old) (W.contents writer.new)))) }
+    ensures input_fault { IsErrOf result Ending.InputFault →
+        IfSome (R.remaining reader.old) (λ input.
+        GiveSettings (map string_bytes words.now) (λ settings.
+        AnswersWhatWasRead ⊤ settings input (R.remaining reader.new) 0 0
+        (W.contents writer.old) (W.contents writer.new))) }
+    ensures no_memory { IsErrOf result Ending.NoMemory → (writer.new ≡ writer.old)
+        ⊎ IfSome (R.remaining reader.old) (λ input.
+        GiveSettings (map string_bytes words.now) (λ settings.
+        AnswersFirstLines ⊤ settings input 0 0 (W.contents writer.old) (W.contents writer.new))) }
+    ensures output_fault { IsErrOf result Ending.OutputFault →
+        IfSome (R.remaining reader.old) (λ input.
+        GiveSettings (map string_bytes words.now) (λ settings.
+        AnswersFront ⊤ settings input 0 0 (W.contents writer.old) (W.contents writer.new))) }
+    ensures begun { IsErrOf result Ending.OutputFault →
+        GiveSettings (map string_bytes words.now) (λ settings. ⊤) }
     ensures refused { IfErr result (λ e. IfSome (refusal_of e) (λ refusal.
         (file : List ℕ) × NamesFile (map string_bytes words.now) file × (started_by file ≡ Err refusal))) }
     ensures words { IsErrOf result Ending.BadArguments ↔ (1 < length words.now) }
@@ -51,6 +67,8 @@ fn settings_file<F: Files + AllocGlobal>(rt: &F, words: &[String]) -> Result<Vec
     ensures words { IsErrOf result Ending.BadArguments ↔ (1 < length words.now) }
     ensures named { IsErrOf result Ending.NoSettings → length words.now ≡ 1 }
     ensures refused { IfErr result (λ e. refusal_of e ≡ None) }
+    ensures ending { IfErr result (λ e. (e ≡ Ending.NoMemory) ⊎ (e ≡ Ending.NoSettings)
+        ⊎ (e ≡ Ending.BadArguments)) }
 {
     match words {
         [] => Ok(Vec::new(rt.alloc())),
@@ -94,6 +112,10 @@ pub fn start_on<T: AllocGlobal + Wait, R: Read, W: Write>(
         ⊎ IfSome (R.remaining reader.old) (λ input.
         (settings : StoreSettings) × (started_by file.now ≡ Ok settings)
         × AnswersFirstLines ⊤ settings input 0 0 (W.contents writer.old) (W.contents writer.new)) }
+    ensures output_fault { IsErrOf result Ending.OutputFault →
+        IfSome (R.remaining reader.old) (λ input.
+        (settings : StoreSettings) × (started_by file.now ≡ Ok settings)
+        × AnswersFront ⊤ settings input 0 0 (W.contents writer.old) (W.contents writer.new)) }
     ensures begun { IsErrOf result Ending.OutputFault →
         (settings : StoreSettings) × (started_by file.now ≡ Ok settings) }
     ensures file_read { IfErr result (λ e. (e ≢ Ending.BadArguments) × (e ≢ Ending.NoSettings)) }
@@ -125,9 +147,11 @@ fn settings_of_file(alloc: Global, file: &[u8]) -> Result<Settings, Ending>
 }
 
 /// The end of the program: writes why it ended to standard error, where it did not end well, and gives the exit status.
-/// Where that cannot be written, the status still tells. Takes no memory.
+/// Where that cannot be written, a front of the line may stand there, and the status still tells. Takes no memory.
 pub fn conclude<E: Write>(ended: Result<(), Ending>, errors: &mut E) -> u8
     ensures status { result ≡ status_of ended }
+    ensures line { IfErr ended (λ e.
+        AppendsFront (E.contents errors.old) (E.contents errors.new) (ending_text e)) }
     ensures silent { OnOk ended (errors.new ≡ errors.old) }
 {
     match ended {
@@ -139,12 +163,14 @@ pub fn conclude<E: Write>(ended: Result<(), Ending>, errors: &mut E) -> u8
     }
 }
 
-/// Writes the line that says why the program ended.
+/// Writes the line that says why the program ended. After an error a front of it is written.
 fn write_ending<E: Write>(ending: &Ending, errors: &mut E) -> io::Result<()>
-    ensures { OnOk result (Appends (E.contents errors.old) (E.contents errors.new) (ending_text ending.now)) }
+    ensures whole { OnOk result
+        (Appends (E.contents errors.old) (E.contents errors.new) (ending_text ending.now)) }
+    ensures front { OnErr result
+        (AppendsFront (E.contents errors.old) (E.contents errors.new) (ending_text ending.now)) }
 {
-    errors.write_all(b"ingestd: ")?;
-    errors.write_all(ending.refusal().name().as_bytes())?;
-    errors.write_all(b"\n")?;
-    errors.flush()
+    put(errors, b"ingestd: ")?;
+    put(errors, ending.refusal().name().as_bytes())?;
+    put_out(errors, b"\n")
 }

@@ -1,16 +1,18 @@
 //! The transport of a session: lines in from a reader, replies out to a writer. What a line says is not looked at here.
-ghost use Rattle.std.specs.Prelude.{◌≡◌, ◌≢◌, ◌<◌, ◌≤◌, [], ℕ, List, Option, IfOk, IfErr, OnOk, IsErrOf, IfSome, IsTrue, MatchBool, true, false, vec_len};
+ghost use Rattle.std.specs.Prelude.{◌≡◌, ◌≢◌, ◌<◌, ◌≤◌, [], ℕ, List, Option, IfOk, IfErr, OnOk, OnErr, IsErrOf, IfSome, IsTrue, MatchBool, Err, true, false, vec_len};
 ghost use Rattle.std.specs.Io.KnownBytes.{Appends, Consumes, Keeps, IsAtEnd};
 ghost use Rattle.ing_limits.specs.Settings.{StoreSettings};
 ghost use Rattle.ing_session.specs.Endings.{is_of_run};
 ghost use Rattle.ing_session.specs.Flushing.{GoesOn};
+ghost use Rattle.ing_session.specs.Fronts.{AppendsFront, Grows};
 ghost use Rattle.ing_session.specs.Lines.{TakesLine};
 ghost use Rattle.ing_session.specs.Parts.{HasNoFeed};
-ghost use Rattle.ing_session.specs.Runs.{AnswersAll, AnswersWhatWasRead, AnswersFirstLines, with_replies, ServesKnown};
+ghost use Rattle.ing_session.specs.Runs.{AnswersAll, AnswersWhatWasRead, AnswersFirstLines, AnswersFront, with_replies, ServesKnown};
 ghost use Rattle.ing_session.specs.Unread.{left, is_ended, progress};
 
 use crate::ending::Ending;
 use crate::lines::{Lines, MAX_LINE, NextLine, Part, found};
+use crate::output::put_out;
 use crate::session::Session;
 use ing_limits::Settings;
 use ing_store::StoreEnd;
@@ -26,7 +28,8 @@ const ENOUGH: usize = 65_536;
 /// before the run ends.
 ///
 /// `InputFault` where a read failed or the input took more than 2^40 reads, `NoMemory` where memory ran out: then what was
-/// answered before is written, and no report. `OutputFault` where a write failed. (Own.)
+/// answered before is written, and no report. `OutputFault` where a write failed: then a front of the answers is written, with
+/// the report behind them where the input was at its end, and nothing else. (Own.)
 pub fn run<R: Read, W: Write, S: StoreEnd>(
     alloc: Global,
     reader: &mut R,
@@ -35,8 +38,8 @@ pub fn run<R: Read, W: Write, S: StoreEnd>(
     settings: Settings,
 ) -> Result<(), Ending>
     requires one { settings.shards ≡ 1 }
-    // What is written is, line for line, what the model answers to the lines read, by how the uploads ended; and none failed
-    // without a cause.
+    // What is written is, line for line, what the model answers to the lines read, by how the uploads ended; and each that
+    // failed has a cause of its own.
     ensures output { OnOk result (IfSome (R.remaining reader.old) (λ input.
         AnswersAll S.is_honest settings input (S.failure_count end.old) (S.failure_count end.new)
         (W.contents writer.old) (W.contents writer.new))) }
@@ -47,16 +50,28 @@ pub fn run<R: Read, W: Write, S: StoreEnd>(
     ensures no_memory { IsErrOf result Ending.NoMemory → IfSome (R.remaining reader.old) (λ input.
         AnswersFirstLines S.is_honest settings input (S.failure_count end.old) (S.failure_count end.new)
         (W.contents writer.old) (W.contents writer.new)) }
+    ensures output_fault { IsErrOf result Ending.OutputFault →
+        IfSome (R.remaining reader.old) (λ input.
+        AnswersFront S.is_honest settings input (S.failure_count end.old) (S.failure_count end.new)
+        (W.contents writer.old) (W.contents writer.new)) }
     ensures end { GoesOn S.never_fails S.failure_count end.old end.new }
     ensures ending { IfErr result (λ e. IsTrue (is_of_run e)) }
 {
     let mut replies = Vec::new(alloc);
     let ended = answer_all(alloc, reader, writer, end, settings, &mut replies);
-    if let Err(Ending::OutputFault) = ended {
-        return ended;
+    if is_output_fault(&ended) {
+        return Err(Ending::OutputFault);
     }
     write_out(writer, &mut replies)?;
     ended
+}
+
+/// Whether a write has failed.
+fn is_output_fault(ended: &Result<(), Ending>) -> bool
+    ensures yes { result ≡ true → ended.now ≡ Err Ending.OutputFault }
+    ensures no { result ≡ false → ended.now ≢ Err Ending.OutputFault }
+{
+    matches!(ended, Err(Ending::OutputFault))
 }
 
 /// Answers all lines of the input, and makes the report. What it leaves in `replies` is still to be written.
@@ -80,6 +95,11 @@ fn answer_all<R: Read, W: Write, S: StoreEnd>(
     ensures no_memory { IsErrOf result Ending.NoMemory → IfSome (R.remaining reader.old) (λ input.
         AnswersFirstLines S.is_honest settings input (S.failure_count end.old) (S.failure_count end.new)
         (W.contents writer.old) (with_replies (W.contents writer.new) replies.new.items)) }
+    ensures output_fault { IsErrOf result Ending.OutputFault →
+        IfSome (R.remaining reader.old) (λ input.
+        AnswersFront S.is_honest settings input (S.failure_count end.old) (S.failure_count end.new)
+        (W.contents writer.old) (W.contents writer.new)) }
+    ensures grown { Grows (W.contents writer.old) (W.contents writer.new) }
     ensures end { GoesOn S.never_fails S.failure_count end.old end.new }
     ensures ending { IfErr result (λ e. IsTrue (is_of_run e)) }
 {
@@ -136,6 +156,15 @@ fn serve<R: Read, W: Write, S: StoreEnd>(
         (left lines.old (R.remaining reader.old)) →
         AnswersFirstLines S.is_honest settings input before (S.failure_count end.new) first
         (with_replies (W.contents writer.new) replies.new.items) }
+    ensures output_fault { IsErrOf result Ending.OutputFault →
+        (first : Option (List ℕ)) (before : ℕ) (settings : StoreSettings) (input : List ℕ) →
+        Grows first (W.contents writer.old) →
+        ServesKnown S.is_honest settings session.old input before (S.failure_count end.old) first
+        (with_replies (W.contents writer.old) replies.old.items) (is_ended lines.old)
+        (left lines.old (R.remaining reader.old)) →
+        AnswersFront S.is_honest settings input before (S.failure_count end.new)
+        first (W.contents writer.new) }
+    ensures grown { Grows (W.contents writer.old) (W.contents writer.new) }
     ensures progress { IfOk result (λ more. more ≡ true → progress lines.old < progress lines.new) }
     ensures end { GoesOn S.never_fails S.failure_count end.old end.new }
     ensures ending { IfErr result (λ e. IsTrue (is_of_run e)) }
@@ -177,6 +206,9 @@ fn next_line<R: Read, W: Write>(
     ensures fault { IsErrOf result Ending.InputFault → (is_ended lines.old ≡ false)
         × (read : List ℕ) × HasNoFeed read
         × Consumes (left lines.old (R.remaining reader.old)) (R.remaining reader.new) read }
+    ensures output_fault { IsErrOf result Ending.OutputFault →
+        AppendsFront (W.contents writer.old) (W.contents writer.new) replies.old.items }
+    ensures grown { Grows (W.contents writer.old) (W.contents writer.new) }
     // What is still held back is less than enough.
     ensures few { OnOk result (vec_len replies.new < ENOUGH) }
     ensures short { OnOk result (vec_len line.new ≤ MAX_LINE) }
@@ -184,9 +216,7 @@ fn next_line<R: Read, W: Write>(
         progress lines.old < progress lines.new) }
     ensures ending { IfErr result (λ e. IsTrue (is_of_run e)) }
 {
-    if replies.len() >= ENOUGH {
-        write_out(writer, replies)?;
-    }
+    write_enough(writer, replies)?;
     if lines.is_ended() {
         line.clear();
         return Ok(NextLine::End);
@@ -200,19 +230,40 @@ fn next_line<R: Read, W: Write>(
     }
 }
 
-/// Writes the replies that are held back, and flushes them. After an error some of them may be written.
+/// Writes out the replies that are held back where they are enough.
+fn write_enough<W: Write>(writer: &mut W, replies: &mut Vec<u8>) -> Result<(), Ending>
+    ensures held { OnOk result (Keeps (with_replies (W.contents writer.old) replies.old.items)
+        (with_replies (W.contents writer.new) replies.new.items)) }
+    ensures few { OnOk result (vec_len replies.new < ENOUGH) }
+    ensures front { OnErr result
+        (AppendsFront (W.contents writer.old) (W.contents writer.new) replies.old.items) }
+    ensures grown { Grows (W.contents writer.old) (W.contents writer.new) }
+    ensures ending { IfErr result (λ e. e ≡ Ending.OutputFault) }
+{
+    if replies.len() < ENOUGH {
+        return Ok(());
+    }
+    write_out(writer, replies)
+}
+
+/// Writes the replies that are held back, and flushes them. After an error a front of them is written, and nothing else.
 fn write_out<W: Write>(writer: &mut W, replies: &mut Vec<u8>) -> Result<(), Ending>
     ensures written { OnOk result
         (Appends (W.contents writer.old) (W.contents writer.new) replies.old.items) }
     ensures none { OnOk result (replies.new.items ≡ []) }
+    ensures front { OnErr result
+        (AppendsFront (W.contents writer.old) (W.contents writer.new) replies.old.items) }
+    ensures grown { Grows (W.contents writer.old) (W.contents writer.new) }
     ensures ending { IfErr result (λ e. e ≡ Ending.OutputFault) }
 {
     if replies.is_empty() {
         return Ok(());
     }
-    if writer.write_all(replies).is_err() || writer.flush().is_err() {
-        return Err(Ending::OutputFault);
+    match put_out(writer, replies) {
+        Ok(()) => {
+            replies.clear();
+            Ok(())
+        }
+        Err(_) => Err(Ending::OutputFault),
     }
-    replies.clear();
-    Ok(())
 }

@@ -1,6 +1,7 @@
 use Rattle.std.proofs.Common.{◌-◌, ◌^◌}
 use Rattle.std.specs.Prelude.{IfSome}
 use Rattle.ing_session.specs.Flushing.{GoesOn}
+use Rattle.ing_session.specs.Fronts.{Grows}
 use Rattle.ing_session.specs.Runs.{with_replies, ServesKnown}
 use Rattle.ing_session.specs.Unread.{left, is_ended, progress}
 use Rattle.ing_session.proofs.transport.answer_all.Given as goal
@@ -13,6 +14,7 @@ invariant-loop-line g l =
       served : IfSome (g.R.Read.remaining l.fn.reader) (λ input.
           ServesKnown g.S.StoreEnd.is_honest l.fn.settings l.session input (failures l.fn.end) (failures l.end) (g.W.Write.contents l.fn.writer) (with_replies (g.W.Write.contents l.writer) l.replies.items)
           (is_ended l.lines) (left l.lines (g.R.Read.remaining l.reader)));
+      grown : Grows (g.W.Write.contents l.fn.writer) (g.W.Write.contents l.writer);
       end : GoesOn g.S.StoreEnd.never_fails failures l.fn.end l.end;
     }
 

@@ -1,9 +1,9 @@
-use Rattle.std.proofs.Common.{◌≡◌, arith, subst}
+use Rattle.std.proofs.Common.{◌≡◌, ap, arith, subst, Err}
 use Rattle.std.proofs.lemmas.Result.{err_from_is_err_and}
 use Rattle.ing_session.specs.Runs.{Answers}
 use Rattle.ing_session.specs.Unread.{left, is_ended}
-use Rattle.ing_session.proofs.EndingsLaws.{no_output}
-use Rattle.ing_session.proofs.RunsLaws.{serves_line, serves_long, serves_end, stops, held_same}
+use Rattle.ing_session.proofs.EndingsLaws.{no_output, no_output_read, same_fault}
+use Rattle.ing_session.proofs.RunsLaws.{breaks, fails, serves_line, serves_long, serves_end, stops, held_same}
 use Rattle.ing_session.proofs.transport.serve.Goals as goal
 
 pub returns-in_err-next_line-clause-no_memory : goal.returns-in_err-next_line-clause-no_memory
@@ -68,3 +68,23 @@ returns-in_ok-report-in-End-clause-served g c = λ first start settings input se
     serves_end g.S.StoreEnd.is_honest settings c.args.session.now c.args.session.now input start failures failures first (contents c.args.writer.now) (contents c.next_line.new.writer) c.args.replies.now.items c.next_line.new.replies.items c.report.new.replies.items c.next_line.new.line.items
     (is_ended c.args.lines.now) (is_ended c.next_line.new.lines) (left c.args.lines.now (remaining c.args.reader.now)) (left c.next_line.new.lines (remaining c.next_line.new.reader)) serves
     (rw c.in-End.is at c.in_ok-next_line.ensures.line) c.in_ok-next_line.ensures.held c.in_ok-report-in-End.ensures.text
+
+-- a write failed
+pub returns-in_err-next_line-clause-output_fault : goal.returns-in_err-next_line-clause-output_fault
+returns-in_err-next_line-clause-output_fault g c = λ is first start settings input grown serves.
+    let contents = g.W.Write.contents in
+    let p = err_from_is_err_and c.from_residual.result c.from_residual.ensures.1 in
+    breaks g.S.StoreEnd.is_honest settings c.args.session.now input start (g.S.StoreEnd.failure_count c.args.end.now) first (contents c.args.writer.now) (contents c.next_line.new.writer) c.args.replies.now.items
+    (is_ended c.args.lines.now) (left c.args.lines.now (g.R.Read.remaining c.args.reader.now)) serves grown
+    (c.in_err-next_line.ensures.output_fault (ap (λ e. Err e) (same_fault _ _ _ _ p.1 p.2 is)))
+
+-- a read failed
+pub returns-in_err-next_line-clause-input_fault : goal.returns-in_err-next_line-clause-input_fault
+returns-in_err-next_line-clause-input_fault g c = λ is first start settings input serves.
+    let remaining = g.R.Read.remaining in
+    let failures = g.S.StoreEnd.failure_count c.args.end.now in
+    let p = err_from_is_err_and c.from_residual.result c.from_residual.ensures.1 in
+    let fault = same_fault _ _ _ _ p.1 p.2 is in
+    let read = c.in_err-next_line.ensures.fault (ap (λ e. Err e) fault) in
+    fails g.S.StoreEnd.is_honest settings c.args.session.now input start failures failures first _ (is_ended c.args.lines.now) (left c.args.lines.now (remaining c.args.reader.now)) (remaining c.next_line.new.reader) _ read.1 serves read.0 read.2 read.3
+    (c.in_err-next_line.ensures.kept (no_output_read _ fault))

@@ -1,9 +1,10 @@
-use Rattle.std.proofs.Common.{◌∙◌, [], ◌∷◌, ap, arith, inl, refl, subst}
+use Rattle.std.proofs.Common.{◌∙◌, [], ◌∷◌, ap, subst}
 use Rattle.ing_parts.specs.Answers.{IsAnswer}
 use Rattle.ing_query.specs.Answers.{wanted_in}
 use Rattle.ing_session.specs.Queries.{Given}
 use Rattle.ing_session.specs.Replies.{query_data}
 use Rattle.ing_session.specs.Views.{query_view}
+use Rattle.ing_session.proofs.CausesLaws.{same_count}
 use Rattle.ing_session.proofs.QueryLaws.{is_found, not_answered, obeys_query, one_wanted, risen}
 use Rattle.ing_session.proofs.session.Session.find.Goals as goal
 
@@ -15,7 +16,6 @@ returns-in-Ok-clause-obeyed g c = λ spelt usable old is_held.
     let snapshot = c.in_ok-snapshot.snapshot in
     let read = c.in_ok-snapshot.ensures in
     let failures = g.S.StoreEnd.failure_count in
-    let same = c.in-Ok.ensures.count in
     obeys_query g.S.StoreEnd.is_honest c.args.self.now.shard.settings query c.args.self.now old (Given found) (failures c.args.end.now) (failures c.run_query.new.end)
     (query_data found (snapshot.front ∷ [])) is_held (
       record { ms = c.args.selector.now; spelt = spelt; usable = usable },
@@ -24,7 +24,7 @@ returns-in-Ok-clause-obeyed g c = λ spelt usable old is_held.
           (subst (λ l. IsAnswer query.order query.limit l found) (ap wanted_in c.in_ok-snapshots.ensures.items ∙ one_wanted snapshot) (c.in-Ok.ensures.answer honest)),
     )
     (ap (λ n. query_data found (n ∷ [])) (read.front old.state is_held.state))
-    (omega (arith, same), inl refl)
+    (same_count (failures c.args.end.now) (failures c.run_query.new.end) c.in-Ok.ensures.count)
 
 -- the store does not let it be answered
 pub returns-in-Err-clause-obeyed : goal.returns-in-Err-clause-obeyed

@@ -1,9 +1,10 @@
-use Rattle.std.proofs.Common.{◌≡◌, ◌≢◌, ◌∙◌, Some, ap, arith, false, inl, refl, sym, true}
+use Rattle.std.proofs.Common.{◌≡◌, ◌≢◌, ◌∙◌, Some, ap, false, refl, sym, true}
 use Rattle.std.specs.Prelude.{slice_get}
 use Rattle.ing_limits.specs.Ranges.{rules_for}
 use Rattle.ing_store.specs.declared.fault.StoreFault.TheVariants.{NoMemory}
 use Rattle.ing_shard.specs.Flights.{key_in}
 use Rattle.ing_session.specs.Flushing.{GaveBack, Stored}
+use Rattle.ing_session.proofs.CausesLaws.{same_count}
 use Rattle.ing_session.proofs.FlushingLaws.{ends_back, ends_stored, failed_cause}
 use Rattle.ing_session.proofs.session.Session.upload.Goals as goal
 
@@ -16,8 +17,7 @@ returns-in-Ok-finish-clause-ended g c =
     let step = rw c.in-Some.is at c.in_ok-ticket.ensures.step in
     let is : slice_get old.listed c.args.op.stream ≡ Some (key_in x) =
     ap (slice_get old.listed) (sym flies.0) ∙ ap (λ l. slice_get l x.stream) (sym c.in_ok-ticket.ensures.listed) ∙ flies.1.1.stream in
-    let same = c.in-Ok.ensures.count in
-    (Stored x, ends_stored (rules_for old.settings) _ x old.state c.claim.new.self.state c.finish.new.self.state is step c.in-Ok-finish.ensures.step, refl, refl, (omega (arith, same), inl refl))
+    (Stored x, ends_stored (rules_for old.settings) _ x old.state c.claim.new.self.state c.finish.new.self.state is step c.in-Ok-finish.ensures.step, refl, refl, same_count _ _ c.in-Ok.ensures.count)
 
 -- the upload failed
 pub returns-else-eq-clause-ended : goal.returns-else-eq-clause-ended

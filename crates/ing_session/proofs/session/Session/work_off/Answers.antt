@@ -3,7 +3,7 @@ use Rattle.std.proofs.lemmas.List.{take_all}
 use Rattle.ing_limits.specs.Ranges.{rules_for}
 use Rattle.ing_session.specs.Flushing.{EndSo, failed_among, failed_by}
 use Rattle.ing_session.proofs.FlushingLaws.{at_most_one, end_from, end_next, failed_more, goes_on, stored_more}
-use Rattle.ing_session.proofs.RunsLaws.{causes_more}
+use Rattle.ing_session.proofs.CausesLaws.{causes_more}
 use Rattle.ing_session.proofs.session.Session.work_off.Goals as goal
 
 -- one operation more has ended

@@ -1,0 +1,26 @@
+-- Failures that were answered, and the failures that a store end has counted.
+use Rattle.std.proofs.Common.{◌≡◌, ℕ, ◌+◌, ◌≤◌, arith, inl, inr}
+use Rattle.ing_store.specs.StoreFaults.{HasFailed}
+use Rattle.ing_session.specs.Flushing.{HaveCause}
+
+pub no_failure : (n : ℕ) → HaveCause n n 0
+no_failure n = (omega arith, inl (omega arith))
+
+-- a count that stays has no failure to account for
+pub same_count : (before after : ℕ) → after ≡ before → HaveCause before after 0
+same_count before after same = (omega (arith, same), inl (omega (arith, same)))
+
+-- an end that has failed accounts for one failure
+pub one_failure : (before after : ℕ) → before ≤ after → HasFailed before after → HaveCause before after 1
+one_failure before after risen (inl less) = (risen, inl (omega (arith, less)))
+one_failure before after risen (inr last) = (risen, inr (omega (arith, risen, last)))
+
+pub causes_on : (a b c n : ℕ) → HaveCause a b n → b ≤ c → HaveCause a c n
+causes_on a b c n (risen, inl counted) le = (omega (arith, risen, le), inl (omega (arith, counted, le)))
+causes_on a b c n (risen, inr last) le = (omega (arith, risen, le), inr (omega (arith, last, le)))
+
+-- causes of failures and of those after them
+pub causes_more : (a b c n m : ℕ) → HaveCause a b n → HaveCause b c m → HaveCause a c (n + m)
+causes_more a b c n m (risen, inl counted) (more, inl next) = (omega (arith, risen, more), inl (omega (arith, counted, next)))
+causes_more a b c n m (risen, inl counted) (more, inr last) = (omega (arith, risen, more), inr last)
+causes_more a b c n m (risen, inr last) (more, next) = (omega (arith, risen, more), inr (omega (arith, last, more)))
