@@ -1,11 +1,12 @@
 //! Entries of one stream whose lines stay in bytes, offered to the best.
 ghost use Rattle.std.specs.Prelude.{◌≡◌, ℕ, List, ◌∷◌, [], IfOk, OnOk, true, false};
-ghost use Rattle.ing_chunk.specs.Chunks.{in_blocks, is_between};
+ghost use Rattle.ing_chunk.specs.Chunks.{AreInOrder, in_blocks, is_between};
 ghost use Rattle.ing_parts.specs.Answers.{Offers};
 ghost use Rattle.ing_parts.specs.Parts.{found_between, found_of};
 
+use ing_chunk::stamps_rise;
 use ing_codec::{LentBlock, LentEntry};
-use ing_parts::{Best, Found, Order, StreamName, offers_of_streams};
+use ing_parts::{Best, Found, Order, StreamName, offers_join, offers_of_streams};
 use std::alloc::{AllocError, Global};
 
 /// What a query gives of an entry, with a copy of its line.
@@ -54,7 +55,8 @@ fn offer_one(
     Ok(())
 }
 
-/// Offers copies of those whose stamp is in the range, the last one first.
+/// Offers copies of those of a block whose stamp is in the range, the last one first: none is looked at before the last that may
+/// not be kept.
 fn offer_from_last(
     best: &mut Best,
     alloc: Global,
@@ -63,17 +65,25 @@ fn offer_from_last(
     start: u64,
     end: u64,
 ) -> Result<(), AllocError>
+    requires backward { best.old.order ≡ Order.Backward }
+    requires ordered { AreInOrder entries.now }
     ensures { OnOk result
         (Offers (found_between name.now start end entries.now) best.old best.new) }
 {
+    offers_join();
     offers_of_streams();
+    stamps_rise();
     for index in (0..entries.len()).rev() {
-        offer_one(best, alloc, name, &entries[index], start, end)?;
+        let lent = &entries[index];
+        if best.bars(lent.stamp().nanoseconds()) {
+            return Ok(());
+        }
+        offer_one(best, alloc, name, lent, start, end)?;
     }
     Ok(())
 }
 
-/// Offers copies of those whose stamp is in the range, the first one first.
+/// The same, the first one first: none is looked at behind the first that may not be kept.
 fn offer_from_first(
     best: &mut Best,
     alloc: Global,
@@ -82,17 +92,24 @@ fn offer_from_first(
     start: u64,
     end: u64,
 ) -> Result<(), AllocError>
+    requires forward { best.old.order ≡ Order.Forward }
+    requires ordered { AreInOrder entries.now }
     ensures { OnOk result
         (Offers (found_between name.now start end entries.now) best.old best.new) }
 {
+    offers_join();
     offers_of_streams();
+    stamps_rise();
     for lent in entries {
+        if best.bars(lent.stamp().nanoseconds()) {
+            return Ok(());
+        }
         offer_one(best, alloc, name, lent, start, end)?;
     }
     Ok(())
 }
 
-/// Offers copies of those whose stamp is in the range, that which an answer has first before the others.
+/// Offers copies of those of a block whose stamp is in the range, that which an answer has first before the others.
 fn offer_entries(
     best: &mut Best,
     alloc: Global,
@@ -101,6 +118,7 @@ fn offer_entries(
     start: u64,
     end: u64,
 ) -> Result<(), AllocError>
+    requires ordered { AreInOrder entries.now }
     ensures { OnOk result
         (Offers (found_between name.now start end entries.now) best.old best.new) }
 {
