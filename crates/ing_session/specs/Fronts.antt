@@ -9,7 +9,7 @@ pub record AppendsFront (old new : Option (List ℕ)) (text : List ℕ) : Type 0
   pub whole : front ++ rest ≡ text
   pub added : Appends old new front
 
--- known bytes stay at the front of what is known
+-- known bytes stay, and others may stand behind them
 pub record Grows (old new : Option (List ℕ)) : Type 0 where
   pub more : List ℕ
   pub added : Appends old new more
