@@ -3,7 +3,7 @@
 program = crates/ingestd/out/ingestd
 postings_figures = crates/bench_postings/out/bench_postings
 codec_figures = crates/bench_codec/out/bench_codec
-worlds_by_lot = crates/ing_worlds/out/ing_worlds
+worlds_by_lot = crates/test_worlds/out/test_worlds
 sources = crates.txt $(shell find crates -name out -prune -o \( -name '*.rt' -o -name '*.antt' \) -print)
 
 help:
@@ -43,10 +43,10 @@ mutants:
 # case.
 documents:
 	@for example in examples/*.jsonl; do \
-	  cmp "$$example" "crates/ing_cases/data/example_$$(basename "$$example" .jsonl)/input.jsonl" || exit 1; \
+	  cmp "$$example" "crates/test_cases/data/example_$$(basename "$$example" .jsonl)/input.jsonl" || exit 1; \
 	done
-	@cmp examples/settings.toml crates/ing_cases/data/example_first_push/settings.toml
-	@for page in crates/ing_cases/data/*/document; do \
+	@cmp examples/settings.toml crates/test_cases/data/example_first_push/settings.toml
+	@for page in crates/test_cases/data/*/document; do \
 	  folder=$${page%/document}; \
 	  for file in settings.toml input.jsonl output.jsonl; do \
 	    [ ! -e "$$folder/$$file" ] || sed '/^$$/d; s/^/    /' "$$folder/$$file" | while IFS= read -r line || [ -n "$$line" ]; do \
@@ -72,5 +72,5 @@ worlds: $(worlds_by_lot)
 	@$(worlds_by_lot) 10000
 
 $(worlds_by_lot): $(sources)
-	@scripts/build.sh ing_worlds 1
+	@scripts/build.sh test_worlds 1
 	@touch $@

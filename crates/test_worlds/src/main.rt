@@ -1,4 +1,4 @@
-//! Worlds by lot: lists of events, run through `run_world` and through a slow program beside it. `ing_worlds LISTS` compares
+//! Worlds by lot: lists of events, run through `run_world` and through a slow program beside it. `test_worlds LISTS` compares
 //! every reply and the gauges in the end, and for ten lists the gauges after each event too. It prints how often each event and each
 //! reply was met. Where they differ it prints the shortest list that it found, and fails.
 #![tactic(auto)]
