@@ -37,12 +37,11 @@ pub fn chunk_told(alloc: Global, bytes: &[u8]) -> Result<String> {
 
 /// The last entry of the last block: its number, its stamp and its line.
 fn last_told(alloc: Global, chunk: &LentChunk<'_>) -> Result<String> {
-    let Some(last) = chunk
-        .blocks()
-        .last()
-        .and_then(|block| block.entries().last())
-    else {
-        bail!("a chunk without entries");
+    let Some(block) = chunk.blocks().last() else {
+        bail!("a chunk without blocks");
+    };
+    let Some(last) = block.entries().last() else {
+        bail!("a block without entries");
     };
     Ok(format!(in alloc;
         "{} at {} {:?}",
