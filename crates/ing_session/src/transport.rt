@@ -23,9 +23,9 @@ use std::io::{Read, Write};
 const ENOUGH: usize = 65_536;
 
 /// Reads commands line by line, answers each in a line, and writes a report at the end of input; flushes put into the store
-/// by `end`. The settings are of one shard. Replies are held back while they have fewer than 64 KiB together and a whole further line is at hand: so the
-/// memory that they take does not grow with the lines that are read ahead. They are written out before anything is read, and
-/// before the run ends.
+/// by `end`. The settings are of one shard. Replies are held back while they have fewer than 64 KiB together and a whole
+/// further line is at hand: so the memory that they take does not grow with the lines that are read ahead. They are written
+/// out before anything is read, and before the run ends.
 ///
 /// `InputFault` where a read failed or the input took more than 2^40 reads, `NoMemory` where memory ran out: then what was
 /// answered before is written, and no report. `OutputFault` where a write failed: then a front of the answers is written, with

@@ -17,7 +17,7 @@ pub enum LineFault {
     Metadata,
     /// The tenant is no tenant id.
     BadTenant,
-    /// The time of the command or that of a value is no stamp.
+    /// The time of the command, that of a value, or a bound of a query is no stamp.
     BadStamp,
 }
 
