@@ -1,6 +1,6 @@
 mod ExtentLaws
 mod FoundLaws
-mod JoinLaws
+pub mod JoinLaws
 mod KeptLaws
 pub mod PutLaws
 mod SlotLaws

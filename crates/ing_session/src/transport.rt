@@ -103,19 +103,68 @@ fn answer_all<R: Read, W: Write, S: StoreEnd>(
     ensures end { GoesOn S.never_fails S.failure_count end.old end.new }
     ensures ending { IfErr result (λ e. IsTrue (is_of_run e)) }
 {
-    let mut session = Session::new(alloc, settings)?;
     let mut lines = Lines::new(alloc)?;
+    let mut session = Session::new(alloc, settings)?;
+    let ended = answer_lines(
+        alloc,
+        reader,
+        writer,
+        end,
+        &mut lines,
+        &mut session,
+        replies,
+    );
+    session.put_away();
+    ended
+}
+
+/// Answers line after line, until there is none.
+fn answer_lines<R: Read, W: Write, S: StoreEnd>(
+    alloc: Global,
+    reader: &mut R,
+    writer: &mut W,
+    end: &mut S,
+    lines: &mut Lines,
+    session: &mut Session<S::Receipt>,
+    replies: &mut Vec<u8>,
+) -> Result<(), Ending>
+    // From whatever lines are answered so far.
+    ensures output { OnOk result ((settings : StoreSettings) (input : List ℕ) →
+        ServesKnown S.is_honest settings session.old input
+        (S.failure_count end.old) (S.failure_count end.old) (W.contents writer.old)
+        (with_replies (W.contents writer.old) replies.old.items) (is_ended lines.old)
+        (left lines.old (R.remaining reader.old)) →
+        AnswersAll S.is_honest settings input (S.failure_count end.old) (S.failure_count end.new)
+        (W.contents writer.old) (with_replies (W.contents writer.new) replies.new.items)) }
+    ensures input_fault { IsErrOf result Ending.InputFault → (settings : StoreSettings) (input : List ℕ) →
+        ServesKnown S.is_honest settings session.old input
+        (S.failure_count end.old) (S.failure_count end.old) (W.contents writer.old)
+        (with_replies (W.contents writer.old) replies.old.items) (is_ended lines.old)
+        (left lines.old (R.remaining reader.old)) →
+        AnswersWhatWasRead S.is_honest settings input (R.remaining reader.new)
+        (S.failure_count end.old) (S.failure_count end.new)
+        (W.contents writer.old) (with_replies (W.contents writer.new) replies.new.items) }
+    ensures no_memory { IsErrOf result Ending.NoMemory → (settings : StoreSettings) (input : List ℕ) →
+        ServesKnown S.is_honest settings session.old input
+        (S.failure_count end.old) (S.failure_count end.old) (W.contents writer.old)
+        (with_replies (W.contents writer.old) replies.old.items) (is_ended lines.old)
+        (left lines.old (R.remaining reader.old)) →
+        AnswersFirstLines S.is_honest settings input (S.failure_count end.old) (S.failure_count end.new)
+        (W.contents writer.old) (with_replies (W.contents writer.new) replies.new.items) }
+    ensures output_fault { IsErrOf result Ending.OutputFault → (settings : StoreSettings) (input : List ℕ) →
+        ServesKnown S.is_honest settings session.old input
+        (S.failure_count end.old) (S.failure_count end.old) (W.contents writer.old)
+        (with_replies (W.contents writer.old) replies.old.items) (is_ended lines.old)
+        (left lines.old (R.remaining reader.old)) →
+        AnswersFront S.is_honest settings input (S.failure_count end.old) (S.failure_count end.new)
+        (W.contents writer.old) (W.contents writer.new) }
+    ensures grown { Grows (W.contents writer.old) (W.contents writer.new) }
+    ensures end { GoesOn S.never_fails S.failure_count end.old end.new }
+    ensures ending { IfErr result (λ e. IsTrue (is_of_run e)) }
+{
     let mut line = Vec::new(alloc);
     loop {
-        if !serve(
-            reader,
-            writer,
-            end,
-            &mut lines,
-            &mut line,
-            &mut session,
-            replies,
-        )? {
+        if !serve(reader, writer, end, lines, &mut line, session, replies)? {
             return Ok(());
         }
     }

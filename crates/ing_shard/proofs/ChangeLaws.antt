@@ -18,7 +18,7 @@ use Rattle.ing_shard.proofs.TakeLaws.{sums_fit, changed_own}
 use Rattle.ing_shard.proofs.WholeLaws.{AreOthers}
 
 -- what is stored of a stream is told by the chunks that were claimed
-stored_of : (st : Stream) → (measure_of st).stored_entries ≡ (gauge_at is_stored st.chunks.sealed).entries
+pub stored_of : (st : Stream) → (measure_of st).stored_entries ≡ (gauge_at is_stored st.chunks.sealed).entries
 stored_of st = ap (λ g. g.entries) (gauge_claimed is_stored refl refl (key_of st) st.chunks.memory st.chunks.sealed)
 
 pub stored_same : (st now : Stream) → now.chunks.sealed ≡ st.chunks.sealed → (measure_of now).stored_entries ≡ (measure_of st).stored_entries

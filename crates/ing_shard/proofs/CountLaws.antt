@@ -150,7 +150,7 @@ streams_total (st ∷ sts) kept =
     ∙ (λ i. part_first st (All-head IsKept st sts kept) i + streams_total sts (All-tail IsKept st sts kept) i)
     ∙ sym (count_split (λ o. nat_lt 0 o.chunks.memory.next) [] st sts)
 
-own_rows : (st : Stream) (p : Row → Bool) → filter (λ r. bytes_eq r.stream.tenant st.tenant && p r) (part_of st).rows ≡ filter p (part_of st).rows
+pub own_rows : (st : Stream) (p : Row → Bool) → filter (λ r. bytes_eq r.stream.tenant st.tenant && p r) (part_of st).rows ≡ filter p (part_of st).rows
 own_rows st p = part_under st st.tenant p ∙ ap (λ b. cond b (filter p (part_of st).rows) []) ((bytes_eq-Decides st.tenant st.tenant).1 refl)
 
 -- a tenant's entries in one kind of place

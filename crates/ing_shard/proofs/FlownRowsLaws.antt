@@ -93,8 +93,8 @@ rows_among f i chunk s xs stands (st ∷ sts) (suc n) most named listed =
 
 -- a chunk that is in flight
 pub flies_as : {T : Type 0} (taken : Slab T) (sts : List Stream) (f : Flown) → AreApart taken sts → FliesAmong f sts → FliesAs f (whole sts)
-flies_as taken sts f apart at =
+flies_as taken sts f apart (n, i, at) =
     let rows = slot_rows (key_in f) (slot_at (Flight f.flight) f.chunk) in
     subst (λ l. IsPermutation l rows)
-    (sym (rows_among f.flight f.index f.chunk (key_in f) at.slots at.stands sts f.stream (one_flight taken sts f.flight apart) at.stream at.listed))
+    (sym (rows_among f.flight i f.chunk (key_in f) at.slots at.stands sts n (one_flight taken sts f.flight apart) at.stream at.listed))
     (IsPermutation-refl rows)

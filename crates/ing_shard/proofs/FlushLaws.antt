@@ -9,7 +9,9 @@ use Rattle.std.proofs.lemmas.Option.{same_Some, slice_get-get_or, slice_get-map,
 use Rattle.ing_rows.specs.Rows.{StreamKey, is_stored}
 use Rattle.ing_rows.specs.Steps.{Claims}
 use Rattle.ing_shard.specs.OneStream.{Stream}
-use Rattle.ing_shard.specs.Flights.{AreApart, Flown, IsAt, IsIn, flights_among, flights_in, key_in}
+use Rattle.ing_rows.specs.declared.place.Place.TheVariants.{Flight}
+use Rattle.ing_sealed.specs.Slots.{slot_at}
+use Rattle.ing_shard.specs.Flights.{AreApart, Flown, IsAt, flights_among, flights_in, key_in}
 use Rattle.ing_shard.specs.declared.streams.Streams.{Streams}
 use Rattle.ing_shard.specs.declared.tenants.TenantKept.{TenantKept}
 use Rattle.ing_shard.specs.Streams.{key_of, slots_of, whole, AreHeld, CanSettle, FliesAt, Stays, measure_of}
@@ -74,29 +76,25 @@ module _ {R : Type 0} (old : Streams R) {i : ℕ} {st now : Stream} {m : TenantK
 -- ---- where a claimed chunk stands
 
 -- the stream of a claimed chunk, which is in flight in it
-pub record Standing (f : Flown) (sts : List Stream) (i : ℕ) (st : Stream) : Type 0 where
+pub record Standing (f : Flown) (index : ℕ) (sts : List Stream) (i : ℕ) (st : Stream) : Type 0 where
   pub split : Around sts i st
-  pub here : IsIn f st
+  pub stands : slice_get st.chunks.sealed index ≡ Some (slot_at (Flight f.flight) f.chunk)
   pub key : key_of st ≡ key_in f
 
-at_below : (f : Flown) (sts : List Stream) → IsAt f (map key_of sts) (map slots_of sts) → f.stream < length sts
-at_below f sts at = subst (λ n. f.stream < n) (length-map sts key_of) (slice_get_within (map key_of sts) f.stream (key_in f) at.stream)
+pub at_below : (f : Flown) (index : ℕ) (sts : List Stream) (i : ℕ) → IsAt f i index (map key_of sts) (map slots_of sts) → i < length sts
+at_below f index sts i at = subst (λ n. i < n) (length-map sts key_of) (slice_get_within (map key_of sts) i (key_in f) at.stream)
 
-pub standing : (f : Flown) (sts : List Stream) (i : ℕ) (st : Stream) → IsAt f (map key_of sts) (map slots_of sts) → i ≡ f.stream → st ≡ get_or sts i st → Standing f sts i st
-standing f sts i st at is read =
-    let below : i < length sts = subst (λ n. n < length sts) (sym is) (at_below f sts at) in
+pub standing : (f : Flown) (index : ℕ) (sts : List Stream) (i : ℕ) (st : Stream) → IsAt f i index (map key_of sts) (map slots_of sts) → st ≡ get_or sts i st → Standing f index sts i st
+standing f index sts i st at read =
+    let below : i < length sts = at_below f index sts i at in
     let listed : slice_get sts i ≡ Some st = slice_get-get_or sts i st below ∙ ap Some (sym read) in
     let key : key_of st ≡ key_in f =
-    same_Some (key_of st) (key_in f) (sym (ap (option_map key_of) listed) ∙ sym (slice_get-map key_of sts i) ∙ ap (slice_get (map key_of sts)) is ∙ at.stream) in
+    same_Some (key_of st) (key_in f) (sym (ap (option_map key_of) listed) ∙ sym (slice_get-map key_of sts i) ∙ at.stream) in
     let slots : st.chunks.sealed ≡ at.slots =
-    same_Some st.chunks.sealed at.slots (sym (ap (option_map slots_of) listed) ∙ sym (slice_get-map slots_of sts i) ∙ ap (slice_get (map slots_of sts)) is ∙ at.listed) in
+    same_Some st.chunks.sealed at.slots (sym (ap (option_map slots_of) listed) ∙ sym (slice_get-map slots_of sts i) ∙ at.listed) in
     record {
       split = around sts i st below read;
-      here = record {
-        tenant = ap (λ k. k.tenant) key;
-        name = ap (λ k. k.name) key;
-        stands = ap (λ xs. slice_get xs f.index) slots ∙ at.stands;
-      };
+      stands = ap (λ xs. slice_get xs index) slots ∙ at.stands;
       key = key;
     }
 
@@ -132,15 +130,15 @@ now_here sts i st now split =
     ∙ ap Some ((λ j. get_or (written j) (sym at j) now) ∙ get_or-append_seam split.front now split.back now)
 
 -- a chunk that was put in flight is in flight there
-pub flown_at : (f : Flown) (olds news : List Stream) → FliesAt f.stream f.flight f.index f.chunk olds news
-    → (st : Stream) → slice_get olds f.stream ≡ Some st → key_in f ≡ key_of st
-    → IsAt f (map key_of news) (map slots_of news) × Claims (key_in f) f.chunk.first f.flight (whole olds) (whole news)
-flown_at f olds news flies st read key =
+pub flown_at : (f : Flown) (n index : ℕ) (olds news : List Stream) → FliesAt n f.flight index f.chunk olds news
+    → (st : Stream) → slice_get olds n ≡ Some st → key_in f ≡ key_of st
+    → IsAt f n index (map key_of news) (map slots_of news) × Claims (key_in f) f.chunk.first f.flight (whole olds) (whole news)
+flown_at f n index olds news flies st read key =
     let same : key_in f ≡ key_of flies.st = key ∙ ap key_of (same_Some st flies.st (sym read ∙ flies.was)) in (
       record {
-        stream = slice_get-map key_of news f.stream ∙ ap (option_map key_of) flies.is ∙ ap Some (flies.key ∙ sym same);
+        stream = slice_get-map key_of news n ∙ ap (option_map key_of) flies.is ∙ ap Some (flies.key ∙ sym same);
         slots = flies.now.chunks.sealed;
-        listed = slice_get-map slots_of news f.stream ∙ ap (option_map slots_of) flies.is;
+        listed = slice_get-map slots_of news n ∙ ap (option_map slots_of) flies.is;
         stands = flies.stands;
       },
       subst (λ s. Claims s f.chunk.first f.flight (whole olds) (whole news)) (sym same) flies.claims,

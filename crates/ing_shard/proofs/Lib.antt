@@ -1,4 +1,5 @@
 mod Alike
+mod BookLaws
 mod ChangeLaws
 mod CountLaws
 mod FlightLaws
@@ -8,6 +9,7 @@ mod HeldLaws
 mod JudgeLaws
 mod ListedLaws
 mod LiveLaws
+mod LocateLaws
 mod NameLaws
 mod OnceLaws
 mod OwnLaws

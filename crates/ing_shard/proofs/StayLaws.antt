@@ -16,13 +16,13 @@ use Rattle.ing_shard.proofs.FlightLaws.{flies_here}
 -- ---- the same chunks, and one more stream
 
 pub stay_same : (olds news : List Stream) → map key_of news ≡ map key_of olds → map slots_of news ≡ map slots_of olds → StayAmong olds news
-stay_same olds news keys sealed f at =
-    record {
-      stream = ap (λ l. slice_get l f.stream) keys ∙ at.stream;
+stay_same olds news keys sealed f (n, i, at) =
+    (n, i, record {
+      stream = ap (λ l. slice_get l n) keys ∙ at.stream;
       slots = at.slots;
-      listed = ap (λ l. slice_get l f.stream) sealed ∙ at.listed;
+      listed = ap (λ l. slice_get l n) sealed ∙ at.listed;
       stands = at.stands;
-    }
+    })
 
 read_front : {X : Type 0} (xs ys : List X) (i : ℕ) (y : X) → slice_get xs i ≡ Some y → slice_get (xs ++ ys) i ≡ Some y
 read_front [] ys i y is = absurd (cc)
@@ -31,13 +31,13 @@ read_front (x ∷ xs) ys (suc i) y is = read_front xs ys i y is
 
 pub stay_more : (olds news : List Stream) (s : StreamKey) → map key_of news ≡ map key_of olds ++ s ∷ []
     → map slots_of news ≡ map slots_of olds ++ [] ∷ [] → StayAmong olds news
-stay_more olds news s keys sealed f at =
-    record {
-      stream = ap (λ l. slice_get l f.stream) keys ∙ read_front (map key_of olds) (s ∷ []) f.stream (key_in f) at.stream;
+stay_more olds news s keys sealed f (n, i, at) =
+    (n, i, record {
+      stream = ap (λ l. slice_get l n) keys ∙ read_front (map key_of olds) (s ∷ []) n (key_in f) at.stream;
       slots = at.slots;
-      listed = ap (λ l. slice_get l f.stream) sealed ∙ read_front (map slots_of olds) ([] ∷ []) f.stream at.slots at.listed;
+      listed = ap (λ l. slice_get l n) sealed ∙ read_front (map slots_of olds) ([] ∷ []) n at.slots at.listed;
       stands = at.stands;
-    }
+    })
 
 -- where one is listed, or nothing is
 pub stay_begun : {T E : Type 0} (r : Result T E) (olds news : List Stream) (s : StreamKey)
@@ -72,28 +72,28 @@ read_changed Q same (o ∷ front) st now back (suc n) xs stay is =
 
 -- a claimed chunk of one of them is where it was, or where it is now
 at_changed : (Q : List Slot → List Slot → Type 0) → ((xs : List Slot) → Q xs xs) → (front : List Stream) (st now : Stream) (back : List Stream) → key_of now ≡ key_of st
-    → Q st.chunks.sealed now.chunks.sealed → (f : Flown) → ((xs ys : List Slot) → Q xs ys → slice_get xs f.index ≡ Some (slot_at (Flight f.flight) f.chunk) → slice_get ys f.index ≡ Some (slot_at (Flight f.flight) f.chunk))
+    → Q st.chunks.sealed now.chunks.sealed → (f : Flown) → ((xs ys : List Slot) (i : ℕ) → Q xs ys → slice_get xs i ≡ Some (slot_at (Flight f.flight) f.chunk) → slice_get ys i ≡ Some (slot_at (Flight f.flight) f.chunk))
     → FliesAmong f (front ++ st ∷ back) → FliesAmong f (front ++ now ∷ back)
-at_changed Q same front st now back key stay f go at =
-    let read = read_changed Q same front st now back f.stream at.slots stay at.listed in
-    record {
-      stream = ap (λ l. slice_get l f.stream) (map_same key_of front st now back key) ∙ at.stream;
+at_changed Q same front st now back key stay f go (n, i, at) =
+    let read = read_changed Q same front st now back n at.slots stay at.listed in
+    (n, i, record {
+      stream = ap (λ l. slice_get l n) (map_same key_of front st now back key) ∙ at.stream;
       slots = read.slots;
       listed = read.listed;
-      stands = go at.slots read.slots read.stay at.stands;
-    }
+      stands = go at.slots read.slots i read.stay at.stands;
+    })
 
 pub stay_changed : (front : List Stream) (st now : Stream) (back : List Stream) → key_of now ≡ key_of st
     → StayInFlight st.chunks.sealed now.chunks.sealed → StayAmong (front ++ st ∷ back) (front ++ now ∷ back)
 stay_changed front st now back key stay f at =
-    at_changed StayInFlight (λ xs i g chunk is. is) front st now back key stay f (λ xs ys go. go f.index f.flight f.chunk) at
+    at_changed StayInFlight (λ xs i g chunk is. is) front st now back key stay f (λ xs ys i go. go i f.flight f.chunk) at
 
 pub others_changed : (flight : ℕ) (front : List Stream) (st now : Stream) (back : List Stream) → key_of now ≡ key_of st
     → OthersStayInFlight flight st.chunks.sealed now.chunks.sealed
     → OthersStayAmong flight (front ++ st ∷ back) (front ++ now ∷ back)
 others_changed flight front st now back key stay f other at =
     at_changed (OthersStayInFlight flight) (λ xs i g chunk away is. is) front st now back key stay f
-    (λ xs ys go. go f.index f.flight f.chunk other) at
+    (λ xs ys i go. go i f.flight f.chunk other) at
 
 -- ---- numbers of flights
 
@@ -112,6 +112,6 @@ counted_among f i chunk xs stands (st ∷ sts) (suc n) is =
 -- no chunk in flight has a number that is free
 pub other_number : (flight : ℕ) (sts : List Stream) → flights_among flight sts ≡ 0
     → (f : Flown) → FliesAmong f sts → f.flight ≢ flight
-other_number flight sts none f at same =
-    let some = subst (λ k. 0 < flights_among k sts) same (counted_among f.flight f.index f.chunk at.slots at.stands sts f.stream at.listed) in
+other_number flight sts none f (n, i, at) same =
+    let some = subst (λ k. 0 < flights_among k sts) same (counted_among f.flight i f.chunk at.slots at.stands sts n at.listed) in
     omega (arith, none, some)

@@ -7,7 +7,7 @@ use Rattle.ing_labels.specs.Labels.{LabelMap}
 use Rattle.ing_labels.specs.Canonical.{canonical_of}
 use Rattle.ing_rows.specs.declared.place.Place.TheVariants.{Flight}
 use Rattle.ing_rows.specs.Rows.{StreamKey, Row, State, is_flight}
-use Rattle.ing_chunk.specs.Chunks.{ChunkContents, block_rows}
+use Rattle.ing_chunk.specs.Chunks.{ChunkContents, block_rows, in_blocks}
 use Rattle.ing_codec.specs.ChunkObjects.{ChunkObject, chunk_text}
 use Rattle.ing_codec.specs.ChunkReading.{chunk_object}
 use Rattle.ing_codec.specs.ObjectNames.{chunk_name, row_name}
@@ -19,12 +19,9 @@ use Rattle.ing_stream.specs.Contents.{flights_of}
 use Rattle.ing_shard.specs.Contents.{Contents, stream_of}
 use Rattle.ing_shard.specs.OneStream.{Stream}
 
--- A claimed chunk: its shard and its stream by number, its index among the stream's sealed chunks, the number of its flight,
--- whose stream it is of, and the chunk.
+-- A claimed chunk: its shard by number, the number of its flight, whose stream it is of, and the chunk.
 pub record Flown : Type 0 where
   pub shard : ℕ
-  pub stream : ℕ
-  pub index : ℕ
   pub flight : ℕ
   pub tenant : List ℕ
   pub labels : LabelMap
@@ -38,22 +35,24 @@ key_in f = stream_of f.tenant f.labels
 abbrev pub object_in : Flown → ChunkObject
 object_in f = chunk_object f.tenant (canonical_of f.labels) f.chunk.first f.chunk.blocks
 
--- it is in flight among the sealed chunks of this stream
-pub record IsIn (f : Flown) (st : Stream) : Type 0 where
-  pub tenant : st.tenant ≡ f.tenant
-  pub name : canonical_of st.labels ≡ canonical_of f.labels
-  pub stands : slice_get st.chunks.sealed f.index ≡ Some (slot_at (Flight f.flight) f.chunk)
+-- how many entries it has
+abbrev pub entries_in : Flown → ℕ
+entries_in f = length (in_blocks f.chunk.blocks)
 
--- it is in flight among these sealed chunks of these streams
-pub record IsAt (f : Flown) (keys : List StreamKey) (sealed : List (List Slot)) : Type 0 where
-  pub stream : slice_get keys f.stream ≡ Some (key_in f)
+-- it is in flight under this number among these streams, with this index among the stream's sealed chunks
+pub record IsAt (f : Flown) (number index : ℕ) (keys : List StreamKey) (sealed : List (List Slot)) : Type 0 where
+  pub stream : slice_get keys number ≡ Some (key_in f)
   pub slots : List Slot
-  pub listed : slice_get sealed f.stream ≡ Some slots
-  pub stands : slice_get slots f.index ≡ Some (slot_at (Flight f.flight) f.chunk)
+  pub listed : slice_get sealed number ≡ Some slots
+  pub stands : slice_get slots index ≡ Some (slot_at (Flight f.flight) f.chunk)
+
+-- it is in flight somewhere there
+abbrev pub Flies : Flown → List StreamKey → List (List Slot) → Type 0
+Flies f keys sealed = (number : ℕ) × (index : ℕ) × IsAt f number index keys sealed
 
 -- it is in flight in the shard
 abbrev pub IsInFlight : Flown → Contents → Type 0
-IsInFlight f contents = (f.shard ≡ contents.number) × IsAt f contents.listed contents.sealed
+IsInFlight f contents = (f.shard ≡ contents.number) × Flies f contents.listed contents.sealed
 
 -- the rows in its flight are those of its chunk
 abbrev pub FliesAs : Flown → State → Type 0

@@ -1,3 +1,4 @@
+pub mod Books
 pub mod Coded
 pub mod Contents
 pub mod Faults

@@ -16,11 +16,14 @@ use Rattle.ing_rows.specs.Steps.{Claims}
 use Rattle.ing_rows.specs.Turns.{beside, IsMarked}
 use Rattle.ing_chunk.specs.Chunks.{ChunkContents}
 use Rattle.ing_sealed.specs.Slots.{Slot, slot_at}
-use Rattle.ing_stream.specs.Contents.{whole_state}
-use Rattle.ing_shard.specs.Contents.{AreOwn}
+use Rattle.ing_stream.specs.Contents.{flights_of, whole_state}
+use Rattle.ing_stream.specs.Sums.{flying_in}
+use Rattle.ing_shard.specs.Books.{BookStates, Count, told_by}
+use Rattle.ing_shard.specs.Contents.{AreOwn, chunks_flying}
 use Rattle.ing_shard.specs.OneStream.{Stream}
-use Rattle.ing_shard.specs.Flights.{AreApart, Flown, IsAt}
+use Rattle.ing_shard.specs.Flights.{AreApart, Flies, Flown}
 use Rattle.ing_shard.specs.declared.tenants.TenantKept.{TenantKept}
+use Rattle.ing_shard.specs.declared.books.Books.{Books}
 use Rattle.ing_shard.specs.declared.streams.Streams.{Streams}
 use Rattle.ing_shard.specs.declared.tenants.Tenants.{Tenants}
 use Rattle.ing_shard.specs.Tenants.{Fits, IsWithin, changed, find_of, is_known, kept_by, kept_of, listed_as, posted_of}
@@ -91,12 +94,13 @@ pub record IsSmall (count : ℕ) (sums : TenantKept) : Type 0 where
   pub flight : sums.flight_bytes ≤ count * 2 ^ 64
   pub stored : sums.stored_bytes ≤ count * 2 ^ 64
 
--- it is what its rows give, each of its chunks has one mark, and no line is longer than memory
+-- it is what its rows give, each of its chunks has one mark, no line is longer than memory, and each chunk in flight has an entry
 pub record IsKept (st : Stream) : Type 0 where
   pub facts : facts_of (part_of st).rows (key_of st) ≡ facts_kept st
   pub sound : IsSound (part_of st)
   pub marked : IsMarked (part_of st)
   pub small : IsSmall st.chunks.memory.next (measure_of st)
+  pub flights : length (flights_of st.chunks.sealed) ≤ flying_in st.chunks.sealed
 
 -- a stream before and after a flush has changed where one of its chunks stands
 pub record Stays (old new : Stream) : Type 0 where
@@ -159,7 +163,7 @@ pub record AreHeld {R : Type 0} (streams : Streams R) : Type 0 where
 
 -- a claimed chunk is in flight in one of these streams
 abbrev pub FliesAmong : Flown → List Stream → Type 0
-FliesAmong f streams = IsAt f (map key_of streams) (map slots_of streams)
+FliesAmong f streams = Flies f (map key_of streams) (map slots_of streams)
 
 -- what is in flight in one of them stays in flight
 abbrev pub StayAmong : List Stream → List Stream → Type 0
@@ -189,7 +193,23 @@ pub record FliesAt (number f index : ℕ) (chunk : ChunkContents) (olds news : L
 
 -- ---- the shard
 
--- what is kept beside the streams of a shard is what they give, and each of them is its own
-pub record IsShard {R : Type 0} (settings : StoreSettings) (number : ℕ) (streams : Streams R) : Type 0 where
+-- how many entries of sealed chunks are in flight
+abbrev pub entries_flying : List (List Slot) → ℕ
+entries_flying = sum_by flying_in
+
+-- what the books of a shard with so many entries, of which so many are stored, and these sealed chunks count
+abbrev pub counted_by : ℕ → ℕ → List (List Slot) → Count
+counted_by entries stored sealed = record { accepted = entries; flying = entries_flying sealed; chunks = chunks_flying sealed; stored = stored }
+
+abbrev pub counts_of : {R : Type 0} → Streams R → Count
+counts_of streams = counted_by streams.entries streams.stored (map slots_of streams.list.items)
+
+-- its books, as contracts see them
+abbrev pub seen_of : Books → BookStates
+seen_of books = record { accepted = books.accepted; flight = books.flight; stored = books.stored }
+
+-- what is kept beside the streams of a shard is what they give, each of them is its own, and the books count them
+pub record IsShard {R : Type 0} (settings : StoreSettings) (number : ℕ) (streams : Streams R) (books : BookStates) : Type 0 where
   pub held : AreHeld streams
   pub own : AreOwn settings.shards number (map key_of streams.list.items)
+  pub counted : told_by books ≡ counts_of streams

@@ -4,28 +4,28 @@ ghost use Rattle.ing_chunk.specs.Chunks.{IsWhole};
 ghost use Rattle.ing_labels.specs.Canonical.{canonical_of};
 ghost use Rattle.ing_refusals.specs.declared.refusal.Refusal.TheVariants as refusal;
 ghost use Rattle.ing_store.specs.StoreFaults.{IsCounted};
-ghost use Rattle.ing_shard.specs.Flights.{IsChunkUploaded, IsRowUploaded, IsUploaded};
+ghost use Rattle.ing_shard.specs.Flights.{IsChunkUploaded, IsRowUploaded, IsUploaded, entries_in};
 
 use ing_chunk::Chunk;
 use ing_labels::Labels;
 use ing_parts::Listing;
-use ing_postings::StreamNo;
 use ing_refusals::Refusal;
 use ing_rows::Tenant;
 use ing_sealed::{Flushed, upload, upload_chunk, upload_row};
 use ing_store::{Receipt, StoreEnd, StoreFault};
+use ing_tally::{Share, Stranded};
 use std::alloc::Global;
 use std::marker::Model;
 use std::sync::Arc;
 
-/// A sealed chunk that was claimed: where it stands in its shard, and whose stream it is of. The chunk is the one that the
-/// shard has, not a copy.
+/// A sealed chunk that was claimed: its shard, the number of its flight, and whose stream it is of. The chunk is the one that
+/// the shard has, not a copy.
 #[derive(Drop)]
 pub struct ClaimedChunk {
     pub(crate) shard: u32,
-    pub(crate) stream: StreamNo,
-    pub(crate) index: usize,
     pub(crate) flight: u64,
+    /// Where the claim left it among the sealed chunks of its stream: there it is looked for first.
+    pub(crate) left: usize,
     pub(crate) tenant: Tenant,
     pub(crate) labels: Labels,
     pub(crate) chunk: Arc<Chunk>,
@@ -43,8 +43,6 @@ impl Model for ClaimedChunk {
 
     ghost view = { λ claimed. record {
       shard = claimed.shard;
-      stream = claimed.stream;
-      index = claimed.index;
       flight = claimed.flight;
       tenant = claimed.tenant;
       labels = claimed.labels;
@@ -57,6 +55,13 @@ impl Model for ClaimedChunk {
 }
 
 impl ClaimedChunk {
+    /// The number of its shard.
+    pub fn shard(&self) -> u32
+        ensures { result ≡ self.now.shard }
+    {
+        self.shard
+    }
+
     /// Whose stream it is of.
     pub fn tenant(&self) -> &Tenant
         ensures { result.now ≡ self.now.tenant }
@@ -80,11 +85,14 @@ impl ClaimedChunk {
     }
 }
 
-/// The right to say what became of a claimed chunk: it is stored, or it is given back. It cannot be dropped. The canonical name
-/// of the chunk's stream has fewer than 2^32 bytes, so that the chunk and its index row can be written.
+/// The right to say what became of a claimed chunk: it is stored, or it is given back. It cannot be dropped, since it holds a
+/// share of the entries in flight, of as many as the chunk has. The canonical name of the chunk's stream has fewer than 2^32
+/// bytes, so that the chunk and its index row can be written.
 pub struct Ticket {
     pub(crate) claimed: ClaimedChunk,
+    pub(crate) share: Share,
     ghost short: { length (canonical_of claimed.labels) < 2 ^ 32 },
+    ghost counted: { share.amount ≡ entries_in claimed },
 }
 
 /// What may be dropped, and a ticket beside it. The two impls would overlap if a ticket could be dropped, which the check
@@ -95,11 +103,13 @@ impl<T: Drop> IsDroppedOrSpent for T {}
 
 impl IsDroppedOrSpent for Ticket {}
 
-/// A ticket for a chunk that is not in flight in the shard that it was handed to.
+/// A ticket for a chunk that is not in flight in the shard that it was handed to. Its share counts as out for ever.
 #[derive(Drop)]
 pub struct Stray {
     /// The chunk of the ticket.
     pub claimed: ClaimedChunk,
+    /// Its share.
+    pub(crate) share: Stranded,
 }
 
 impl Stray {

@@ -1,6 +1,7 @@
 //! The value under one lock: the streams of one shard.
 #![tactic(auto)]
 
+mod books;
 mod claimed;
 mod due;
 mod fault;
@@ -11,11 +12,13 @@ mod laws;
 mod names;
 mod sealing;
 mod shard;
+mod shares;
 mod snapshots;
 mod stream;
 mod streams;
 mod tenants;
 
+pub use books::{Gathered, Missing};
 pub use claimed::{ClaimedChunk, Finished, Stranger, Stray, Ticket};
 pub use due::{Due, Op};
 pub use fault::PushFault;

@@ -9,7 +9,7 @@ mod steps;
 
 pub use book::{Book, StillOut, Whole};
 pub use fault::CounterFull;
-pub use share::{Share, Stranded};
+pub use share::{Share, Stranded, strand_each};
 
 #[cfg(test)]
 mod tests;

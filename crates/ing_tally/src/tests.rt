@@ -1,12 +1,12 @@
 //! Worked books, and shares that cross a lock and two threads.
-use crate::{Book, CounterFull, StillOut, Whole};
+use crate::{Book, CounterFull, StillOut, Whole, strand_each};
 use std::test::Fail;
 
 mod counter;
 mod walks;
 
 use counter::counted_by_two;
-use walks::{issue_each, merge_each, strand_each};
+use walks::{issue_each, merge_each};
 
 const LIMIT: u64 = 4611686018427387904;
 

@@ -3,7 +3,8 @@ use Rattle.std.proofs.Common.{◌≡◌, ◌≢◌, ℕ, zero, suc, inl, inr, �
 use Rattle.std.specs.Prelude.{slice_get}
 use Rattle.std.proofs.lemmas.List.{set-get_or}
 use Rattle.std.proofs.lemmas.Option.{slice_get-get_or}
-use Rattle.ing_shard.specs.Contents.{Contents, IsOnly, IsSameShard}
+use Rattle.ing_tally.specs.Books.{BookName, ShareState}
+use Rattle.ing_shard.specs.Contents.{AreSharesOf, Contents, IsOnly, IsSameShard}
 use Rattle.ing_shard.specs.Flights.{FlightsStay, Flown, IsInFlight, OtherFlightsStay}
 use Rattle.ing_world.specs.declared.event.Object.{Object}
 use Rattle.ing_world.specs.declared.event.Object.TheVariants.{Chunk, Row}
@@ -72,50 +73,68 @@ pub held_on : (old new : Contents) (ts : Tickets) → TicketsAreHeld old ts → 
 held_on old new ts held stay same =
     record {
       flies = λ t o is. stay o.flown (held.flies t o is);
+      lent = λ t o is. held.lent t o is ∙ sym (ap (λ n. n.flight) same.books);
       apart = held.apart;
       only = only_on old new held.only same;
     }
+
+-- and the shares stay those of its books
+pub shares_on : (old new : Contents) (p q pushing tally : ShareState) → AreSharesOf old.books p q → IsSameShard old new → pushing.book ≡ p.book → tally.book ≡ q.book → AreSharesOf new.books pushing tally
+shares_on old new p q pushing tally shares same one other = record {
+  accepted = one ∙ shares.accepted ∙ sym (ap (λ n. n.accepted) same.books);
+  stored = other ∙ shares.stored ∙ sym (ap (λ n. n.stored) same.books);
+}
 
 pub with_flown : (object : Object) (o : OpenState) → (with_object object o).flown ≡ o.flown
 with_flown Chunk o = refl
 with_flown Row o = refl
 
+pub with_book : (object : Object) (o : OpenState) → (with_object object o).book ≡ o.book
+with_book Chunk o = refl
+with_book Row o = refl
+
 -- a ticket has one receipt more
-pub held_with : (shard : Contents) (ts us : Tickets) (t : ℕ) (o p : OpenState) → TicketsAreHeld shard ts → open_at ts t ≡ Some o → p.flown ≡ o.flown → Becomes t (Some p) ts us
+pub held_with : (shard : Contents) (ts us : Tickets) (t : ℕ) (o p : OpenState) → TicketsAreHeld shard ts → open_at ts t ≡ Some o → p.flown ≡ o.flown → p.book ≡ o.book → Becomes t (Some p) ts us
     → TicketsAreHeld shard us
-held_with shard ts us t o p held there same changed =
+held_with shard ts us t o p held there same booked changed =
     record {
       flies = λ u q is. (let was = before u q is in subst (λ f. IsInFlight f shard) was.2 (held.flies u was.0 was.1));
+      lent = λ u q is. (let was = before u q is in sym was.3 ∙ held.lent u was.0 was.1);
       apart = λ u v q r is has flight.
           (let one = before u q is in let other = before v r has in
           held.apart u v one.0 other.0 one.1 other.1 (ap (λ f. f.flight) one.2 ∙ flight ∙ sym (ap (λ f. f.flight) other.2)));
       only = held.only;
     } where
-      before : (u : ℕ) (q : OpenState) → open_at us u ≡ Some q → (r : OpenState) × (open_at ts u ≡ Some r) × (r.flown ≡ q.flown)
+      before : (u : ℕ) (q : OpenState) → open_at us u ≡ Some q → (r : OpenState) × (open_at ts u ≡ Some r) × (r.flown ≡ q.flown) × (r.book ≡ q.book)
       before u q is = by (same_or u t) where
-        by : (u ≡ t) ⊎ (u ≢ t) → (r : OpenState) × (open_at ts u ≡ Some r) × (r.flown ≡ q.flown)
+        by : (u ≡ t) ⊎ (u ≢ t) → (r : OpenState) × (open_at ts u ≡ Some r) × (r.flown ≡ q.flown) × (r.book ≡ q.book)
         by (inl at) =
             let now : open_at us t ≡ Some p = ap joined changed.at in
             let both : Some p ≡ Some q = sym now ∙ ap (open_at us) (sym at) ∙ is in
             let is_q : p ≡ q = cc in
-            (o, ap (open_at ts) at ∙ there, sym same ∙ ap (λ x. x.flown) is_q)
-        by (inr other) = (q, ap joined (sym (changed.others u other)) ∙ is, refl)
+            (o, ap (open_at ts) at ∙ there, sym same ∙ ap (λ x. x.flown) is_q, sym booked ∙ ap (λ x. x.book) is_q)
+        by (inr other) = (q, ap joined (sym (changed.others u other)) ∙ is, refl, refl)
 
 -- one ticket more, for a chunk in a flight of its own
-pub held_more : (old new : Contents) (ts : Tickets) (f : Flown) → TicketsAreHeld old ts → FlightsStay old new → IsSameShard old new → IsInFlight f new
-    → ((g : Flown) → IsInFlight g old → g.flight ≢ f.flight) → TicketsAreHeld new (ts ++ Some (opened f) ∷ [])
-held_more old new ts f held stay same flies apart =
+pub held_more : (old new : Contents) (ts : Tickets) (f : Flown) (book : BookName) → TicketsAreHeld old ts → FlightsStay old new → IsSameShard old new → IsInFlight f new
+    → ((g : Flown) → IsInFlight g old → g.flight ≢ f.flight) → book ≡ old.books.flight.name → TicketsAreHeld new (ts ++ Some (opened f book) ∷ [])
+held_more old new ts f book held stay same flies apart mine =
     record {
-      flies = λ t p is. in_flight t p (open_more ts (opened f) p t is);
-      apart = λ t u p q is has flight. alone t u p q flight (open_more ts (opened f) p t is) (open_more ts (opened f) q u has);
+      flies = λ t p is. in_flight t p (open_more ts (opened f book) p t is);
+      lent = λ t p is. is_lent t p (open_more ts (opened f book) p t is);
+      apart = λ t u p q is has flight. alone t u p q flight (open_more ts (opened f book) p t is) (open_more ts (opened f book) q u has);
       only = only_on old new held.only same;
     } where
-      in_flight : (t : ℕ) (p : OpenState) → (open_at ts t ≡ Some p) ⊎ ((t ≡ length ts) × (p ≡ opened f)) → IsInFlight p.flown new
+      is_lent : (t : ℕ) (p : OpenState) → (open_at ts t ≡ Some p) ⊎ ((t ≡ length ts) × (p ≡ opened f book)) → p.book ≡ new.books.flight.name
+      is_lent t p (inl there) = held.lent t p there ∙ sym (ap (λ n. n.flight) same.books)
+      is_lent t p (inr last) = ap (λ o. o.book) last.1 ∙ mine ∙ sym (ap (λ n. n.flight) same.books)
+
+      in_flight : (t : ℕ) (p : OpenState) → (open_at ts t ≡ Some p) ⊎ ((t ≡ length ts) × (p ≡ opened f book)) → IsInFlight p.flown new
       in_flight t p (inl there) = stay p.flown (held.flies t p there)
       in_flight t p (inr last) = subst (λ o. IsInFlight o.flown new) (sym last.1) flies
 
-      alone : (t u : ℕ) (p q : OpenState) → p.flown.flight ≡ q.flown.flight → (open_at ts t ≡ Some p) ⊎ ((t ≡ length ts) × (p ≡ opened f))
-          → (open_at ts u ≡ Some q) ⊎ ((u ≡ length ts) × (q ≡ opened f)) → t ≡ u
+      alone : (t u : ℕ) (p q : OpenState) → p.flown.flight ≡ q.flown.flight → (open_at ts t ≡ Some p) ⊎ ((t ≡ length ts) × (p ≡ opened f book))
+          → (open_at ts u ≡ Some q) ⊎ ((u ≡ length ts) × (q ≡ opened f book)) → t ≡ u
       alone t u p q flight (inl there) (inl other) = held.apart t u p q there other flight
       alone t u p q flight (inl there) (inr last) = absurd (apart p.flown (held.flies t p there) (flight ∙ ap (λ o. o.flown.flight) last.1))
       alone t u p q flight (inr last) (inl there) = absurd (apart q.flown (held.flies u q there) (sym flight ∙ ap (λ o. o.flown.flight) last.1))
@@ -126,6 +145,7 @@ pub held_without : (old new : Contents) (ts us : Tickets) (t : ℕ) (o : OpenSta
     → open_at ts t ≡ Some o → Becomes t None ts us → TicketsAreHeld new us
 held_without old new ts us t o held stay same there changed =
     record {
+      lent = λ u p is. held.lent u p (before u p is).0 ∙ sym (ap (λ n. n.flight) same.books);
       flies = λ u p is. (let was = before u p is in stay p.flown (λ flight. was.1 (held.apart u t p o was.0 there flight)) (held.flies u p was.0));
       apart = λ u v p q is has flight. held.apart u v p q (before u p is).0 (before v q has).0 flight;
       only = only_on old new held.only same;
@@ -134,3 +154,18 @@ held_without old new ts us t o held stay same there changed =
       before u p is = (ap joined (sym (changed.others u other)) ∙ is, other) where
         other : u ≢ t
         other at = let now : open_at us t ≡ None = ap joined changed.at in let both : None ≡ Some p = sym now ∙ ap (open_at us) (sym at) ∙ is in cc
+
+-- a ticket that was taken out and put back is as it was
+pub held_again : (shard : Contents) (ts us vs : Tickets) (t : ℕ) (o : OpenState) → TicketsAreHeld shard ts → open_at ts t ≡ Some o → Becomes t None ts us → Becomes t (Some o) us vs → TicketsAreHeld shard vs
+held_again shard ts us vs t o held there out back =
+    record {
+      flies = λ u p is. held.flies u p (before u p is);
+      lent = λ u p is. held.lent u p (before u p is);
+      apart = λ u v p q is has flight. held.apart u v p q (before u p is) (before v q has) flight;
+      only = held.only;
+    } where
+      before : (u : ℕ) (p : OpenState) → open_at vs u ≡ Some p → open_at ts u ≡ Some p
+      before u p is = by (same_or u t) where
+        by : (u ≡ t) ⊎ (u ≢ t) → open_at ts u ≡ Some p
+        by (inl at) = ap (open_at ts) at ∙ there ∙ sym (ap joined back.at) ∙ ap (open_at vs) (sym at) ∙ is
+        by (inr other) = sym (ap joined (out.others u other)) ∙ sym (ap joined (back.others u other)) ∙ is

@@ -17,6 +17,7 @@ use Rattle.ing_rows.specs.Rows.{StreamKey, Mark, State, IsSame, is_flight, is_he
 use Rattle.ing_rows.specs.Sound.{IsSound}
 use Rattle.ing_rows.specs.Steps.{after_push, is_sealed_now, sealed_by, verdicts_of}
 use Rattle.ing_rows.specs.Turns.{accepted_among}
+use Rattle.ing_tally.specs.Books.{BookName}
 use Rattle.ing_shard.specs.Contents.{listed_after}
 use Rattle.ing_shard.specs.Flights.{Flown, FliesAs, key_in, object_in}
 use Rattle.ing_world.specs.declared.event.Object.{Object}
@@ -111,11 +112,11 @@ module _ (sound_push : (rules : Rules) (s : StreamKey) (now : ℕ) (es : List En
 
   module _ (facts : FlushesKeepFacts) {R : Type 0} (rules : List ℕ → Rules) (old new : World R) (accepted : List Numbered) (kept : IsKept old accepted) where
     -- a chunk is claimed
-    pub claim_turned : (n first : ℕ) (f : Flown) → Step rules old.shard.state (Claim (key_in f)) (Claimed f.chunk.first f.flight) new.shard.state → slice_get old.shard.listed n ≡ Some (key_in f)
-        → first ≡ f.chunk.first → FliesAs f new.shard.state → new.shard.listed ≡ old.shard.listed → new.tickets.items ≡ old.tickets.items ++ Some (opened f) ∷ []
+    pub claim_turned : (n first : ℕ) (f : Flown) (book : BookName) → Step rules old.shard.state (Claim (key_in f)) (Claimed f.chunk.first f.flight) new.shard.state → slice_get old.shard.listed n ≡ Some (key_in f)
+        → first ≡ f.chunk.first → FliesAs f new.shard.state → new.shard.listed ≡ old.shard.listed → new.tickets.items ≡ old.tickets.items ++ Some (opened f book) ∷ []
         → HasTurned rules (TellsClaim n) (reply.Claimed first) old new accepted
-    claim_turned n first f step there is flies listed more =
-        turned rules (TellsClaim n) (reply.Claimed first) old new accepted (Some (Claim (key_in f), Claimed f.chunk.first f.flight)) (f, there, is, refl, flies, more) step listed
+    claim_turned n first f book step there is flies listed more =
+        turned rules (TellsClaim n) (reply.Claimed first) old new accepted (Some (Claim (key_in f), Claimed f.chunk.first f.flight)) (f, book, there, is, refl, flies, more) step listed
         record {
           sound = (facts.claims (key_in f) f.chunk.first f.flight old.shard.state new.shard.state step).sound kept.sound;
           kept = keeps_moved (is_of_chunk (key_in f) f.chunk.first) (Flight f.flight) old.shard.state.rows new.shard.state.rows accepted step.moves.rows kept.kept;

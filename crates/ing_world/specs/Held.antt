@@ -7,7 +7,7 @@ use Rattle.ing_rows.specs.Events.{Event, Run, accepted_of}
 use Rattle.ing_rows.specs.Kept.{Numbered, numbered}
 use Rattle.ing_rows.specs.Rows.{empty_state}
 use Rattle.ing_rows.specs.Sound.{IsSound}
-use Rattle.ing_shard.specs.Contents.{Contents, IsOnly}
+use Rattle.ing_shard.specs.Contents.{AreSharesOf, Contents, IsOnly}
 use Rattle.ing_shard.specs.Flights.{IsInFlight}
 use Rattle.ing_world.specs.declared.event.WorldEvent.{WorldEvent}
 use Rattle.ing_world.specs.declared.reply.Reply.{Reply}
@@ -15,14 +15,18 @@ use Rattle.ing_world.specs.declared.world.World.{World}
 use Rattle.ing_world.specs.Worlds.{OpenState, WorldState, empty_world, open_at}
 use Rattle.ing_world.specs.Turns.{StandsInFull, Tale, Turn, Turns}
 
--- The shard is the only one; the chunks of open tickets are in flight, each in a flight of its own.
+-- The shard is the only one; the chunks of open tickets are in flight, each in a flight of its own, and these have shares of the
+-- shard's.
 pub record TicketsAreHeld (shard : Contents) (tickets : List (Option OpenState)) : Type 0 where
   pub only : IsOnly shard
   pub flies : (t : ℕ) (o : OpenState) → open_at tickets t ≡ Some o → IsInFlight o.flown shard
+  pub lent : (t : ℕ) (o : OpenState) → open_at tickets t ≡ Some o → o.book ≡ shard.books.flight.name
   pub apart : (t u : ℕ) (o p : OpenState) → open_at tickets t ≡ Some o → open_at tickets u ≡ Some p → o.flown.flight ≡ p.flown.flight → t ≡ u
 
-abbrev pub AreHeld : {R : Type 0} → World R → Type 0
-AreHeld w = TicketsAreHeld w.shard w.tickets.items
+-- and so are the shares of what was accepted and of what was stored
+pub record AreHeld {R : Type 0} (w : World R) : Type 0 where
+  pub tickets : TicketsAreHeld w.shard w.tickets.items
+  pub shares : AreSharesOf w.shard.books w.pushing w.tally
 
 -- what stands in the shard is what was answered accepted
 pub record IsKept {R : Type 0} (w : World R) (accepted : List Numbered) : Type 0 where

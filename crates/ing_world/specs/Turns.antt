@@ -18,6 +18,7 @@ use Rattle.ing_rows.specs.Gauges.{StandsOnce}
 use Rattle.ing_rows.specs.Kept.{Numbered, numbered}
 use Rattle.ing_rows.specs.Rows.{StreamKey, State, count_of}
 use Rattle.ing_rows.specs.Turns.{accepted_among}
+use Rattle.ing_tally.specs.Books.{BookName}
 use Rattle.ing_shard.specs.Contents.{listed_after, stream_of}
 use Rattle.ing_shard.specs.Flights.{Flown, FliesAs, key_in, object_in}
 use Rattle.ing_shard.specs.Picked.{Picks}
@@ -63,9 +64,9 @@ none_claimed s = (Claim s, NothingToClaim)
 -- stream has the number
 abbrev pub TellsClaim : ℕ → Tale
 TellsClaim n (reply.Claimed first) old new step =
-    (f : Flown) × (slice_get old.listed n ≡ Some (key_in f)) × (first ≡ f.chunk.first)
+    (f : Flown) × (book : BookName) × (slice_get old.listed n ≡ Some (key_in f)) × (first ≡ f.chunk.first)
     × (step ≡ Some (Claim (key_in f), Claimed f.chunk.first f.flight))
-    × FliesAs f new.state × (new.tickets ≡ old.tickets ++ Some (opened f) ∷ [])
+    × FliesAs f new.state × (new.tickets ≡ old.tickets ++ Some (opened f book) ∷ [])
 TellsClaim n reply.Nothing old new step = (step ≡ option_map none_claimed (slice_get old.listed n)) × TicketsStay old new
 TellsClaim n _ old new step = ⊥
 

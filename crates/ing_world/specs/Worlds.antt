@@ -3,19 +3,21 @@
 use Rattle.std.specs.Prelude.{◌≡◌, ◌≢◌, ℕ, Bool, true, false, ◌&&◌, List, [], slice_get, Option, Some, None}
 use Rattle.ing_rows.specs.Rows.{StreamKey, State, empty_state}
 use Rattle.ing_rows.specs.Kept.{Numbered}
+use Rattle.ing_tally.specs.Books.{BookName}
 use Rattle.ing_shard.specs.Flights.{Flown}
 use Rattle.ing_world.specs.declared.event.Object.{Object}
 use Rattle.ing_world.specs.declared.event.Object.TheVariants.{Chunk, Row}
 
--- an open ticket: the chunk that it is for, and of which of its objects it has a receipt
+-- an open ticket: the chunk that it is for, whose share it has, and of which of its objects it has a receipt
 pub record OpenState : Type 0 where
   pub flown : Flown
+  pub book : BookName
   pub has_chunk : Bool
   pub has_row : Bool
 
 -- without receipts
-abbrev pub opened : Flown → OpenState
-opened f = record { flown = f; has_chunk = false; has_row = false }
+abbrev pub opened : Flown → BookName → OpenState
+opened f book = record { flown = f; book = book; has_chunk = false; has_row = false }
 
 -- with one receipt more
 abbrev pub with_object : Object → OpenState → OpenState

@@ -15,6 +15,7 @@ use ing_parts::Listing;
 use ing_sealed::Flushed;
 use ing_shard::{FinishFault, Shard, Stray, Ticket};
 use ing_store::{Receipt, StoreEnd, StoreFault};
+use ing_tally::Share;
 use std::alloc::Global;
 use std::marker::Model;
 
@@ -33,12 +34,13 @@ impl<R: Receipt> Model for OpenTicket<R> {
     ghost use Rattle.std.specs.Coded.{codes};
     ghost use Rattle.ing_world.specs.Coded.{open_code};
 
-    ghost coded = { open_code (Prim.hlevel (codes)) };
+    ghost coded = { open_code (Prim.hlevel (codes)) (Prim.hlevel (codes)) };
 
     ghost use Rattle.std.specs.Prelude.{is_some};
 
     ghost view = { λ o. record {
       flown = o.ticket.claimed;
+      book = o.ticket.share.book;
       has_chunk = is_some o.listing;
       has_row = is_some o.row;
     } };
@@ -51,7 +53,7 @@ impl<R: Receipt> Model for OpenTicket<R> {
 impl<R: Receipt> OpenTicket<R> {
     /// A ticket without receipts.
     pub fn new(ticket: Ticket) -> OpenTicket<R>
-        ensures { result ≡ opened ticket.claimed }
+        ensures { result ≡ opened ticket.claimed ticket.share.book }
     {
         OpenTicket {
             ticket,
@@ -101,10 +103,13 @@ impl<R: Receipt> OpenTicket<R> {
         }
     }
 
-    /// Lists its chunk, which is in flight, as stored. Comes back where memory runs out.
-    pub fn finish(self, shard: &mut Shard<R>) -> Result<(), OpenTicket<R>>
+    /// Lists its chunk, which is in flight, as stored, and raises a share of the stored entries. Comes back where memory runs out.
+    pub fn finish(self, shard: &mut Shard<R>, tally: &mut Share) -> Result<(), OpenTicket<R>>
         requires ready { (self.has_chunk && self.has_row) ≡ true }
         requires flies { IsInFlight self.flown shard.old }
+        requires lent { self.book ≡ shard.old.books.flight.name }
+        requires tally { tally.old.book ≡ shard.old.books.stored.name }
+        ensures tally { tally.new.book ≡ tally.old.book }
         ensures step { let f = self.flown in
             OnOk result (Step (rules_for shard.old.settings) shard.old.state
             (Finish (key_in f) f.chunk.first f.flight (sha256 (chunk_text (object_in f))))
@@ -123,7 +128,7 @@ impl<R: Receipt> OpenTicket<R> {
         let (Some(listing), Some(row)) = (listing, row) else {
             unreachable!("it has both receipts");
         };
-        match shard.finish(ticket, Flushed { listing, row }) {
+        match shard.finish(ticket, Flushed { listing, row }, tally) {
             Ok(_) => Ok(()),
             Err(FinishFault::NoMemory { ticket, flushed }) => Err(OpenTicket {
                 ticket,
@@ -138,6 +143,7 @@ impl<R: Receipt> OpenTicket<R> {
 
     /// Puts its chunk back, where it is in flight.
     pub fn give_back(self, shard: &mut Shard<R>) -> Result<(), Stray>
+        requires { self.book ≡ shard.old.books.flight.name }
         ensures step { OnOk result (Step (rules_for shard.old.settings) shard.old.state
             (GiveBack self.flown.flight) GivenBack shard.new.state) }
         ensures others { OnOk result (OtherFlightsStay self.flown.flight shard.old shard.new) }

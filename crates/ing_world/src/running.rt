@@ -38,6 +38,7 @@ pub fn run_world<'a, W: Wait>(
     requires names { All IsShort events.now }
     ensures run { IfOk result (λ ran.
         HasRun (rules_for settings) events.now ran.1.items ran.0) }
+    ensures held { IfOk result (λ ran. AreHeld ran.0) }
 {
     let mut world = World::new(alloc, settings)?;
     match run_on(&mut world, rt, alloc, store, events) {
@@ -63,6 +64,7 @@ fn run_on<'a, W: Wait>(
     requires empty { seen world.old [] ≡ empty_world }
     ensures run { IfOk result (λ replies.
         HasRun (rules_for world.old.shard.settings) events.now replies.items world.new) }
+    ensures held { AreHeld world.new }
 {
     let mut replies = Vec::with_capacity(alloc, events.len())?;
     for event in events {
@@ -85,7 +87,7 @@ fn turn<'a, W: Wait>(
     ensures turn { IfOk result (λ reply. (accepted : List Numbered) → IsKept world.old accepted →
         HasTurned (rules_for world.old.shard.settings) (Tells event.now)
         reply world.old world.new accepted) }
-    ensures held { OnOk result (AreHeld world.new) }
+    ensures held { AreHeld world.new }
     ensures settings { world.new.shard.settings ≡ world.old.shard.settings }
 {
     match event {

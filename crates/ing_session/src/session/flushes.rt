@@ -105,7 +105,7 @@ impl<R: Receipt> Session<R> {
             return Ok(Uploads::default());
         };
         match ticket.upload(self.alloc, end) {
-            Ok(flushed) => match self.shard.finish(ticket, flushed) {
+            Ok(flushed) => match self.shard.finish(ticket, flushed, &mut self.tally) {
                 Ok(_) => Ok(Uploads {
                     failed: 0,
                     stored: 1,
@@ -135,6 +135,7 @@ impl<R: Receipt> Session<R> {
     /// Gives a chunk back that is in flight.
     fn give_back(&mut self, ticket: Ticket)
         requires flies { IsInFlight ticket.claimed self.old.shard }
+        requires lent { ticket.share.book ≡ self.old.shard.books.flight.name }
         ensures step { Step (rules_for self.old.shard.settings) self.old.shard.state
             (GiveBack ticket.claimed.flight) GivenBack self.new.shard.state }
         ensures same { IsSameShard self.old.shard self.new.shard }

@@ -1,7 +1,6 @@
 //! A count under a lock that two threads raise, each by a share of its own.
 ghost use Rattle.std.specs.Prelude.{◌≡◌, ◌+◌, ◌≤◌, ◌^◌, IfOk, OnOk, OnErr};
 
-use super::walks::strand_each;
 use crate::{Book, CounterFull, Share};
 use std::alloc::{AllocError, Global};
 use std::marker::{Brand, PhantomData};

@@ -35,11 +35,3 @@ pub fn merge_each(book: &mut Book, mut shares: Vec<Share>)
     }
     shares.destroy_empty();
 }
-
-/// Gives up all of these shares.
-pub fn strand_each(mut shares: Vec<Share>) {
-    while let Some(share) = shares.pop() {
-        let _ = share.strand();
-    }
-    shares.destroy_empty();
-}

@@ -1,13 +1,16 @@
-use Rattle.std.proofs.Common.{◌≡◌, ◌∷◌, ◌++◌, None, Option, Some, refl, subst, sym, ◌∙◌, IfNone, IfSome, IsPermutation, slice_get}
+use Rattle.std.proofs.Common.{◌≡◌, length, ◌∷◌, ◌++◌, None, Option, Some, refl, subst, sym, ◌∙◌, IfNone, IfSome, IsPermutation, slice_get}
 use Rattle.std.proofs.lemmas.Option.{slice_get_read}
 use Rattle.slab.specs.Slab.{Updates}
 use Rattle.ing_rows.specs.declared.place.Place.TheVariants.{Flight}
 use Rattle.ing_sealed.specs.Slots.{slot_at}
+use Rattle.ing_chunk.specs.Chunks.{in_blocks}
 use Rattle.ing_stream.specs.Contents.{flights_of}
+use Rattle.ing_stream.specs.Sums.{MoreFly}
 use Rattle.ing_rows.specs.Rows.{IsSame}
 use Rattle.ing_rows.specs.Steps.{Claims, ClaimsNone}
 use Rattle.ing_shard.specs.Flights.{AreApart, flights_among}
 use Rattle.ing_shard.specs.Streams.{AreDistinct, StayAmong, key_of, part_of, whole}
+use Rattle.ing_shard.proofs.BookLaws.{counts_flown, counts_still}
 use Rattle.ing_shard.proofs.ChangeLaws.{kept_here}
 use Rattle.ing_shard.proofs.FlightLaws.{apart_claimed, apart_same, claims_whole, free_number, free_slots, none_whole, same_whole}
 use Rattle.ing_shard.proofs.FlushLaws.{around_here, free_here, key_here, now_here, same_name, can_settle, settled, settled_keys, settled_whole}
@@ -137,3 +140,24 @@ pub returns-clause-apart : goal.returns-clause-apart
 returns-clause-apart g c =
     let old = c.args.self.now in
     other_number c.vacant_key-flight.result old.list.items (free_number c.vacant_key-flight.result old.flights old.list.items c.requires.held.flights c.vacant_key-flight.ensures.vacant)
+
+pub returns-in_err-claim-clause-err_counts : goal.returns-in_err-claim-clause-err_counts
+returns-in_err-claim-clause-err_counts g c =
+    let split = around_here c.args.self.now.list.items _ c.args.number c.index_mut-stream.result.now c.args.self.now.list.ok.0 c.requires.listed c.index_mut-stream.ensures.value in
+    always_on_err _ (counts_still c.args.self.now c.claim-claimed.new.self split c.measure-before.ensures.measure c.settle.new.stored c.settle.ensures.stored c.in_err-claim.ensures.err_flying c.in_err-claim.ensures.err_flies)
+
+pub returns-in_default-clause-still : goal.returns-in_default-clause-still
+returns-in_default-clause-still g c =
+    let split = around_here c.args.self.now.list.items _ c.args.number c.index_mut-stream.result.now c.args.self.now.list.ok.0 c.requires.listed c.index_mut-stream.ensures.value in
+    counts_still c.args.self.now c.claim-claimed.new.self split c.measure-before.ensures.measure c.settle.new.stored c.settle.ensures.stored
+    (if_none c.in_ok-claim.field-0 _ c.in_default.not-Some c.in_ok-claim.ensures.none_flying) (if_none c.in_ok-claim.field-0 _ c.in_default.not-Some c.in_ok-claim.ensures.still)
+
+pub returns-clause-counts : goal.returns-clause-counts
+returns-clause-counts g c =
+    let split = around_here c.args.self.now.list.items _ c.args.number c.index_mut-stream.result.now c.args.self.now.list.ok.0 c.requires.listed c.index_mut-stream.ensures.value in
+    let st = c.index_mut-stream.result.now in
+    let now = c.claim-claimed.new.self in
+    let done = c.in_ok-claim.ensures in
+    counts_flown c.args.self.now now split c.measure-before.ensures.measure c.settle.new.stored c.settle.ensures.stored _ c.vacant_key-flight.result
+    (subst (λ o. IfSome o (λ claim. MoreFly (length (in_blocks claim.chunk.value.blocks)) st.chunks.sealed now.chunks.sealed)) c.in-Some.is done.flying)
+    (subst (λ o. IfSome o (λ claim. IsPermutation (flights_of now.chunks.sealed) (c.vacant_key-flight.result ∷ flights_of st.chunks.sealed))) c.in-Some.is done.flies)
