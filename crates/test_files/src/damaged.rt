@@ -1,4 +1,6 @@
 //! Objects in files, and what is said of them once the files are damaged or lost.
+ghost use Rattle.std.specs.Prelude.{◌≡◌};
+
 use crate::files::Shelf;
 use crate::files_end::FilesEnd;
 use ing_codec::chunk_name;
@@ -90,8 +92,13 @@ impl Owned {
         if !self.shard.owns(&self.tenant, &labels) {
             return Err("a stream of the shard".into());
         }
-        self.shard
-            .push(alloc, &self.tenant, &labels, entries, stamp(5)?)?;
+        let now = stamp(5)?;
+        let mut share = self.shard.push_share()?;
+        let pushed = self
+            .shard
+            .push(alloc, &mut share, &self.tenant, &labels, entries, now);
+        let _ = share.strand();
+        pushed?;
         Ok(())
     }
 
@@ -100,8 +107,11 @@ impl Owned {
         let Some(ticket) = self.shard.claim(alloc, StreamNo::new(0))? else {
             return Err("a chunk that waits".into());
         };
-        match ticket.upload(alloc, end) {
-            Ok(flushed) => match self.shard.finish(ticket, flushed) {
+        let Ok(mut tally) = self.shard.tally_share() else {
+            return self.give_back(ticket, "a share");
+        };
+        let stored = match ticket.upload(alloc, end) {
+            Ok(flushed) => match self.shard.finish(ticket, flushed, &mut tally) {
                 Ok(_) => Ok(()),
                 Err(FinishFault::NoMemory { ticket, flushed }) => {
                     drop(flushed);
@@ -110,10 +120,14 @@ impl Owned {
                 Err(FinishFault::Stranger(_)) => Err("a chunk in flight".into()),
             },
             Err(_) => self.give_back(ticket, "an upload"),
-        }
+        };
+        let _ = tally.strand();
+        stored
     }
 
-    fn give_back(&mut self, ticket: Ticket, wanted: &'static str) -> Result<(), Fail> {
+    fn give_back(&mut self, ticket: Ticket, wanted: &'static str) -> Result<(), Fail>
+        requires { ticket.share.book ≡ self.old.shard.books.flight.name }
+    {
         match self.shard.give_back(ticket) {
             Ok(()) => Err(wanted.into()),
             Err(_) => Err("a chunk in flight".into()),

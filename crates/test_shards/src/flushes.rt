@@ -1,6 +1,7 @@
 //! Chunks of a shard on their way into a store in memory. One allocation at most is refused in a run of these tests: what was
 //! refused has changed nothing, and the same call then succeeds.
-ghost use Rattle.std.specs.Prelude.{IfOk};
+ghost use Rattle.std.specs.Prelude.{◌≡◌, IfOk, IfSome};
+ghost use Rattle.ing_shard.specs.Contents.{IsSameShard};
 ghost use Rattle.ing_shard.specs.Flights.{IsUploaded};
 
 use ing_labels::{LabelLimits, Labels};
@@ -10,6 +11,7 @@ use ing_rows::{Entry, Gauges, Line, Stamp, Tenant};
 use ing_sealed::Flushed;
 use ing_shard::{FinishFault, PushFault, Pushed, Shard, Ticket};
 use ing_store::{Fuse, MemoryEnd, MemoryReceipt, MemoryStore, StoreEnd, StoreFault};
+use ing_tally::Share;
 use std::alloc::{AllocError, Global};
 use std::process::Abort;
 use std::sync::Wait;
@@ -43,18 +45,27 @@ pub(crate) struct Owned<'a> {
 impl<'a> Owned<'a> {
     /// A shard without entries.
     pub fn fresh(alloc: Global, tenant: &str, settings: &str) -> Result<Owned<'a>, Fail> {
+        Owned::numbered(alloc, tenant, settings, 0)
+    }
+
+    /// The same with this number.
+    fn numbered(
+        alloc: Global,
+        tenant: &str,
+        settings: &str,
+        number: u32,
+    ) -> Result<Owned<'a>, Fail> {
         Ok(Owned {
-            shard: Shard::fresh(alloc, Settings::from_toml(alloc, settings)?, 0)?,
+            shard: Shard::fresh(alloc, Settings::from_toml(alloc, settings)?, number)?,
             tenant: Tenant::of_text(alloc, tenant)?,
         })
     }
 
-    /// A shard with one stream of two entries, whose one chunk is sealed.
-    fn sealed(alloc: Global, tenant: &str) -> Result<Owned<'a>, Fail> {
-        let mut one = Owned::fresh(alloc, tenant, "")?;
-        one.push(alloc, &[("a", "1")], &[(5, "x"), (3, "yz")])??;
-        one.shard.seal_all(alloc)?;
-        Ok(one)
+    /// With one stream of two entries, whose one chunk is sealed.
+    fn sealed(mut self, alloc: Global) -> Result<Owned<'a>, Fail> {
+        self.push(alloc, &[("a", "1")], &[(5, "x"), (3, "yz")])??;
+        self.shard.seal_all(alloc)?;
+        Ok(self)
     }
 
     /// Pushes entries with these stamps and lines to the stream of these labels, at the time of the first.
@@ -76,7 +87,12 @@ impl<'a> Owned<'a> {
         if !self.shard.owns(&self.tenant, &labels) {
             return Err("a stream of the shard".into());
         }
-        Ok(self.shard.push(alloc, &self.tenant, &labels, entries, now))
+        let mut share = self.shard.push_share()?;
+        let pushed = self
+            .shard
+            .push(alloc, &mut share, &self.tenant, &labels, entries, now);
+        let _ = share.strand();
+        Ok(pushed)
     }
 
     /// The gauges of the tenant, and the totals of the shard.
@@ -85,7 +101,10 @@ impl<'a> Owned<'a> {
     }
 
     /// Claims the oldest chunk of the first stream that waits.
-    fn try_claim(&mut self, rt: &impl Abort, alloc: Global) -> Result<Option<Ticket>, AllocError> {
+    fn try_claim(&mut self, rt: &impl Abort, alloc: Global) -> Result<Option<Ticket>, AllocError>
+        ensures { IfOk result (λ o. IfSome o (λ ticket.
+            ticket.share.book ≡ self.new.shard.books.flight.name)) }
+    {
         let before = self.counts();
         match self.shard.claim(alloc, StreamNo::new(0)) {
             Ok(claimed) => Ok(claimed),
@@ -97,7 +116,9 @@ impl<'a> Owned<'a> {
     }
 
     /// The same, where one waits.
-    pub fn claim(&mut self, rt: &impl Abort, alloc: Global) -> Result<Ticket, Fail> {
+    pub fn claim(&mut self, rt: &impl Abort, alloc: Global) -> Result<Ticket, Fail>
+        ensures { IfOk result (λ ticket. ticket.share.book ≡ self.new.shard.books.flight.name) }
+    {
         match self.try_claim(rt, alloc)? {
             Some(ticket) => Ok(ticket),
             None => Err("a chunk that waits".into()),
@@ -105,7 +126,9 @@ impl<'a> Owned<'a> {
     }
 
     /// Lets the chunk of a ticket wait again.
-    pub fn give_back(&mut self, ticket: Ticket) -> Result<(), Fail> {
+    pub fn give_back(&mut self, ticket: Ticket) -> Result<(), Fail>
+        requires { ticket.share.book ≡ self.old.shard.books.flight.name }
+    {
         match self.shard.give_back(ticket) {
             Ok(()) => Ok(()),
             Err(_) => Err("a chunk in flight".into()),
@@ -119,9 +142,34 @@ impl<'a> Owned<'a> {
         end: &mut MemoryEnd<'a, R>,
         ticket: Ticket,
         refused: &mut usize,
-    ) -> Result<(), Fail> {
+    ) -> Result<(), Fail>
+        requires { ticket.share.book ≡ self.old.shard.books.flight.name }
+    {
+        let Ok(mut tally) = self.shard.tally_share() else {
+            self.give_back(ticket)?;
+            return Err("a share".into());
+        };
+        let stored = self.store_told(alloc, end, ticket, refused, &mut tally);
+        let _ = tally.strand();
+        stored
+    }
+
+    /// The same, which a share of what is stored is told.
+    pub fn store_told<R: Wait>(
+        &mut self,
+        alloc: Global,
+        end: &mut MemoryEnd<'a, R>,
+        ticket: Ticket,
+        refused: &mut usize,
+        tally: &mut Share,
+    ) -> Result<(), Fail>
+        requires lent { ticket.share.book ≡ self.old.shard.books.flight.name }
+        requires tally { tally.old.book ≡ self.old.shard.books.stored.name }
+        ensures tally { tally.new.book ≡ tally.old.book }
+        ensures same { IsSameShard self.old.shard self.new.shard }
+    {
         match upload(alloc, end, &ticket, refused) {
-            Ok(flushed) => match self.shard.finish(ticket, flushed) {
+            Ok(flushed) => match self.shard.finish(ticket, flushed, tally) {
                 Ok(_) => Ok(()),
                 Err(FinishFault::NoMemory { ticket, flushed }) => {
                     drop(flushed);
@@ -170,7 +218,7 @@ fn standing<R: Wait + Abort>(rt: &R, alloc: Global, store: &MemoryStore) -> Resu
 /// not stand yet is written.
 fn stores_after<R: Wait + Abort>(rt: &R, alloc: Global, fuse: Fuse) -> Result<(), Fail> {
     let store = MemoryStore::new(alloc)?;
-    let mut one = Owned::sealed(alloc, "t")?;
+    let mut one = Owned::fresh(alloc, "t", "")?.sealed(alloc)?;
     let waiting = one.counts();
     let ticket = one.claim(rt, alloc)?;
     let fault = upload(alloc, &mut store.end(rt, fuse), &ticket, &mut 0).err();
@@ -203,16 +251,16 @@ fn a_chunk_is_stored_once_after_a_failed_put(rt: HostRuntime) -> Result<(), Fail
     Ok(())
 }
 
-/// A ticket for a chunk of tenant `t` is a stray in a shard where the same chunk of tenant `u` is in flight, under the same number
-/// and at the same place.
+/// A ticket for a chunk of tenant `t` is a stray in a shard of another number where the same chunk of tenant `u` is in flight,
+/// under the same number and at the same place.
 #[test]
 fn a_ticket_is_strange_to_another_shard(rt: HostRuntime) -> Result<(), Fail> {
     let alloc = rt.alloc();
     let store = MemoryStore::new(alloc)?;
-    let mut other = Owned::sealed(alloc, "u")?;
+    let mut other = Owned::numbered(alloc, "u", "shards = 2\n", 1)?.sealed(alloc)?;
     let own = other.claim(&rt, alloc)?;
     let strange = is_strange_to(&rt, alloc, &store, &mut other);
-    let flew = other.shard.give_back(own).is_ok();
+    let flew = other.give_back(own).is_ok();
     assert!(rt; strange? && flew);
     Ok(())
 }
@@ -223,15 +271,23 @@ fn is_strange_to<'a, R: Wait + Abort>(
     alloc: Global,
     store: &'a MemoryStore,
     other: &mut Owned<'a>,
-) -> Result<bool, Fail> {
+) -> Result<bool, Fail>
+    ensures { IsSameShard other.old.shard other.new.shard }
+{
     Ok(is_stray_to(rt, alloc, other)? && is_stranger_to(rt, alloc, store, other)?)
 }
 
 /// Whether a ticket is a stray where it is given back to the other shard, and both shards keep what they have.
-fn is_stray_to(rt: &impl Abort, alloc: Global, other: &mut Owned<'_>) -> Result<bool, Fail> {
-    let mut one = Owned::sealed(alloc, "t")?;
+fn is_stray_to(rt: &impl Abort, alloc: Global, other: &mut Owned<'_>) -> Result<bool, Fail>
+    ensures { IsSameShard other.old.shard other.new.shard }
+{
+    let mut one = Owned::fresh(alloc, "t", "")?.sealed(alloc)?;
     let ticket = one.claim(rt, alloc)?;
     let before = (one.counts(), other.counts());
+    if ticket.claimed().shard() == other.shard.number() {
+        one.give_back(ticket)?;
+        return Ok(false);
+    }
     let Err(stray) = other.shard.give_back(ticket) else {
         return Ok(false);
     };
@@ -245,10 +301,33 @@ fn is_stranger_to<'a, R: Wait + Abort>(
     alloc: Global,
     store: &'a MemoryStore,
     other: &mut Owned<'a>,
-) -> Result<bool, Fail> {
-    let mut one = Owned::sealed(alloc, "t")?;
+) -> Result<bool, Fail>
+    ensures { IsSameShard other.old.shard other.new.shard }
+{
+    let mut one = Owned::fresh(alloc, "t", "")?.sealed(alloc)?;
+    let mut tally = one.shard.tally_share()?;
+    let stranger = stranger_to(rt, alloc, store, &mut one, other, &mut tally);
+    let _ = tally.strand();
+    stranger
+}
+
+/// The same, with a share of what is stored.
+fn stranger_to<'a, R: Wait + Abort>(
+    rt: &'a R,
+    alloc: Global,
+    store: &'a MemoryStore,
+    one: &mut Owned<'a>,
+    other: &mut Owned<'a>,
+    tally: &mut Share,
+) -> Result<bool, Fail>
+    ensures { IsSameShard other.old.shard other.new.shard }
+{
     let ticket = one.claim(rt, alloc)?;
     let before = (one.counts(), other.counts());
+    if ticket.claimed().shard() == other.shard.number() {
+        one.give_back(ticket)?;
+        return Ok(false);
+    }
     let flushed = match upload(alloc, &mut store.end(rt, Fuse::None), &ticket, &mut 0) {
         Ok(flushed) => flushed,
         Err(fault) => {
@@ -256,7 +335,7 @@ fn is_stranger_to<'a, R: Wait + Abort>(
             return Err(fault.into());
         }
     };
-    let stranger = match other.shard.finish(ticket, flushed) {
+    let stranger = match other.shard.finish(ticket, flushed, tally) {
         Ok(_) => return Ok(false),
         Err(FinishFault::NoMemory { ticket, flushed }) => {
             drop(flushed);
