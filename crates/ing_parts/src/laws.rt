@@ -8,7 +8,7 @@ ghost use Rattle.ing_parts.specs.declared.order.Order.{Order};
 ghost use Rattle.ing_parts.specs.declared.snapshot.Snapshot.{Snapshot};
 ghost use Rattle.ing_parts.specs.Answers.{BestState, IsAnswer, IsFrom, Offers, PassesOver, StandFor, precedes};
 ghost use Rattle.ing_chunk.specs.declared.numbered.Numbered.{Numbered};
-ghost use Rattle.ing_parts.specs.Parts.{Adds, AddsRows, AreFrom, RowsAreFound, found_at, found_between};
+ghost use Rattle.ing_parts.specs.Parts.{Adds, AddsRows, AreFrom, RowsAreFound, found_at, found_between, found_of};
 
 use ing_store::Receipt;
 
@@ -27,8 +27,8 @@ pub fn offers_join()
         IsAnswer old.order old.limit (old.held ++ all) answer }
 {}
 
-/// The same of entries of one stream in a range: of those behind others, and of those before them; and of those that come from a
-/// stamp on from which none changes anything, in the range or out of it.
+/// The same of entries of one stream in a range: of those behind others, and of those before them; and of one that changes nothing,
+/// and of those that come from a stamp on from which none does, in the range or out of it.
 pub fn offers_of_streams()
     ensures next { (name : List ℕ) (start end : ℕ) (xs more all : List Numbered)
         (old mid new : BestState) → all ≡ xs ++ more →
@@ -41,7 +41,7 @@ pub fn offers_of_streams()
         Offers (found_between name start end more) mid new →
         Offers (found_between name start end all) old new }
     ensures one { (name : List ℕ) (start end : ℕ) (e : Numbered) (b : BestState) →
-        PassesOver e.entry.stamp b → Offers (found_between name start end (e ∷ [])) b b }
+        Offers (found_of name e ∷ []) b b → Offers (found_between name start end (e ∷ [])) b b }
     ensures from { (name : List ℕ) (start end from : ℕ) (es : List Numbered) (b : BestState) →
         PassesOver from b → AreFrom b.order from es →
         Offers (found_between name start end es) b b }
