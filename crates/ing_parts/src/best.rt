@@ -107,6 +107,10 @@ impl Best {
     pub fn take_over(&mut self, other: Best) -> Result<(), AllocError>
         ensures { OnOk result (Offers other.held self.old self.new) }
     {
+        if self.held.is_empty() && self.order == other.order && self.limit == other.limit {
+            self.held = other.held;
+            return Ok(());
+        }
         for found in other.held {
             self.offer(found)?;
         }

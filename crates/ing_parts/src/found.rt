@@ -18,6 +18,7 @@ pub struct Found {
 
 impl Found {
     /// By what an answer has it before another: its stamp, then its name, then its number.
+    #[inline]
     pub(crate) fn key(&self) -> (u64, &StreamName, u64)
         ensures stamp { result.0 ≡ self.now.entry.stamp }
         ensures name { result.1.now ≡ self.now.name }

@@ -31,19 +31,35 @@ pub struct Question {
     pub limit: usize,
 }
 
-/// How one stamp, name and number stand to others. Names are looked at only where the stamps are the same.
+/// How one name and number stand to others.
+#[inline(never)]
+fn compare_ties(
+    one_name: &StreamName,
+    one_number: u64,
+    other_name: &StreamName,
+    other_number: u64,
+) -> Ordering
+    ensures { result ≡ ordering_then (slice_cmp nat_cmp one_name.now other_name.now)
+        (nat_cmp one_number other_number) }
+{
+    (one_name.as_str(), one_number).cmp(&(other_name.as_str(), other_number))
+}
+
+/// How one stamp, name and number stand to others. Few stamps are the same, so names are compared out of line.
+#[inline(always)]
 fn compare_keys(one: (u64, &StreamName, u64), other: (u64, &StreamName, u64)) -> Ordering
     ensures { let from = one.entry in let to = other.entry in
         result ≡ ordering_then (nat_cmp from.0 to.0)
         (ordering_then (slice_cmp nat_cmp from.1.now to.1.now) (nat_cmp from.2 to.2)) }
 {
     match one.0.cmp(&other.0) {
-        Ordering::Equal => (one.1.as_str(), one.2).cmp(&(other.1.as_str(), other.2)),
+        Ordering::Equal => compare_ties(one.1, one.2, other.1, other.2),
         unequal => unequal,
     }
 }
 
 /// How one stands to another in an answer.
+#[inline]
 pub(crate) fn compare(order: Order, one: &Found, other: &Found) -> Ordering
     ensures { is_lt result ≡ answers.precedes order one.now other.now }
 {
