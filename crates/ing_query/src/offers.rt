@@ -4,9 +4,8 @@ ghost use Rattle.ing_chunk.specs.Chunks.{AreInOrder, in_blocks, is_between};
 ghost use Rattle.ing_parts.specs.Answers.{Offers};
 ghost use Rattle.ing_parts.specs.Parts.{found_between, found_of};
 
-use ing_chunk::stamps_rise;
 use ing_codec::{LentBlock, LentEntry};
-use ing_parts::{Best, Found, Order, StreamName, offers_join, offers_of_streams};
+use ing_parts::{Best, Found, Order, StreamName, offers_of_streams};
 use std::alloc::{AllocError, Global};
 
 /// What a query gives of an entry, with a copy of its line.
@@ -71,9 +70,7 @@ fn offer_from_last(
     ensures { OnOk result
         (Offers (found_between name.now start end entries.now) best.old best.new) }
 {
-    offers_join();
     offers_of_streams();
-    stamps_rise();
     for index in (0..entries.len()).rev() {
         let lent = &entries[index];
         if best.bars(lent.stamp().nanoseconds()) {
@@ -98,9 +95,7 @@ fn offer_from_first(
     ensures { OnOk result
         (Offers (found_between name.now start end entries.now) best.old best.new) }
 {
-    offers_join();
     offers_of_streams();
-    stamps_rise();
     for lent in entries {
         if best.bars(lent.stamp().nanoseconds()) {
             return Ok(());
