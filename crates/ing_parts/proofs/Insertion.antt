@@ -1,11 +1,9 @@
 -- One more entry in a sorted list: where it goes, and that the first ones are the same where enough stand before it.
-use Rattle.std.proofs.Common.{◌≡◌, ℕ, zero, suc, ◌+◌, ◌≤◌, Bool, true, false, cond, List, [], ◌∷◌, take, drop, get_or, refl, ap, sym, ◌∙◌, subst, zero-add, arith}
-use Rattle.std.specs.Prelude.{All}
+use Rattle.std.proofs.Common.{◌≡◌, ℕ, zero, suc, ◌+◌, ◌≤◌, Bool, true, false, cond, List, [], ◌∷◌, take, get_or, refl, ap, sym, ◌∙◌, subst, zero-add, arith}
 use Rattle.ing_parts.specs.Kept.{ahead}
 use Rattle.std.specs.List.Sorted.{IsSortedBy, IsPermutation}
 use Rattle.std.specs.Cmp.{IsStrictWeakOrder}
 use Rattle.std.proofs.lemmas.List.Sums.{sum_by-cons}
-use Rattle.std.proofs.lemmas.List.Elements.{All-nil, All-cons, All-weaker, All-head, All-tail}
 use Rattle.std.proofs.lemmas.List.Sorted.{IsPermutation-refl, IsPermutation-sym, IsPermutation-trans, IsPermutation-cons, IsPermutation-middle}
 
 decided : {A : Type 0} (b : Bool) → (b ≡ true → A) → (b ≡ false → A) → A
@@ -105,38 +103,3 @@ module _ {X : Type 0} (lt : X → X → Bool) where
 
     pub first_are_same : (n : ℕ) (f : X) (gs : List X) → IsSortedBy lt gs → n ≤ ahead lt f gs → take n (inserted f gs) ≡ take n gs
     first_are_same n f gs h many = first_stay n f gs (rises gs h) many
-
-    -- none of those behind one comes before it
-    all_behind : (x : X) (l : List X) → Head x l → Rises l → All (λ r. lt r x ≡ false) l
-    all_behind x [] head h = All-nil (λ r. lt r x ≡ false)
-    all_behind x (y ∷ ys) head h =
-        All-cons (λ r. lt r x ≡ false) y ys head
-        (All-weaker (λ r. lt r y ≡ false) (λ r. lt r x ≡ false) (λ r e. o.chain r y x e head) ys (all_behind y ys h.0 h.1))
-
-    -- of a sorted list the first n stand ahead of each other one
-    both : (x : X) (n : ℕ) (xs l : List X) → All (λ r. lt r x ≡ false) l → All (λ r. n ≤ ahead lt r xs) l → All (λ r. suc n ≤ ahead lt r (x ∷ xs)) l
-    both x n xs [] a b = All-nil (λ r. suc n ≤ ahead lt r (x ∷ xs))
-    both x n xs (r ∷ l) a b =
-        let one : lt r x ≡ false = All-head (λ r. lt r x ≡ false) r l a in
-        let count : cond (lt r x) 0 1 ≡ 1 = ap (λ t. cond t 0 1) one in
-        let rest : n ≤ ahead lt r xs = All-head (λ r. n ≤ ahead lt r xs) r l b in
-        let all : ahead lt r (x ∷ xs) ≡ cond (lt r x) 0 1 + ahead lt r xs = one_more r x xs in
-        All-cons (λ r. suc n ≤ ahead lt r (x ∷ xs)) r l (subst (λ m. suc n ≤ m) (sym all) (subst (λ m. suc n ≤ m + ahead lt r xs) (sym count) (omega (arith, rest))))
-        (both x n xs l (All-tail (λ r. lt r x ≡ false) r l a) (All-tail (λ r. n ≤ ahead lt r xs) r l b))
-
-    none_needed : (xs l : List X) → All (λ r. 0 ≤ ahead lt r xs) l
-    none_needed xs [] = All-nil (λ r. 0 ≤ ahead lt r xs)
-    none_needed xs (r ∷ l) = All-cons (λ r. 0 ≤ ahead lt r xs) r l (omega arith) (none_needed xs l)
-
-    all_dropped : (P : X → Type 0) (n : ℕ) (l : List X) → All P l → All P (drop n l)
-    all_dropped P zero l h = h
-    all_dropped P (suc n) [] h = h
-    all_dropped P (suc n) (x ∷ l) h = all_dropped P n l (All-tail P x l h)
-
-    first_ahead : (n : ℕ) (l : List X) → Rises l → All (λ r. n ≤ ahead lt r (take n l)) (drop n l)
-    first_ahead zero l h = none_needed [] l
-    first_ahead (suc n) [] h = All-nil (λ r. suc n ≤ ahead lt r [])
-    first_ahead (suc n) (x ∷ l) h = both x n (take n l) (drop n l) (all_dropped (λ r. lt r x ≡ false) n l (all_behind x l h.0 h.1)) (first_ahead n l h.1)
-
-    pub cut_off : (n : ℕ) (l : List X) → IsSortedBy lt l → All (λ r. n ≤ ahead lt r (take n l)) (drop n l)
-    cut_off n l h = first_ahead n l (rises l h)

@@ -1,17 +1,18 @@
 -- What is kept of entries that were offered, and what stands ahead of an entry.
-use Rattle.std.proofs.Common.{cond, ◌≡◌, ℕ, suc, ◌+◌, ◌-◌, ◌<◌, ◌≤◌, true, false, List, [], ◌∷◌, ◌++◌, length, get_or, refl, ap, sym, ◌∙◌, subst, arith, Some}
-use Rattle.std.specs.List.Sorted.{IsSortedBy}
-use Rattle.std.proofs.lemmas.List.Sums.{sum_by-append, sum_by-cons}
+use Rattle.std.proofs.Common.{cond, ◌≡◌, ℕ, zero, suc, ◌+◌, ◌<◌, ◌≤◌, Bool, not, true, false, None, slice_get, List, [], ◌∷◌, ◌++◌, length, get_or, set, refl, ap, sym, subst, arith}
+use Rattle.std.specs.List.Sorted.{IsPermutation}
+use Rattle.std.proofs.lemmas.List.Sums.{sum_by-cons}
 use Rattle.std.proofs.lemmas.List.{get_or_default}
-use Rattle.std.proofs.lemmas.List.Sorted.{sorted_far}
+use Rattle.std.proofs.lemmas.List.Sorted.{IsPermutation-append_left, IsPermutation-sym, IsPermutation-to_front, IsPermutation-trans, sum_by-IsPermutation}
 use Rattle.ing_parts.specs.declared.found.Found.{Found}
 use Rattle.ing_parts.specs.declared.order.Order.{Order}
 use Rattle.ing_parts.specs.declared.order.Order.TheVariants.{Forward, Backward}
-use Rattle.ing_parts.specs.Answers.{BestState, IsAnswer, IsFrom, IsPast, Offers, PassesOver, precedes}
-use Rattle.ing_parts.specs.Kept.{IsBarred, ahead}
-use Rattle.ing_parts.proofs.Insertion.{sorted_taken}
-use Rattle.ing_parts.proofs.SomeLaws.{some_first}
-use Rattle.ing_parts.proofs.StandLaws.{is_first, precedes_is_order, stand_ahead}
+use Rattle.ing_parts.specs.Answers.{BestState, IsFrom, IsPast, Offers, PassesOver, precedes}
+use Rattle.ing_parts.specs.Kept.{IsHeap, ahead}
+use Rattle.ing_parts.proofs.HeapLaws.{top_is_last}
+use Rattle.ing_parts.proofs.Reordered.{first_two}
+use Rattle.ing_parts.proofs.SomeLaws.{some_alike, some_first}
+use Rattle.ing_parts.proofs.StandLaws.{is_first, precedes_is_order, stand_ahead, stand_alike, stand_through}
 
 -- ---- stamps in the order
 
@@ -25,14 +26,6 @@ past_from Backward bar from stamp past is = omega arith
 
 -- ---- how many stand ahead
 
-pub ahead_more : (order : Order) (f g : Found) (gs : List Found) → ahead (precedes order) f (gs ++ g ∷ []) ≡ ahead (precedes order) f gs + cond (precedes order f g) 0 1
-ahead_more order f g gs =
-    let lt = precedes order in
-    sum_by-append (λ x. cond (lt f x) 0 1) gs (g ∷ []) ∙ ap (λ n. ahead lt f gs + n) (sum_by-cons (λ x. cond (lt f x) 0 1) g [] ∙ omega arith)
-
-pub ahead_grows : (order : Order) (f g : Found) (gs : List Found) → ahead (precedes order) f gs ≤ ahead (precedes order) f (gs ++ g ∷ [])
-ahead_grows order f g gs = let more = ahead_more order f g gs in omega (arith, more)
-
 -- all of those before none of which it stands
 all_of_them : (order : Order) (f : Found) (gs : List Found) → ((k : ℕ) (d : Found) → k < length gs → precedes order f (get_or gs k d) ≡ false) → ahead (precedes order) f gs ≡ length gs
 all_of_them order f [] none = refl
@@ -43,30 +36,82 @@ all_of_them order f (g ∷ gs) none =
     let sum : ahead lt f (g ∷ gs) ≡ cond (lt f g) 0 1 + ahead lt f gs = sum_by-cons (λ x. cond (lt f x) 0 1) g gs in
     omega (arith, rest, first, sum)
 
--- ---- the bar
+-- ---- what is kept
+
+pub failed : (b : Bool) → not b ≡ true → b ≡ false
+failed true h = absurd (cc)
+failed false h = refl
+
+pub none_first : {X : Type 0} (xs : List X) → None ≡ slice_get xs 0 → length xs ≡ 0
+none_first [] h = refl
+none_first (x ∷ xs) h = absurd (cc)
 
 -- what has enough ahead of it is passed over
 pub passed : (b : BestState) (f : Found) → b.limit ≤ ahead (precedes b.order) f b.held → Offers (f ∷ []) b b
 passed b f enough = record { order = refl; limit = refl; drawn = some_first b.held (f ∷ []); stand = stand_ahead b.order b.limit b.held f enough }
 
-pub barred_passes : (b : BestState) (bar from : ℕ) → IsBarred b.order b.limit b.held (Some bar) → IsPast b.order bar from → PassesOver from b
-barred_passes b bar from h past f is = passed b f (h f (past_from b.order bar from f.entry.stamp past is))
+-- where none is wanted, each is
+pub none_wanted : (b : BestState) (f : Found) → b.limit ≤ 0 → Offers (f ∷ []) b b
+none_wanted b f none = passed b f (omega arith)
 
--- ---- the first ones
+module _ (b : BestState) (last : Found) (heap : IsHeap (precedes b.order) b.held) (full : b.limit ≤ length b.held) (is : last ≡ get_or b.held 0 last) where
+  -- one that does not go before the last of as many as an answer may have
+  pub refused : (f : Found) → precedes b.order f last ≡ false → Offers (f ∷ []) b b
+  refused f behind =
+      let lt = precedes b.order in
+      let o = precedes_is_order b.order in
+      let none : (k : ℕ) (d : Found) → k < length b.held → lt f (get_or b.held k d) ≡ false = λ k d within.
+      let top : lt last (get_or b.held k last) ≡ false = subst (λ g. lt g (get_or b.held k last) ≡ false) (sym is) (top_is_last lt o b.held k last heap within) in
+      subst (λ g. lt f g ≡ false) (get_or_default b.held k last d within) (o.chain f last (get_or b.held k last) behind top) in
+      let many = all_of_them b.order f b.held none in
+      passed b f (omega (arith, many, full))
 
--- past the stamp of its last entry each has all of an answer ahead of it
-pub answer_bars : (order : Order) (limit : ℕ) (all answer : List Found) (x : Found) → IsAnswer order limit all answer → 0 < length answer → x ≡ get_or answer (length answer - 1) x → (f : Found) → IsPast order x.entry.stamp f.entry.stamp → length answer ≤ ahead (precedes order) f answer
-answer_bars order limit all answer x h some is f past =
-    let lt = precedes order in
-    let o = precedes_is_order order in
-    let up : IsSortedBy lt answer = subst (IsSortedBy lt) (sym h.cut) (sorted_taken lt limit h.sorted h.in_order) in
-    let behind : lt f x ≡ false = o.one_way x f (past_precedes order x f past) in
-    let none : (k : ℕ) (d : Found) → k < length answer → lt f (get_or answer k d) ≡ false = λ k d within.
-    let before : lt x (get_or answer k x) ≡ false = subst (λ g. lt g (get_or answer k x) ≡ false) (sym is) (sorted_far lt o answer up k (length answer - 1) x (omega arith) (omega arith)) in
-    subst (λ g. lt f g ≡ false) (get_or_default answer k x d within) (o.chain f x (get_or answer k x) behind before) in
-    let many = all_of_them order f answer none in
-    omega (arith, many)
+  -- and each from a stamp on that comes behind that of the last
+  pub barred : (from : ℕ) → IsPast b.order last.entry.stamp from → PassesOver from b
+  barred from past f at = refused f ((precedes_is_order b.order).one_way last f (past_precedes b.order last f (past_from b.order last.entry.stamp from f.entry.stamp past at)))
 
--- where as many as an answer may have stand before a stamp
-pub counted_passes : (b : BestState) (from n : ℕ) → ((f : Found) → IsFrom b.order from f.entry.stamp → n ≤ ahead (precedes b.order) f b.held) → b.limit ≤ n → PassesOver from b
-counted_passes b from n before many f is = passed b f (let enough = before f is in omega (arith, enough))
+-- one more is kept
+pub added : (b new : BestState) (f : Found) → new.order ≡ b.order → new.limit ≡ b.limit → IsPermutation (b.held ++ f ∷ []) new.held → Offers (f ∷ []) b new
+added b new f order limit same = record {
+  order = order;
+  limit = limit;
+  drawn = some_alike new.held (b.held ++ f ∷ []) (IsPermutation-sym (b.held ++ f ∷ []) new.held same);
+  stand = stand_alike b.order b.limit new.held (b.held ++ f ∷ []) (IsPermutation-sym (b.held ++ f ∷ []) new.held same);
+}
+
+module _ (order : Order) (limit : ℕ) (last f : Found) (rest new : List Found) (heap : IsHeap (precedes order) (last ∷ rest)) (full : limit ≤ length (last ∷ rest)) (before : precedes order f last ≡ true) (same : IsPermutation (f ∷ rest) new) where
+  -- the last of before and what is kept now are those of before and the new one
+  all : IsPermutation (new ++ last ∷ []) ((last ∷ rest) ++ f ∷ [])
+  all =
+      let held = last ∷ rest in
+      let turned : IsPermutation (new ++ last ∷ []) ((f ∷ rest) ++ last ∷ []) = IsPermutation-append_left (last ∷ []) new (f ∷ rest) (IsPermutation-sym (f ∷ rest) new same) in
+      let front : IsPermutation ((f ∷ rest) ++ last ∷ []) (last ∷ f ∷ rest) = IsPermutation-to_front (f ∷ rest) last in
+      let back : IsPermutation (f ∷ held) (held ++ f ∷ []) = IsPermutation-sym (held ++ f ∷ []) (f ∷ held) (IsPermutation-to_front held f) in
+      IsPermutation-trans (new ++ last ∷ []) ((f ∷ rest) ++ last ∷ []) (held ++ f ∷ []) turned
+      (IsPermutation-trans ((f ∷ rest) ++ last ∷ []) (last ∷ f ∷ rest) (held ++ f ∷ []) front
+      (IsPermutation-trans (last ∷ f ∷ rest) (f ∷ last ∷ rest) (held ++ f ∷ []) (first_two last f rest) back))
+
+  none_behind : (k : ℕ) (d : Found) → k < length (f ∷ rest) → precedes order last (get_or (f ∷ rest) k d) ≡ false
+  none_behind zero d within = (precedes_is_order order).one_way f last before
+  none_behind (suc k) d within = top_is_last (precedes order) (precedes_is_order order) (last ∷ rest) (suc k) d heap within
+
+  enough : limit ≤ ahead (precedes order) last new
+  enough =
+      let lt = precedes order in
+      let many = all_of_them order last (f ∷ rest) none_behind in
+      let count : ahead lt last new ≡ ahead lt last (f ∷ rest) = sum_by-IsPermutation (λ g. cond (lt last g) 0 1) (f ∷ rest) new same in
+      omega (arith, many, count, full)
+
+  pub replaced : Offers (f ∷ []) (record { order = order; limit = limit; held = last ∷ rest }) (record { order = order; limit = limit; held = new })
+  replaced = record {
+    order = refl;
+    limit = refl;
+    drawn = record { others = last ∷ []; same = all };
+    stand = stand_through order limit new (new ++ last ∷ []) ((last ∷ rest) ++ f ∷ []) (stand_ahead order limit new last enough) (stand_alike order limit (new ++ last ∷ []) ((last ∷ rest) ++ f ∷ []) all);
+  }
+
+-- one takes the place of the last
+pub replaces : (order : Order) (limit : ℕ) (last f : Found) (held new : List Found) → IsHeap (precedes order) held → limit ≤ length held → 0 < length held → last ≡ get_or held 0 last → precedes order f last ≡ true → IsPermutation (set held 0 f) new
+    → Offers (f ∷ []) (record { order = order; limit = limit; held = held }) (record { order = order; limit = limit; held = new })
+replaces order limit last f [] new heap full some is before same = absurd (omega arith)
+replaces order limit last f (g ∷ rest) new heap full some is before same = replaced order limit g f rest new heap full (subst (λ x. precedes order f x ≡ true) is before) same

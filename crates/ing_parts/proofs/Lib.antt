@@ -1,4 +1,5 @@
 pub mod FoundLaws
+mod HeapLaws
 mod Insertion
 mod KeptLaws
 mod ListingLaws

@@ -15,10 +15,6 @@ use Rattle.ing_parts.proofs.RangeLaws.{missed}
 use Rattle.ing_parts.proofs.SomeLaws.{some_alike, some_beside, some_first, some_through}
 use Rattle.ing_parts.proofs.StandLaws.{stand_alike, stand_answered, stand_beside, stand_still, stand_through}
 
-from_itself : (order : Order) (stamp : ℕ) → IsFrom order stamp stamp
-from_itself Forward stamp = omega arith
-from_itself Backward stamp = omega arith
-
 pub offers_none : (b : BestState) → Offers [] b b
 offers_none b = record { order = refl; limit = refl; drawn = some_first b.held []; stand = subst (StandFor b.order b.limit b.held) (sym (append-nil b.held)) (stand_still b.order b.limit b.held) }
 
@@ -94,10 +90,10 @@ offers_previous name start end xs more all old mid new is h k =
     let y = found_between name start end more in
     subst (λ l. Offers l old new) (sym (between_parts name start end more xs) ∙ sym (ap (found_between name start end) is)) (offers_alike (x ++ y) (y ++ x) old new (IsPermutation-append_comm x y) (offers_both x y old mid new h k))
 
--- one that nothing from its stamp on changes, or that is not in the range
-pub passed_or_out : (b : BestState) (f : Found) (t : Bool) → PassesOver f.entry.stamp b → Offers (cond t (f ∷ []) []) b b
-passed_or_out b f true pass = pass f (from_itself b.order f.entry.stamp)
-passed_or_out b f false pass = offers_none b
+-- one that changes nothing, or that is not in the range
+pub refused_or_out : (b : BestState) (f : Found) (t : Bool) → Offers (f ∷ []) b b → Offers (cond t (f ∷ []) []) b b
+refused_or_out b f true still = still
+refused_or_out b f false still = offers_none b
 
 -- ---- entries that come from a stamp on
 

@@ -1,11 +1,9 @@
 -- Some of all entries, none invented and none doubled.
-use Rattle.std.proofs.Common.{ℕ, Bool, true, false, cond, List, [], ◌∷◌, ◌++◌, filter, drop, append_assoc, append-nil, sym, subst}
+use Rattle.std.proofs.Common.{Bool, true, false, cond, List, [], ◌∷◌, ◌++◌, filter, append_assoc, append-nil, sym, subst}
 use Rattle.std.specs.Prelude.{IsPermutation}
-use Rattle.std.proofs.lemmas.List.{take-append-drop}
-use Rattle.std.proofs.lemmas.List.Sorted.{IsPermutation-refl, IsPermutation-sym, IsPermutation-trans, IsPermutation-cons, IsPermutation-middle, IsPermutation-append_comm, IsPermutation-append_left, IsPermutation-append_right}
+use Rattle.std.proofs.lemmas.List.Sorted.{IsPermutation-refl, IsPermutation-trans, IsPermutation-cons, IsPermutation-middle, IsPermutation-append_comm, IsPermutation-append_left, IsPermutation-append_right}
 use Rattle.ing_parts.specs.declared.found.Found.{Found}
-use Rattle.ing_parts.specs.declared.order.Order.{Order}
-use Rattle.ing_parts.specs.Answers.{AreSomeOf, IsAnswer}
+use Rattle.ing_parts.specs.Answers.{AreSomeOf}
 
 -- a rearrangement is of them
 pub some_alike : (xs ys : List Found) → IsPermutation xs ys → AreSomeOf xs ys
@@ -61,10 +59,3 @@ module _ (test : Found → Bool) where
 
   pub some_pass : (fs : List Found) → AreSomeOf (filter test fs) fs
   some_pass fs = record { others = failing fs; same = apart fs }
-
--- an answer is of all
-pub some_answer : (order : Order) (limit : ℕ) (all answer : List Found) → IsAnswer order limit all answer → AreSomeOf answer all
-some_answer order limit all answer h =
-    some_through answer h.sorted all
-    (record { others = drop limit h.sorted; same = subst (λ l. IsPermutation (l ++ drop limit h.sorted) h.sorted) (sym h.cut) (subst (λ l. IsPermutation l h.sorted) (sym (take-append-drop limit h.sorted)) (IsPermutation-refl h.sorted)) })
-    (some_alike h.sorted all (IsPermutation-sym all h.sorted h.same))

@@ -1,6 +1,5 @@
 -- Entries that stand for others in an answer.
-use Rattle.std.proofs.Common.{cond, ◌==◌, ◌≡◌, ℕ, ◌+◌, ◌<◌, ◌≤◌, true, List, [], ◌∷◌, ◌++◌, take, drop, append_assoc, append-nil, ap, sym, ◌∙◌, subst, arith}
-use Rattle.std.specs.Prelude.{All}
+use Rattle.std.proofs.Common.{cond, ◌==◌, ◌≡◌, ℕ, ◌+◌, ◌<◌, ◌≤◌, true, List, [], ◌∷◌, ◌++◌, append_assoc, append-nil, ap, sym, ◌∙◌, subst, arith}
 use Rattle.std.specs.List.Sorted.{IsPermutation}
 use Rattle.std.specs.Cmp.{IsStrictWeakOrder, IsTotalOrder}
 use Rattle.std.specs.Cmp.Lexicographic.{slice_cmp}
@@ -8,16 +7,14 @@ use Rattle.std.specs.declared.cmp.Ordering.TheVariants.{Less, Equal, Greater}
 use Rattle.std.specs.Ordering.{is_lt, nat_cmp, ordering_then, then_cmp, on}
 use Rattle.std.proofs.lemmas.Bool.{lt-ltb}
 use Rattle.std.proofs.lemmas.Cmp.{nat_cmp_total, nat_list_cmp_total, on_total, then_total}
-use Rattle.std.proofs.lemmas.List.{take-append-drop}
 use Rattle.std.proofs.lemmas.List.Sums.{sum_by-append}
-use Rattle.std.proofs.lemmas.List.Elements.{All-head, All-tail}
 use Rattle.std.proofs.lemmas.List.Sorted.{ranks_by, IsStrictWeakOrder-flip, IsPermutation-sym, IsPermutation-trans, IsPermutation-cons, IsPermutation-middle, IsPermutation-append_left, sum_by-IsPermutation}
 use Rattle.ing_parts.specs.declared.found.Found.{Found}
 use Rattle.ing_parts.specs.declared.order.Order.{Order}
 use Rattle.ing_parts.specs.declared.order.Order.TheVariants.{Forward, Backward}
 use Rattle.ing_parts.specs.Answers.{IsAnswer, StandFor, comes_first, precedes}
 use Rattle.ing_parts.specs.Kept.{ahead}
-use Rattle.ing_parts.proofs.Insertion.{cut_off, first_are_same, inserted, inserts, sorted_inserted}
+use Rattle.ing_parts.proofs.Insertion.{first_are_same, inserted, inserts, sorted_inserted}
 
 -- ---- the order of an answer
 
@@ -76,24 +73,6 @@ module _ (order : Order) (limit : ℕ) where
         in_order = sorted_inserted lt (precedes_is_order order) f h.sorted h.in_order;
         cut = h.cut ∙ sym (first_are_same lt (precedes_is_order order) limit f h.sorted h.in_order (omega arith));
       }
-
-  all_ahead : (xs rest : List Found) → All (λ r. limit ≤ ahead (precedes order) r xs) rest → StandFor order limit xs (xs ++ rest)
-  all_ahead xs [] all = subst (StandFor order limit xs) (sym (append-nil xs)) (stand_still xs)
-  all_ahead xs (r ∷ rest) all =
-      let lt = precedes order in
-      stand_through xs (xs ++ rest) (xs ++ r ∷ rest) (all_ahead xs rest (All-tail (λ r. limit ≤ ahead lt r xs) r rest all))
-      (subst (StandFor order limit (xs ++ rest)) (append_assoc xs (r ∷ []) rest)
-      (stand_beside xs (xs ++ r ∷ []) rest (stand_ahead xs r (All-head (λ r. limit ≤ ahead lt r xs) r rest all))))
-
-  -- an answer stands for all that it is of
-  pub answer_stands : (all answer : List Found) → IsAnswer order limit all answer → StandFor order limit answer all
-  answer_stands all answer h =
-      let lt = precedes order in
-      let first = take limit h.sorted in
-      let rest = drop limit h.sorted in
-      let sorted : StandFor order limit first h.sorted = subst (StandFor order limit first) (take-append-drop limit h.sorted) (all_ahead first rest (cut_off lt (precedes_is_order order) limit h.sorted h.in_order)) in
-      subst (λ l. StandFor order limit l all) (sym h.cut)
-      (stand_through first h.sorted all sorted (stand_alike h.sorted all (IsPermutation-sym all h.sorted h.same)))
 
   -- what stands for all has no other answer
   pub stand_answered : (xs ys answer : List Found) → StandFor order limit xs ys → IsAnswer order limit xs answer → IsAnswer order limit ys answer

@@ -1,23 +1,22 @@
 //! The best entries so far.
-ghost use Rattle.std.specs.Prelude.{◌≡◌, ◌<◌, ◌≤◌, [], ◌∷◌, length, min, OnOk, true, vec_len};
-ghost use Rattle.ing_parts.specs.Answers.{IsAnswer, IsFrom, IsPast, Offers, PassesOver, precedes};
-ghost use Rattle.ing_parts.specs.Kept.{ahead};
-ghost use Rattle.ing_parts.specs.declared.found.Found.{Found};
+ghost use Rattle.std.specs.Prelude.{◌≡◌, [], ◌∷◌, OnOk, true};
+ghost use Rattle.ing_rows.specs.declared.entry.Entry.{Entry};
+ghost use Rattle.ing_parts.specs.Answers.{IsAnswer, IsPast, Offers, PassesOver};
 
 use crate::found::Found;
-use crate::order::{Order, compare};
+use crate::heap::{add, replace_last};
+use crate::order::{Order, compare, goes_before};
+use crate::stream_name::StreamName;
 use std::alloc::{AllocError, Global};
 use std::marker::Model;
 
-/// The best of the entries that were offered, the first of an answer being the best: at most twice as many as an answer
-/// may have, in no order. Contracts see the order, how many an answer may have, and what is kept. (Own.)
+/// The best of the entries that were offered, the first of an answer being the best: as many as an answer may have at most, in a
+/// heap with the last of them on top. Contracts see the order, how many an answer may have, and what is kept. (Own.)
 #[derive(Drop)]
 pub struct Best {
     order: Order,
     limit: usize,
     held: Vec<Found>,
-    /// Behind this stamp none is kept.
-    bar: Option<u64>,
 }
 
 impl Model for Best {
@@ -27,9 +26,9 @@ impl Model for Best {
 
     ghost view = { λ b. record { order = b.order; limit = b.limit; held = b.held.items } };
 
-    ghost use Rattle.ing_parts.specs.Kept.{IsBarred};
+    ghost use Rattle.ing_parts.specs.Kept.{IsKept};
 
-    ghost invariant = { λ b. IsBarred b.order b.limit b.held.items b.bar };
+    ghost invariant = { λ b. IsKept b.order b.limit b.held.items };
 }
 
 /// Whether a stamp comes behind another in an order.
@@ -42,15 +41,6 @@ fn is_past(order: Order, bar: u64, stamp: u64) -> bool
     }
 }
 
-/// Leaves of entries the first ones in an order, in that order, so many at most.
-fn cut(held: &mut Vec<Found>, order: Order, limit: usize)
-    ensures answer { IsAnswer order limit held.old.items held.new.items }
-    ensures count { vec_len held.new ≡ min limit (vec_len held.old) }
-{
-    held.sort_unstable_by(|one, other| compare(order, one, other));
-    held.truncate(limit);
-}
-
 impl Best {
     /// None yet, of answers in this order that have so many entries at most. Takes no memory.
     pub fn new(alloc: Global, order: Order, limit: usize) -> Best
@@ -60,7 +50,6 @@ impl Best {
             order,
             limit,
             held: Vec::new(alloc),
-            bar: None,
         }
     }
 
@@ -71,80 +60,70 @@ impl Best {
         self.order
     }
 
-    /// Whether none from this stamp on changes an answer, as far as it shows at once. Constant.
+    /// Whether none from this stamp on changes an answer: as many as it may have stand strictly before. Constant.
     pub fn bars(&self, from: u64) -> bool
         ensures { result ≡ true → PassesOver from self.now }
     {
-        match self.bar {
-            Some(bar) => is_past(self.order, bar, from),
-            None => false,
+        if self.held.len() < self.limit {
+            return false;
+        }
+        match self.held.first() {
+            Some(last) => is_past(self.order, last.entry.stamp.nanoseconds(), from),
+            None => true,
         }
     }
 
-    /// Whether none from this stamp on changes an answer: as many as it may have stand strictly before. Looks at each that is
-    /// kept, where it does not show at once.
-    pub fn passes_over(&self, from: u64) -> bool
-        ensures { result ≡ true → PassesOver from self.now }
+    /// Whether an entry of this stamp, name and number changes no answer, so that it need not be copied. Constant.
+    pub fn refuses(&self, stamp: u64, name: &StreamName, number: u64) -> bool
+        ensures { result ≡ true → (entry : Entry) → entry.stamp ≡ stamp →
+            Offers (record { name = name.now; number = number; entry = entry } ∷ [])
+            self.now self.now }
     {
-        self.bars(from) || self.before(from) >= self.limit
-    }
-
-    /// How many stand strictly before a stamp.
-    fn before(&self, from: u64) -> usize
-        ensures { (f : Found) → IsFrom self.now.order from f.entry.stamp →
-            result ≤ ahead (precedes self.now.order) f self.now.held }
-    {
-        let mut count = 0;
-        for held in &self.held {
-            if is_past(self.order, held.entry.stamp.nanoseconds(), from) {
-                count += 1;
-            }
+        if self.held.len() < self.limit {
+            return false;
         }
-        count
+        match self.held.first() {
+            Some(last) => !goes_before(self.order, stamp, name, number, last),
+            None => true,
+        }
     }
 
     /// Keeps an entry, where it may be in an answer. `AllocError` where memory ran out.
     pub fn offer(&mut self, found: Found) -> Result<(), AllocError>
         ensures { OnOk result (Offers (found ∷ []) self.old self.new) }
     {
-        if self.limit == 0 {
-            return Ok(());
+        if self.held.len() < self.limit {
+            return add(&mut self.held, self.order, found);
         }
-        self.held.push(found)?;
-        if self.held.len() / 2 >= self.limit {
-            self.raise();
+        if let Some(last) = self.held.first() {
+            if compare(self.order, &found, last).is_lt() {
+                replace_last(&mut self.held, self.order, found);
+            }
         }
         Ok(())
-    }
-
-    /// Of as many as an answer may have, and more, leaves the first, and raises the bar.
-    fn raise(&mut self)
-        requires some { 0 < self.old.limit }
-        requires many { self.old.limit ≤ length self.old.held }
-        ensures { Offers [] self.old self.new }
-    {
-        cut(&mut self.held, self.order, self.limit);
-        if let Some(last) = self.held.last() {
-            self.bar = Some(last.entry.stamp.nanoseconds());
-        }
     }
 
     /// Keeps of what another kept what may be in an answer. `AllocError` where memory ran out.
     pub fn take_over(&mut self, other: Best) -> Result<(), AllocError>
         ensures { OnOk result (Offers other.held self.old self.new) }
     {
+        if self.held.is_empty() && self.order == other.order && self.limit == other.limit {
+            self.held = other.held;
+            return Ok(());
+        }
         for found in other.held {
             self.offer(found)?;
         }
         Ok(())
     }
 
-    /// The first of those that are kept, in order, as many as an answer may have.
+    /// Those that are kept, in order.
     pub fn into_answer(self) -> Vec<Found>
         ensures { IsAnswer self.order self.limit self.held result.items }
     {
+        let order = self.order;
         let mut held = self.held;
-        cut(&mut held, self.order, self.limit);
+        held.sort_unstable_by(|one, other| compare(order, one, other));
         held
     }
 }

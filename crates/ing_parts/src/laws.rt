@@ -1,5 +1,5 @@
 //! What holds of all snapshots, for the crates above.
-ghost use Rattle.std.specs.Prelude.{◌≡◌, ◌≤◌, ◌++◌, ◌∷◌, ℕ, [], Bool, List, All, IsPermutation, filter, length, map};
+ghost use Rattle.std.specs.Prelude.{◌≡◌, ◌<◌, ◌≤◌, ◌+◌, ◌++◌, ◌∷◌, ℕ, [], Bool, List, All, IsPermutation, drop, filter, get_or, length, map, take};
 ghost use Rattle.std.specs.List.{Contains};
 ghost use Rattle.std.specs.List.Sorted.{IsSortedBy};
 ghost use Rattle.ing_rows.specs.Rows.{Row};
@@ -7,9 +7,11 @@ ghost use Rattle.ing_parts.specs.declared.found.Found.{Found};
 ghost use Rattle.ing_parts.specs.declared.order.Order.{Order};
 ghost use Rattle.ing_parts.specs.declared.snapshot.Snapshot.{Snapshot};
 ghost use Rattle.ing_parts.specs.Answers.{BestState, IsAnswer, IsFrom, Offers, PassesOver, StandFor, precedes};
+ghost use Rattle.ing_chunk.specs.Chunks.{AreInOrder};
 ghost use Rattle.ing_chunk.specs.declared.numbered.Numbered.{Numbered};
-ghost use Rattle.ing_parts.specs.Parts.{Adds, AddsRows, AreFrom, RowsAreFound, found_at, found_between};
+ghost use Rattle.ing_parts.specs.Parts.{Adds, AddsRows, AreFrom, RowsAreFound, found_at, found_between, found_of};
 
+use ing_chunk::stamps_rise;
 use ing_store::Receipt;
 
 /// What is offered after something else is offered together with it, in whatever order; nothing changes where none is offered, or
@@ -27,8 +29,9 @@ pub fn offers_join()
         IsAnswer old.order old.limit (old.held ++ all) answer }
 {}
 
-/// The same of entries of one stream in a range: of those behind others, and of those before them; and of those that come from a
-/// stamp on from which none changes anything, in the range or out of it.
+/// The same of entries of one stream in a range: of those behind others, and of those before them; and of one that changes nothing,
+/// and of those that come from a stamp on from which none does, in the range or out of it. So a run in order ends at the first such
+/// stamp.
 pub fn offers_of_streams()
     ensures next { (name : List ℕ) (start end : ℕ) (xs more all : List Numbered)
         (old mid new : BestState) → all ≡ xs ++ more →
@@ -41,13 +44,25 @@ pub fn offers_of_streams()
         Offers (found_between name start end more) mid new →
         Offers (found_between name start end all) old new }
     ensures one { (name : List ℕ) (start end : ℕ) (e : Numbered) (b : BestState) →
-        PassesOver e.entry.stamp b → Offers (found_between name start end (e ∷ [])) b b }
+        Offers (found_of name e ∷ []) b b → Offers (found_between name start end (e ∷ [])) b b }
     ensures from { (name : List ℕ) (start end from : ℕ) (es : List Numbered) (b : BestState) →
         PassesOver from b → AreFrom b.order from es →
         Offers (found_between name start end es) b b }
     ensures none { (name : List ℕ) (start end : ℕ) (b : BestState) →
         Offers (found_between name start end []) b b }
-{}
+    ensures rest { (name : List ℕ) (start end : ℕ) (run : List Numbered) (i : ℕ) (e : Numbered)
+        (old b : BestState) → AreInOrder run → i < length run → e ≡ get_or run i e →
+        b.order ≡ Order.Forward → PassesOver e.entry.stamp b →
+        Offers (found_between name start end (take i run)) old b →
+        Offers (found_between name start end run) old b }
+    ensures front { (name : List ℕ) (start end : ℕ) (run : List Numbered) (i : ℕ) (e : Numbered)
+        (old b : BestState) → AreInOrder run → i < length run → e ≡ get_or run i e →
+        b.order ≡ Order.Backward → PassesOver e.entry.stamp b →
+        Offers (found_between name start end (drop (i + 1) run)) old b →
+        Offers (found_between name start end run) old b }
+{
+    stamps_rise();
+}
 
 /// An answer has as many entries as it may at most, in its order, and each of them is one of those that it is an answer of.
 /// (Loki documentation: HTTP API, query range: limit and direction.)

@@ -3,6 +3,7 @@
 
 mod best;
 mod found;
+mod heap;
 mod laws;
 mod listing;
 mod offers;

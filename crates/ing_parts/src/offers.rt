@@ -12,13 +12,13 @@ use ing_chunk::{Block, Head, Numbered, spans_bound_stamps, stamps_rise};
 use std::alloc::{AllocError, Global};
 
 /// Whether an entry is to be offered: its stamp is in the range, and it may be kept.
-fn is_offered(best: &Best, numbered: &Numbered, start: u64, end: u64) -> bool
+fn is_offered(best: &Best, name: &StreamName, numbered: &Numbered, start: u64, end: u64) -> bool
     ensures offered { result ≡ true → is_between start end numbered.now ≡ true }
-    ensures passed { result ≡ false → (name : List ℕ) →
-        Offers (found_between name start end (numbered.now ∷ [])) best.now best.now }
+    ensures passed { result ≡ false →
+        Offers (found_between name.now start end (numbered.now ∷ [])) best.now best.now }
 {
     let stamp = numbered.entry.stamp.nanoseconds();
-    start <= stamp && stamp < end && !best.bars(stamp)
+    start <= stamp && stamp < end && !best.refuses(stamp, name, numbered.number)
 }
 
 /// Offers a copy of an entry whose stamp is in the range. It is made only where it may be kept.
@@ -33,7 +33,7 @@ fn offer_one(
     ensures { OnOk result
         (Offers (found_between name.now start end (numbered.now ∷ [])) best.old best.new) }
 {
-    if !is_offered(best, numbered, start, end) {
+    if !is_offered(best, name, numbered, start, end) {
         return Ok(());
     }
     best.offer(Found {

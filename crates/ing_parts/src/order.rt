@@ -1,9 +1,12 @@
 //! In which order an answer has its entries.
 ghost use Rattle.std.specs.Prelude.{◌≡◌};
-ghost use Rattle.std.specs.Ordering.{is_lt};
+ghost use Rattle.std.specs.Cmp.Lexicographic.{slice_cmp};
+ghost use Rattle.std.specs.Ordering.{is_lt, nat_cmp, ordering_then};
+ghost use Rattle.ing_rows.specs.declared.entry.Entry.{Entry};
 ghost use Rattle.ing_parts.specs.Answers as answers;
 
 use crate::found::Found;
+use crate::stream_name::StreamName;
 use std::cmp::Ordering;
 
 /// In which order an answer has its entries (Loki documentation: HTTP API, query range: direction).
@@ -28,25 +31,58 @@ pub struct Question {
     pub limit: usize,
 }
 
-/// How one stands to another by stamp, then name, then number.
-fn by_stamp(one: &Found, other: &Found) -> Ordering
-    ensures { is_lt result ≡ answers.comes_first one.now other.now }
+/// How one name and number stand to others.
+#[inline(never)]
+fn compare_ties(
+    one_name: &StreamName,
+    one_number: u64,
+    other_name: &StreamName,
+    other_number: u64,
+) -> Ordering
+    ensures { result ≡ ordering_then (slice_cmp nat_cmp one_name.now other_name.now)
+        (nat_cmp one_number other_number) }
 {
-    let one_key = (one.entry.stamp.nanoseconds(), one.name.as_str(), one.number);
-    let other_key = (
-        other.entry.stamp.nanoseconds(),
-        other.name.as_str(),
-        other.number,
-    );
-    one_key.cmp(&other_key)
+    (one_name.as_str(), one_number).cmp(&(other_name.as_str(), other_number))
+}
+
+/// How one stamp, name and number stand to others. Few stamps are the same, so names are compared out of line.
+#[inline(always)]
+fn compare_keys(one: (u64, &StreamName, u64), other: (u64, &StreamName, u64)) -> Ordering
+    ensures { let from = one.entry in let to = other.entry in
+        result ≡ ordering_then (nat_cmp from.0 to.0)
+        (ordering_then (slice_cmp nat_cmp from.1.now to.1.now) (nat_cmp from.2 to.2)) }
+{
+    match one.0.cmp(&other.0) {
+        Ordering::Equal => compare_ties(one.1, one.2, other.1, other.2),
+        unequal => unequal,
+    }
 }
 
 /// How one stands to another in an answer.
+#[inline]
 pub(crate) fn compare(order: Order, one: &Found, other: &Found) -> Ordering
     ensures { is_lt result ≡ answers.precedes order one.now other.now }
 {
     match order {
-        Order::Forward => by_stamp(one, other),
-        Order::Backward => by_stamp(other, one),
+        Order::Forward => compare_keys(one.key(), other.key()),
+        Order::Backward => compare_keys(other.key(), one.key()),
+    }
+}
+
+/// Whether an answer has an entry of this stamp, name and number before another.
+pub(crate) fn goes_before(
+    order: Order,
+    stamp: u64,
+    name: &StreamName,
+    number: u64,
+    other: &Found,
+) -> bool
+    ensures { (entry : Entry) → entry.stamp ≡ stamp → result ≡ answers.precedes order
+        (record { name = name.now; number = number; entry = entry }) other.now }
+{
+    let key = (stamp, name, number);
+    match order {
+        Order::Forward => compare_keys(key, other.key()).is_lt(),
+        Order::Backward => compare_keys(other.key(), key).is_lt(),
     }
 }

@@ -5,4 +5,3 @@ mod FlatLaws
 mod AnswerLaws
 mod NumberLaws
 mod OnceLaws
-mod RunLaws

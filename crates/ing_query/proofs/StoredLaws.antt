@@ -1,5 +1,5 @@
 -- Stored parts: which need not be read, and what is known of one that is.
-use Rattle.std.proofs.Common.{◌≡◌, ℕ, ◌≤◌, ◌<◌, Bool, true, false, not, ◌&&◌, cond, nat_le, nat_lt, List, [], ◌∷◌, Ok, refl, ap, sym, ◌∙◌, subst, arith}
+use Rattle.std.proofs.Common.{◌≡◌, ℕ, ◌≤◌, ◌<◌, ◌⊎◌, inl, inr, Bool, true, false, not, ◌&&◌, cond, nat_le, nat_lt, List, [], ◌∷◌, Ok, refl, ap, sym, ◌∙◌, subst, arith}
 use Rattle.std.specs.Prelude.{Result, Err, IfErr}
 use Rattle.std.specs.Result.{IsErrAnd}
 use Rattle.std.specs.List.{Contains}
@@ -32,6 +32,11 @@ none_early name start end (e ∷ es) h =
     let early : nat_le start e.entry.stamp ≡ false = lt-leb start e.entry.stamp (omega arith) in
     ap (λ b. cond (b && nat_lt e.entry.stamp end) (found_of name e ∷ found_between name start end es) (found_between name start end es)) early
     ∙ none_early name start end es (omega arith)
+
+-- one that is not in the range
+pub none_between : (name : List ℕ) (start end : ℕ) (e : Numbered) → ((start ≤ e.entry.stamp) × (end ≤ e.entry.stamp)) ⊎ (e.entry.stamp < start) → found_between name start end (e ∷ []) ≡ []
+none_between name start end e (inl late) = ap (λ b. cond b (found_of name e ∷ []) []) (outside (nat_le start e.entry.stamp) (nat_lt e.entry.stamp end) (le-ltb e.entry.stamp end late.1))
+none_between name start end e (inr early) = ap (λ b. cond (b && nat_lt e.entry.stamp end) (found_of name e ∷ []) []) (lt-leb start e.entry.stamp early)
 
 pub holds : (b : Bool) → not b ≡ false → b ≡ true
 holds true h = refl

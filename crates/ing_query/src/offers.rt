@@ -4,9 +4,8 @@ ghost use Rattle.ing_chunk.specs.Chunks.{AreInOrder, in_blocks, is_between};
 ghost use Rattle.ing_parts.specs.Answers.{Offers};
 ghost use Rattle.ing_parts.specs.Parts.{found_between, found_of};
 
-use ing_chunk::stamps_rise;
 use ing_codec::{LentBlock, LentEntry};
-use ing_parts::{Best, Found, Order, StreamName, offers_join, offers_of_streams};
+use ing_parts::{Best, Found, Order, StreamName, offers_of_streams};
 use std::alloc::{AllocError, Global};
 
 /// What a query gives of an entry, with a copy of its line.
@@ -26,14 +25,15 @@ pub(crate) fn lent_found(
 }
 
 /// Whether an entry is to be offered: its stamp is in the range, and it may be kept.
-fn is_offered(best: &Best, lent: &LentEntry<'_>, start: u64, end: u64) -> bool
+fn is_offered(best: &Best, name: &StreamName, lent: &LentEntry<'_>, start: u64, end: u64) -> bool
     ensures offered { result ≡ true → is_between start end lent.now ≡ true }
-    ensures passed { result ≡ false → (name : List ℕ) →
-        Offers (found_between name start end (lent.now ∷ [])) best.now best.now }
+    ensures passed { result ≡ false →
+        Offers (found_between name.now start end (lent.now ∷ [])) best.now best.now }
 {
     offers_of_streams();
     let stamp = lent.stamp().nanoseconds();
-    start <= stamp && stamp < end && !best.bars(stamp)
+    let number = lent.number();
+    start <= stamp && stamp < end && !best.refuses(stamp, name, number)
 }
 
 /// Offers a copy of an entry whose stamp is in the range. It is made only where it may be kept.
@@ -48,7 +48,7 @@ fn offer_one(
     ensures { OnOk result
         (Offers (found_between name.now start end (lent.now ∷ [])) best.old best.new) }
 {
-    if !is_offered(best, lent, start, end) {
+    if !is_offered(best, name, lent, start, end) {
         return Ok(());
     }
     best.offer(lent_found(alloc, name, lent)?)?;
@@ -70,9 +70,7 @@ fn offer_from_last(
     ensures { OnOk result
         (Offers (found_between name.now start end entries.now) best.old best.new) }
 {
-    offers_join();
     offers_of_streams();
-    stamps_rise();
     for index in (0..entries.len()).rev() {
         let lent = &entries[index];
         if best.bars(lent.stamp().nanoseconds()) {
@@ -97,9 +95,7 @@ fn offer_from_first(
     ensures { OnOk result
         (Offers (found_between name.now start end entries.now) best.old best.new) }
 {
-    offers_join();
     offers_of_streams();
-    stamps_rise();
     for lent in entries {
         if best.bars(lent.stamp().nanoseconds()) {
             return Ok(());
