@@ -4,13 +4,13 @@ use Rattle.std.specs.Prelude.{if◌then◌else◌, IfOk, OnOk, IsErr}
 use Rattle.std.specs.declared.alloc.AllocError.{AllocError}
 use Rattle.serde_json.specs.Data.{Data}
 use Rattle.ing_limits.specs.Settings.{StoreSettings}
-use Rattle.ing_session.specs.declared.command.fault.LineFault.{LineFault}
+use Rattle.ing_commands.specs.declared.fault.LineFault.{LineFault}
 use Rattle.ing_store.specs.declared.store_end.Receipt.{Ghosts}
-use Rattle.ing_session.specs.declared.command.fault.LineFault.TheVariants.{NoMemory}
+use Rattle.ing_commands.specs.declared.fault.LineFault.TheVariants.{NoMemory}
 use Rattle.ing_session.specs.declared.reply.Reply.{Reply}
 use Rattle.ing_session.specs.declared.session.Session.{Session}
-use Rattle.ing_session.specs.Commands.{Command, Flush, command_of}
-use Rattle.ing_session.specs.FlushCommands.{FlushCommand}
+use Rattle.ing_commands.specs.Commands.{Command, Flush, command_of}
+use Rattle.ing_commands.specs.FlushCommands.{FlushCommand}
 use Rattle.ing_session.specs.Held.{Held, IsHeld}
 use Rattle.ing_session.specs.Flushing.{HaveCause, failed_among}
 use Rattle.ing_session.specs.Queries.{Unasked}

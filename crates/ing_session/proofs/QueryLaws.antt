@@ -22,12 +22,12 @@ use Rattle.ing_rows.specs.Rows.{Row, StreamKey}
 use Rattle.ing_store.specs.declared.store_end.Receipt.{Ghosts}
 use Rattle.ing_session.specs.declared.reply.Reply.{Reply}
 use Rattle.ing_session.specs.declared.session.Session.{Session}
-use Rattle.ing_session.specs.Commands.{Query}
+use Rattle.ing_commands.specs.Commands.{Query}
 use Rattle.ing_query.specs.QueryFaults.{query_refusal_of}
 use Rattle.ing_session.specs.Flushing.{HaveCause}
 use Rattle.ing_session.specs.Held.{Held, IsHeld}
 use Rattle.ing_session.specs.Queries.{Answer, Refused, Failed, Damaged, QueryMayBe, Reads, IsFound, failed_of}
-use Rattle.ing_session.specs.QueryCommands.{QueryCommand}
+use Rattle.ing_commands.specs.QueryCommands.{QueryCommand}
 use Rattle.ing_session.specs.Replies.{fault_data}
 use Rattle.ing_session.specs.Runs.{Obeys}
 use Rattle.ing_session.specs.Session.{query_reply}

@@ -8,7 +8,7 @@ use Rattle.std.proofs.lemmas.List.Concat.{flat_map-cons}
 use Rattle.std.proofs.lemmas.List.Sums.{sum_by_push}
 use Rattle.std.proofs.lemmas.Bool.Decides.{nat_tests}
 use Rattle.ing_limits.specs.Settings.{StoreSettings}
-use Rattle.ing_session.specs.declared.command.fault.LineFault.TheVariants.{BadCommand}
+use Rattle.ing_commands.specs.declared.fault.LineFault.TheVariants.{BadCommand}
 use Rattle.ing_session.specs.declared.lines.NextLine.TheVariants.{Line, TooLong, End}
 use Rattle.ing_store.specs.declared.store_end.Receipt.{Ghosts}
 use Rattle.ing_session.specs.declared.session.Session.{Session}

@@ -9,7 +9,7 @@ use Rattle.ing_parts.specs.Answers.{IsAnswer}
 use Rattle.ing_parts.specs.Parts.{found_at, within}
 use Rattle.ing_rows.specs.Rows.{Row, StreamKey}
 use Rattle.ing_shard.specs.Picked.{Picks}
-use Rattle.ing_session.specs.QueryCommands.{QueryCommand}
+use Rattle.ing_commands.specs.QueryCommands.{QueryCommand}
 
 -- What a line comes to that may be a query: it asks for nothing; its text is refused; these entries are given; the store failed;
 -- or an object of the store is not the chunk that is listed.

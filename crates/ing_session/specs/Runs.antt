@@ -5,8 +5,8 @@ use Rattle.std.specs.Io.KnownBytes.{Appends, Consumes, append_known}
 use Rattle.ing_limits.specs.Settings.{StoreSettings}
 use Rattle.serde_json.specs.Data.{Data}
 use Rattle.ing_rows.specs.Rows.{State}
-use Rattle.ing_session.specs.declared.command.fault.LineFault.{LineFault}
-use Rattle.ing_session.specs.Commands.{Command}
+use Rattle.ing_commands.specs.declared.fault.LineFault.{LineFault}
+use Rattle.ing_commands.specs.Commands.{Command}
 use Rattle.ing_session.specs.Flushing.{Outcome, HaveCause, failed_among, stored_among}
 use Rattle.ing_session.specs.Fronts.{AppendsFront}
 use Rattle.ing_session.specs.Lines.{lines_of, with_feed}

@@ -21,15 +21,15 @@ use Rattle.ing_shard.specs.declared.due.Op.{Op}
 use Rattle.ing_shard.specs.Contents.{stream_of, stored_count, listed_after}
 use Rattle.ing_shard.specs.Sealing.{ops_from}
 use Rattle.ing_session.specs.declared.reply.ShardReport.{ShardReport}
-use Rattle.ing_session.specs.declared.command.fault.LineFault.{LineFault}
-use Rattle.ing_session.specs.declared.command.fault.LineFault.TheVariants.{BadCommand}
-use Rattle.ing_session.specs.Faults.{refusal_of}
+use Rattle.ing_commands.specs.declared.fault.LineFault.{LineFault}
+use Rattle.ing_commands.specs.declared.fault.LineFault.TheVariants.{BadCommand}
+use Rattle.ing_commands.specs.Faults.{refusal_of}
 use Rattle.ing_refusals.specs.declared.refusal.Refusal.TheVariants.{TooManyEntries, CounterFull}
 use Rattle.ing_refusals.specs.declared.refusal.Refusal.TheVariants as refusals
-use Rattle.ing_session.specs.Commands.{Command, Push, Sweep, Flush, Gauges, Query, command_of}
+use Rattle.ing_commands.specs.Commands.{Command, Push, Sweep, Flush, Gauges, Query, command_of}
 use Rattle.ing_session.specs.Flushing.{Outcome, EndSo, failed_among, stored_among}
 use Rattle.ing_session.specs.Held.{Held, nothing_held, shard_number}
-use Rattle.ing_session.specs.PushCommands.{StreamEntries}
+use Rattle.ing_commands.specs.PushCommands.{StreamEntries}
 use Rattle.ing_session.specs.Parts.{max_line}
 use Rattle.ing_session.specs.Queries.{Answer, Unasked, Refused, Given, Failed, Damaged, QueryMayBe, failed_of}
 use Rattle.ing_session.specs.Replies.{fault_data, judged_data, push_data, sweep_data, flush_data, gauges_data, query_data, report_data, line_text}

@@ -1,16 +1,17 @@
 //! What a query gives.
 ghost use Rattle.std.specs.Prelude.{IfOk, Ok};
 ghost use Rattle.ing_labels.specs.Selectors.{IsSelector, IsSelectorText};
-ghost use Rattle.ing_session.specs.Commands as commands;
+ghost use Rattle.ing_commands.specs.Commands as commands;
 ghost use Rattle.ing_session.specs.Flushing.{GoesOn};
 ghost use Rattle.ing_session.specs.Held.{Held, IsHeld};
 ghost use Rattle.ing_session.specs.Runs.{Obeys};
-ghost use Rattle.ing_session.specs.Views.{query_view, reply_data};
+ghost use Rattle.ing_commands.specs.Views.{query_view};
+ghost use Rattle.ing_session.specs.Views.{reply_data};
 
 use super::Session;
 use super::faults::{query_fault, selector_fault};
-use crate::command::Query;
 use crate::reply::Reply;
+use ing_commands::Query;
 use ing_labels::Selector;
 use ing_parts::{Question, found_rows_have_no_order, standing_joins};
 use ing_query::run_query;
