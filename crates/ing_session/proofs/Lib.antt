@@ -1,7 +1,4 @@
 pub mod LinesLaws
-pub mod ShapeLaws
-pub mod CommandLaws
-pub mod PushLaws
 pub mod StartingLaws
 mod WritingLaws
 pub mod FlushingLaws

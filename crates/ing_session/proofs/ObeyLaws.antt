@@ -1,44 +1,45 @@
 -- What a command does, from what it is made of.
-use Rattle.std.proofs.Common.{◌≡◌, ◌≢◌, ℕ, Bool, true, false, List, [], ◌++◌, append-nil, add-zero, refl, subst, sym, ap, ◌∙◌, Result, Ok, Err}
+use Rattle.std.proofs.Common.{◌≡◌, ◌≢◌, ℕ, Bool, true, false, List, [], ◌++◌, append-nil, refl, subst, sym, ◌∙◌, Result, Ok, Err}
 use Rattle.std.specs.Prelude.{if◌then◌else◌, IfOk, OnOk, IsErr}
 use Rattle.std.specs.declared.alloc.AllocError.{AllocError}
 use Rattle.serde_json.specs.Data.{Data}
 use Rattle.ing_limits.specs.Settings.{StoreSettings}
-use Rattle.ing_session.specs.declared.command.fault.LineFault.{LineFault}
+use Rattle.ing_commands.specs.declared.fault.LineFault.{LineFault}
 use Rattle.ing_store.specs.declared.store_end.Receipt.{Ghosts}
-use Rattle.ing_session.specs.declared.command.fault.LineFault.TheVariants.{NoMemory}
+use Rattle.ing_commands.specs.declared.fault.LineFault.TheVariants.{NoMemory}
 use Rattle.ing_session.specs.declared.reply.Reply.{Reply}
 use Rattle.ing_session.specs.declared.session.Session.{Session}
-use Rattle.ing_session.specs.Commands.{Command, Flush, command_of}
-use Rattle.ing_session.specs.FlushCommands.{FlushCommand}
+use Rattle.ing_commands.specs.Commands.{Command, Flush, command_of}
+use Rattle.ing_commands.specs.FlushCommands.{FlushCommand}
 use Rattle.ing_session.specs.Held.{Held, IsHeld}
-use Rattle.ing_session.specs.Flushing.{HaveCause, failed_among}
-use Rattle.ing_session.specs.Queries.{Unasked}
 use Rattle.ing_session.specs.Replies.{flush_data, line_text}
-use Rattle.ing_session.specs.Runs.{Answers, IsFlushed, Obeys}
-use Rattle.ing_session.specs.Session.{CommandMayBe, after_command, command_reply, growing_in, is_blank, is_long, line_fault, to_flush}
+use Rattle.ing_session.specs.Runs.{Answers, IsFlushed, IsObeyed}
+use Rattle.ing_session.specs.Session.{Flushes, Obeys, Refuses, after_flush, growing_in, is_blank, is_long, line_fault, to_flush}
 use Rattle.ing_session.specs.Views.{reply_data}
 use Rattle.ing_session.proofs.CausesLaws.{no_failure}
 
 module _ {R : Type 0} {g : Ghosts R} (honest : Type 0) (settings : StoreSettings) (old : Held) (new : Session R g) where
-  -- a command that works nothing off
-  pub obeys : (command : Result Command LineFault) (n : ℕ) (reply : Data) → CommandMayBe honest settings command [] old.state Unasked old
-      → reply ≡ command_reply settings command [] Unasked old → IsHeld new (after_command settings command old.state old) → Obeys honest settings command old new n n reply
-  obeys command n reply may_be told holds =
-      record { outcomes = []; left = old.state; answer = Unasked; may_be = may_be; told = told; causes = no_failure n; holds = holds }
+  -- what works nothing off and asks no store
+  pub obeyed : {left : Held} (said : Result Command LineFault) (n : ℕ) (reply : Data) → IsHeld new left → Obeys honest settings old left 0 reply said → IsObeyed honest settings said old new n n reply
+  obeyed {left} said n reply holds obeys = record { failed = 0; left = left; obeys = obeys; causes = no_failure n; holds = holds }
 
   -- a flush, by whether it was forced
   pub obeys_flush : (now : StoreSettings) (flush : FlushCommand) (forced : Bool) (before after failed sealed stored : ℕ) → now ≡ settings → flush.forced ≡ forced
       → IsFlushed now (to_flush forced old) new before after failed stored → sealed ≡ (if forced then growing_in old else 0)
-      → Obeys honest settings (Ok (Flush flush)) old new before after (flush_data failed sealed stored)
+      → IsObeyed honest settings (Ok (Flush flush)) old new before after (flush_data failed sealed stored)
   obeys_flush now flush forced before after failed sealed stored same is_forced worked counted =
       record {
-        outcomes = flushed.outcomes;
-        left = flushed.left;
-        answer = Unasked;
-        may_be = flushed.may_be;
-        told = rw (flushed.failures, flushed.successes, is) refl;
-        causes = subst (HaveCause before after) (flushed.failures ∙ sym (add-zero (failed_among flushed.outcomes))) flushed.causes;
+        failed = failed;
+        left = after_flush flushed.left old;
+        obeys = Flushes (record {
+          outcomes = flushed.outcomes;
+          rows = flushed.left;
+          may_be = flushed.may_be;
+          told = rw (flushed.failures, flushed.successes, is) refl;
+          left = refl;
+          failures = flushed.failures;
+        });
+        causes = flushed.causes;
         holds = held flush.forced flushed.holds;
       } where
         flushed : IsFlushed settings (to_flush flush.forced old) new before after failed stored
@@ -49,18 +50,18 @@ module _ {R : Type 0} {g : Ghosts R} (honest : Type 0) (settings : StoreSettings
         is : sealed ≡ (if flush.forced then growing_in old else 0)
         is = subst (λ b. sealed ≡ (if b then growing_in old else 0)) (sym is_forced) counted
 
-        held : (b : Bool) → IsHeld new (record (to_flush b old) { state = flushed.left; ops = [] }) → IsHeld new (record old { state = flushed.left; ops = [] })
+        held : (b : Bool) → IsHeld new (after_flush flushed.left (to_flush b old)) → IsHeld new (after_flush flushed.left old)
         held true h = h
         held false h = h
 
 -- what is replied to a fault that is no want of memory
-pub obeys_fault : {R : Type 0} {g : Ghosts R} (honest : Type 0) (settings : StoreSettings) (session : Session R g) (command : Result Command LineFault) (n : ℕ) (fault : LineFault) (r : Result Reply AllocError)
-    → (fault ≡ NoMemory → IsErr r) → (fault ≢ NoMemory → command ≡ Err fault) → IfOk r (λ reply. reply_data reply ≡ line_fault fault)
-    → IfOk r (λ reply. (old : Held) → IsHeld session old → Obeys honest settings command old session n n (reply_data reply))
-obeys_fault honest settings session command n fault (Err e) memory refused told = tt
-obeys_fault honest settings session command n fault (Ok reply) memory refused told = λ old is_held.
-    subst (λ said. Obeys honest settings said old session n n (reply_data reply)) (sym (refused (λ is. (let no = memory is in absurd cc))))
-    (obeys honest settings old session (Err fault) n (reply_data reply) tt told is_held)
+pub obeys_fault : {R : Type 0} {g : Ghosts R} (honest : Type 0) (settings : StoreSettings) (session : Session R g) (said : Result Command LineFault) (n : ℕ) (fault : LineFault) (r : Result Reply AllocError)
+    → (fault ≡ NoMemory → IsErr r) → (fault ≢ NoMemory → said ≡ Err fault) → IfOk r (λ reply. reply_data reply ≡ line_fault fault)
+    → IfOk r (λ reply. (old : Held) → IsHeld session old → IsObeyed honest settings said old session n n (reply_data reply))
+obeys_fault honest settings session said n fault (Err e) memory refused told = tt
+obeys_fault honest settings session said n fault (Ok reply) memory refused told = λ old is_held.
+    subst (λ s. IsObeyed honest settings s old session n n (reply_data reply)) (sym (refused (λ is. (let no = memory is in absurd cc))))
+    (obeyed honest settings old session (Err fault) n (reply_data reply) is_held (Refuses (record { told = told; left = refl; failures = refl })))
 
 pub if_ok_both : {T E : Type 0} (r : Result T E) (P Q : T → Type 0) (H : Type 0) → ((x : T) → P x → H → Q x) → IfOk r P → OnOk r H → IfOk r Q
 if_ok_both (Ok x) P Q H f p h = f x p h
@@ -71,24 +72,24 @@ module _ {R : Type 0} {g : Ghosts R} (honest : Type 0) (settings : StoreSettings
   pub answers_blank : (n : ℕ) → is_blank line ≡ true → s ≡ q → IsHeld new old → Answers honest settings line old new n n q s
   answers_blank n blank same holds =
       record {
-        outcomes = [];
-        left = old.state;
-        answer = Unasked;
-        may_be = rw (short, blank) tt;
-        told = rw (short, blank) (same ∙ sym (append-nil q));
+        answer = [];
+        failed = 0;
+        left = old;
+        may_be = rw (short, blank) (record { written = refl; left = refl; failures = refl });
+        told = same ∙ sym (append-nil q);
         causes = no_failure n;
-        holds = rw (short, blank) holds;
+        holds = holds;
       }
 
-  pub answers : (before after : ℕ) (reply : Data) → is_blank line ≡ false → s ≡ q ++ line_text reply → Obeys honest settings (command_of line) old new before after reply
+  pub answers : (before after : ℕ) (reply : Data) → is_blank line ≡ false → s ≡ q ++ line_text reply → IsObeyed honest settings (command_of line) old new before after reply
       → Answers honest settings line old new before after q s
   answers before after reply said told obeyed =
       record {
-        outcomes = obeyed.outcomes;
+        answer = line_text reply;
+        failed = obeyed.failed;
         left = obeyed.left;
-        answer = obeyed.answer;
-        may_be = rw (short, said) obeyed.may_be;
-        told = rw (short, said) (told ∙ ap (λ d. q ++ line_text d) obeyed.told);
+        may_be = rw (short, said) (record { reply = reply; obeys = obeyed.obeys; written = refl });
+        told = told;
         causes = obeyed.causes;
-        holds = rw (short, said) obeyed.holds;
+        holds = obeyed.holds;
       }

@@ -8,7 +8,7 @@ use Rattle.std.proofs.lemmas.List.Concat.{flat_map-cons}
 use Rattle.std.proofs.lemmas.List.Sums.{sum_by_push}
 use Rattle.std.proofs.lemmas.Bool.Decides.{nat_tests}
 use Rattle.ing_limits.specs.Settings.{StoreSettings}
-use Rattle.ing_session.specs.declared.command.fault.LineFault.TheVariants.{BadCommand}
+use Rattle.ing_commands.specs.declared.fault.LineFault.TheVariants.{BadCommand}
 use Rattle.ing_session.specs.declared.lines.NextLine.TheVariants.{Line, TooLong, End}
 use Rattle.ing_store.specs.declared.store_end.Receipt.{Ghosts}
 use Rattle.ing_session.specs.declared.session.Session.{Session}
@@ -19,9 +19,8 @@ use Rattle.ing_session.specs.Fronts.{AppendsFront, Grows}
 use Rattle.ing_session.specs.Held.{Held, nothing_held, IsHeld}
 use Rattle.ing_session.specs.Lines.{lines_of, with_feed, EndsLine, TakesLine}
 use Rattle.ing_session.specs.Parts.{HasNoFeed, max_line}
-use Rattle.ing_session.specs.Queries.{Unasked}
 use Rattle.ing_session.specs.Replies.{line_text}
-use Rattle.ing_session.specs.Session.{Turn, turn, MayBe, MayBeFrom, is_long, line_fault, answer_to, after_line, report_of, answers_from, answers_of, failed_at, failed_in, held_after, lines_in, output_of}
+use Rattle.ing_session.specs.Session.{Turn, turn, MayBe, MayBeFrom, Refuses, is_long, line_fault, report_of, answers_of, failed_in, held_after, lines_in, output_of}
 use Rattle.ing_session.specs.Runs.{AnswersAll, AnswersWhatWasRead, AnswersFirstLines, AnswersFront, Answers, Serves, ServesKnown, with_replies}
 use Rattle.ing_session.proofs.CausesLaws.{no_failure, causes_on, causes_more}
 use Rattle.ing_session.proofs.FrontsLaws.{front_held}
@@ -66,23 +65,21 @@ keeps_same (Some x) = refl
 
 -- ---- one line more
 
-module _ (honest : Type 0) (settings : StoreSettings) where
-  held_more : (turns : List Turn) (t : Turn) (held : Held) → held_after settings held (turns ++ t ∷ []) ≡ after_line settings t (held_after settings held turns)
-  held_more [] t held = refl
-  held_more (u ∷ us) t held = held_more us t (after_line settings u held)
+held_more : (turns : List Turn) (t : Turn) (held : Held) → held_after held (turns ++ t ∷ []) ≡ t.left
+held_more [] t held = refl
+held_more (u ∷ us) t held = held_more us t u.left
 
-  answers_more : (turns : List Turn) (t : Turn) (held : Held) → answers_from settings held (turns ++ t ∷ []) ≡ answers_from settings held turns ++ answer_to settings t (held_after settings held turns)
-  answers_more [] t held = append-nil (answer_to settings t held)
-  answers_more (u ∷ us) t held =
-      ap (λ (text : List ℕ). answer_to settings u held ++ text) (answers_more us t (after_line settings u held))
-      ∙ sym (append_assoc (answer_to settings u held) (answers_from settings (after_line settings u held) us) (answer_to settings t (held_after settings (after_line settings u held) us)))
+answers_more : (turns : List Turn) (t : Turn) → answers_of (turns ++ t ∷ []) ≡ answers_of turns ++ t.answer
+answers_more [] t = append-nil t.answer
+answers_more (u ∷ us) t = ap (λ (text : List ℕ). u.answer ++ text) (answers_more us t) ∙ sym (append_assoc u.answer (answers_of us) t.answer)
 
-  may_be_more : (turns : List Turn) (t : Turn) (held : Held) → MayBeFrom honest settings held turns → MayBe honest settings t (held_after settings held turns) → MayBeFrom honest settings held (turns ++ t ∷ [])
-  may_be_more [] t held before this = (this, tt)
-  may_be_more (u ∷ us) t held before this = (before.0, may_be_more us t (after_line settings u held) before.1 this)
+may_be_more : (honest : Type 0) (settings : StoreSettings) (turns : List Turn) (t : Turn) (held : Held) → MayBeFrom honest settings held turns → MayBe honest settings t (held_after held turns)
+    → MayBeFrom honest settings held (turns ++ t ∷ [])
+may_be_more honest settings [] t held before this = (this, tt)
+may_be_more honest settings (u ∷ us) t held before this = (before.0, may_be_more honest settings us t u.left before.1 this)
 
-failed_more : (turns : List Turn) (t : Turn) → failed_in (turns ++ t ∷ []) ≡ failed_in turns + failed_at t.outcomes t.answer
-failed_more turns t = sum_by_push (λ (u : Turn). failed_at u.outcomes u.answer) turns t
+failed_more : (turns : List Turn) (t : Turn) → failed_in (turns ++ t ∷ []) ≡ failed_in turns + t.failed
+failed_more turns t = sum_by_push (λ (u : Turn). u.failed) turns t
 
 lines_more : (turns : List Turn) (t : Turn) → lines_in (turns ++ t ∷ []) ≡ lines_in turns ++ t.line ∷ []
 lines_more turns t = map-append (λ u. u.line) turns (t ∷ [])
@@ -111,27 +108,26 @@ module _ {R : Type 0} {g : Ghosts R} (honest : Type 0) (settings : StoreSettings
   -- a line is taken and answered
   one_line : (was now : Bool) (left rest : List ℕ) → (serves : Serves honest settings session input before b1 first (with_replies c r) was left) → HasNoFeed line → EndsLine left rest now line
       → Keeps (with_replies c r) (with_replies k q) → after.shard.settings ≡ settings
-      → Answers honest settings line (held_after settings nothing_held serves.turns) after b1 b2 q s
+      → Answers honest settings line (held_after nothing_held serves.turns) after b1 b2 q s
       → Serves honest settings after input before b2 first (with_replies k s) now rest
   one_line true now left rest serves clean ends keeps same answers = absurd (none_left left rest line now (serves.read refl).1 ends)
   one_line false now left rest serves clean ends keeps same answers =
-      let t = turn line answers.outcomes answers.left answers.answer in
-      let held = held_after settings nothing_held serves.turns in
+      let t = turn line answers.answer answers.failed answers.left in
       record {
         turns = serves.turns ++ t ∷ [];
         no_feeds = subst (AllByRecursion HasNoFeed) (sym lines) (all_more (lines_in serves.turns) line serves.no_feeds clean);
         taken = λ going. subst (λ ls. input ≡ flat_map with_feed ls ++ rest) (sym lines) (front now ends going);
         read = λ ended. subst (λ ls. (lines_of input ≡ ls) × (rest ≡ [])) (sym lines) (end now ends ended);
         settings_are = same;
-        holds = rw (held_more honest settings serves.turns t nothing_held) answers.holds;
+        holds = rw (held_more serves.turns t nothing_held) answers.holds;
         may_be = record {
           flushes = may_be_more honest settings serves.turns t nothing_held serves.may_be.flushes answers.may_be;
-          causes = rw (failed_more serves.turns t) (causes_more before b1 b2 (failed_in serves.turns) (failed_at answers.outcomes answers.answer) serves.may_be.causes answers.causes);
+          causes = rw (failed_more serves.turns t) (causes_more before b1 b2 (failed_in serves.turns) answers.failed serves.may_be.causes answers.causes);
         };
-        answered = rw (answers_more honest settings serves.turns t nothing_held) (adds first c k r q s (answers_of settings serves.turns) (answer_to settings t held) serves.answered keeps answers.told);
+        answered = rw (answers_more serves.turns t) (adds first c k r q s (answers_of serves.turns) answers.answer serves.answered keeps answers.told);
       } where
-        lines : lines_in (serves.turns ++ turn line answers.outcomes answers.left answers.answer ∷ []) ≡ lines_in serves.turns ++ line ∷ []
-        lines = lines_more serves.turns (turn line answers.outcomes answers.left answers.answer)
+        lines : lines_in (serves.turns ++ turn line answers.answer answers.failed answers.left ∷ []) ≡ lines_in serves.turns ++ line ∷ []
+        lines = lines_more serves.turns (turn line answers.answer answers.failed answers.left)
 
         so_far : input ≡ flat_map with_feed (lines_in serves.turns) ++ left
         so_far = serves.taken refl
@@ -151,13 +147,13 @@ long_answers : {R : Type 0} {g : Ghosts R} (honest : Type 0) (settings : StoreSe
 long_answers honest settings line held session n q s long refused holds =
     let is : is_long line ≡ true = grind (arith, nat_tests) in
     record {
-      outcomes = [];
-      left = held.state;
-      answer = Unasked;
-      may_be = rw is tt;
-      told = rw is refused;
+      answer = line_text (line_fault BadCommand);
+      failed = 0;
+      left = held;
+      may_be = rw is (record { reply = line_fault BadCommand; obeys = Refuses (record { told = refl; left = refl; failures = refl }); written = refl });
+      told = refused;
       causes = no_failure n;
-      holds = rw is holds;
+      holds = holds;
     }
 
 -- before the first line
@@ -193,7 +189,7 @@ module _ {R : Type 0} {g : Ghosts R} (honest : Type 0) (settings : StoreSettings
   serves_line (Some left) None serves takes keeps answers same = absurd (takes (λ e. (serves.read e).1))
   serves_line (Some left) (Some rest) serves takes keeps answers same =
       let taken = takes (λ e. (serves.read e).1) in
-      let held = held_after settings nothing_held serves.turns in
+      let held = held_after nothing_held serves.turns in
       one_line honest settings session after input before b1 b2 first c k r q s line was now left rest serves taken.0 taken.1 keeps
       (same ∙ serves.settings_are)
       (subst (λ t. Answers honest t line held after b1 b2 q s) serves.settings_are (answers held serves.holds))
@@ -205,7 +201,7 @@ module _ {R : Type 0} {g : Ghosts R} (honest : Type 0) (settings : StoreSettings
   serves_long (Some left) None serves takes keeps refused = absurd (takes (λ e. (serves.read e).1))
   serves_long (Some left) (Some rest) serves takes keeps refused =
       let taken = takes (λ e. (serves.read e).1) in
-      let held = held_after settings nothing_held serves.turns in
+      let held = held_after nothing_held serves.turns in
       one_line honest settings session session input before b1 b1 first c k r q s taken.0 was now left rest serves taken.1 taken.2 keeps
       serves.settings_are
       (long_answers honest settings taken.0 held session b1 q s taken.3 refused serves.holds)
@@ -227,7 +223,7 @@ module _ {R : Type 0} {g : Ghosts R} (honest : Type 0) (settings : StoreSettings
         turns = serves.turns;
         all = all_lines left serves taken.0 was refl;
         may_be = serves.may_be;
-        answered = adds first c k r q s (answers_of settings serves.turns) (line_text (report_of (held_after settings nothing_held serves.turns).state)) serves.answered keeps (reported _ serves.holds);
+        answered = adds first c k r q s (answers_of serves.turns) (line_text (report_of (held_after nothing_held serves.turns).state)) serves.answered keeps (reported _ serves.holds);
       }
 
 -- ---- what has been written when it ends early
@@ -252,7 +248,7 @@ module _ {R : Type 0} {g : Ghosts R} (honest : Type 0) (settings : StoreSettings
           flushes = serves.may_be.flushes;
           causes = causes_on before b1 b2 (failed_in serves.turns) serves.may_be.causes risen;
         };
-        answered = kept first now h (answers_of settings serves.turns) serves.answered keeps;
+        answered = kept first now h (answers_of serves.turns) serves.answered keeps;
       }
 
   -- a read failed
@@ -268,7 +264,7 @@ module _ {R : Type 0} {g : Ghosts R} (honest : Type 0) (settings : StoreSettings
         no_feed = clean;
         read = serves.taken going ∙ ap (λ (l : List ℕ). flat_map with_feed (lines_in serves.turns) ++ l) consumed ∙ sym (append_assoc (flat_map with_feed (lines_in serves.turns)) bytes rest);
         may_be = serves.may_be;
-        answered = kept first now h (answers_of settings serves.turns) serves.answered keeps;
+        answered = kept first now h (answers_of serves.turns) serves.answered keeps;
       }
 
 -- a write failed while it went on
@@ -281,7 +277,7 @@ breaks honest settings session input before after first c k r was (Some left) se
       others = lines_of left;
       first = first_lines honest settings session input before after first (with_replies c r) was left serves was refl;
       may_be = serves.may_be;
-      front = inl (front_held first c k r (answers_of settings serves.turns) grown serves.answered f);
+      front = inl (front_held first c k r (answers_of serves.turns) grown serves.answered f);
     }
 
 -- the last write failed
@@ -294,7 +290,7 @@ module _ (honest : Type 0) (settings : StoreSettings) (input : List ℕ) (before
         others = [];
         first = a.all ∙ sym (append-nil (lines_in a.turns));
         may_be = a.may_be;
-        front = inr (refl, front_held first c k r (output_of settings a.turns) grown a.answered f);
+        front = inr (refl, front_held first c k r (output_of a.turns) grown a.answered f);
       }
 
   -- of the answers where memory had run out
@@ -305,7 +301,7 @@ module _ (honest : Type 0) (settings : StoreSettings) (input : List ℕ) (before
         others = a.others;
         first = a.first;
         may_be = a.may_be;
-        front = inl (front_held first c k r (answers_of settings a.turns) grown a.answered f);
+        front = inl (front_held first c k r (answers_of a.turns) grown a.answered f);
       }
 
   -- of the answers where a read had failed
@@ -317,7 +313,7 @@ module _ (honest : Type 0) (settings : StoreSettings) (input : List ℕ) (before
         others = lines_of (a.last ++ rest);
         first = ap lines_of (a.read ∙ append_assoc (flat_map with_feed (lines_in a.turns)) a.last rest) ∙ lines_of-rest (lines_in a.turns) (a.last ++ rest) a.no_feeds;
         may_be = a.may_be;
-        front = inl (front_held first c k r (answers_of settings a.turns) grown a.answered f);
+        front = inl (front_held first c k r (answers_of a.turns) grown a.answered f);
       }
 
   breaks_known : (rest : Option (List ℕ)) (ended : Result (Unit {0}) Ending) → ended ≢ Err OutputFault → IfErr ended (λ e. IsTrue (is_of_run e))

@@ -17,7 +17,7 @@ use Rattle.ing_rows.specs.Steps.{verdicts_of}
 use Rattle.ing_session.specs.Replies.{fault_data, judged_data}
 use Rattle.ing_rows.specs.declared.rules.Rules.{Rules}
 use Rattle.ing_session.specs.Held.{Held}
-use Rattle.ing_session.specs.PushCommands.{StreamEntries}
+use Rattle.ing_commands.specs.PushCommands.{StreamEntries}
 use Rattle.ing_session.specs.Session.{limits_of, is_too_many, with_pushed, stream_reply, after_stream, stream_replies, after_streams}
 
 module _ (rules : Rules) (tenant : List ℕ) (now : ℕ) where

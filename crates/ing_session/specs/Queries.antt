@@ -9,12 +9,11 @@ use Rattle.ing_parts.specs.Answers.{IsAnswer}
 use Rattle.ing_parts.specs.Parts.{found_at, within}
 use Rattle.ing_rows.specs.Rows.{Row, StreamKey}
 use Rattle.ing_shard.specs.Picked.{Picks}
-use Rattle.ing_session.specs.QueryCommands.{QueryCommand}
+use Rattle.ing_commands.specs.QueryCommands.{QueryCommand}
 
--- What a line comes to that may be a query: it asks for nothing; its text is refused; these entries are given; the store failed;
--- or an object of the store is not the chunk that is listed.
+-- What a query comes to: its text is refused; these entries are given; the store failed; or an object of the store is not the
+-- chunk that is listed.
 pub data Answer : Type 0 where
-  Unasked : Answer
   Refused : TextFault → Answer
   Given : List Found → Answer
   Failed : Answer
@@ -22,7 +21,6 @@ pub data Answer : Type 0 where
 
 -- how many queries failed
 abbrev pub failed_of : Answer → ℕ
-failed_of Unasked = 0
 failed_of (Refused fault) = 0
 failed_of (Given found) = 0
 failed_of Failed = 1
@@ -46,7 +44,6 @@ IsFoundAmong query ms rows found = (picked : StreamKey → Bool) → Picks query
 
 -- A query may come to this, of these rows, over an end of the store that is honest or not.
 abbrev pub QueryMayBe : Type 0 → QueryCommand → Answer → List Row → Type 0
-QueryMayBe honest query Unasked rows = ⊥
 QueryMayBe honest query (Refused fault) rows = IsSelectorFault query.text fault × (fault ≢ NoMemory)
 QueryMayBe honest query (Given found) rows = (reads : Reads query.text) × (honest → IsFoundAmong query reads.ms rows found)
 QueryMayBe honest query Failed rows = Reads query.text

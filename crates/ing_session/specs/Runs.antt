@@ -5,8 +5,8 @@ use Rattle.std.specs.Io.KnownBytes.{Appends, Consumes, append_known}
 use Rattle.ing_limits.specs.Settings.{StoreSettings}
 use Rattle.serde_json.specs.Data.{Data}
 use Rattle.ing_rows.specs.Rows.{State}
-use Rattle.ing_session.specs.declared.command.fault.LineFault.{LineFault}
-use Rattle.ing_session.specs.Commands.{Command}
+use Rattle.ing_commands.specs.declared.fault.LineFault.{LineFault}
+use Rattle.ing_commands.specs.Commands.{Command}
 use Rattle.ing_session.specs.Flushing.{Outcome, HaveCause, failed_among, stored_among}
 use Rattle.ing_session.specs.Fronts.{AppendsFront}
 use Rattle.ing_session.specs.Lines.{lines_of, with_feed}
@@ -14,8 +14,7 @@ use Rattle.ing_store.specs.declared.store_end.Receipt.{Ghosts}
 use Rattle.ing_session.specs.declared.session.Session.{Session}
 use Rattle.ing_session.specs.Held.{Held, nothing_held, IsHeld}
 use Rattle.ing_session.specs.Parts.{HasNoFeed}
-use Rattle.ing_session.specs.Queries.{Answer}
-use Rattle.ing_session.specs.Session.{Turn, turn, FlushMayBe, CommandMayBe, MayBe, MayBeFrom, after_command, after_flush, after_line, answer_to, answers_of, command_reply, failed_at, failed_in, held_after, lines_in, output_of}
+use Rattle.ing_session.specs.Session.{Turn, turn, FlushMayBe, Obeys, MayBe, MayBeFrom, after_flush, answers_of, failed_in, held_after, lines_in, output_of}
 
 -- These lines may be answered so from nothing on, over an end of the store that is honest or not and counts its failures from
 -- before to after.
@@ -28,7 +27,7 @@ pub record AnswersAll (honest : Type 0) (settings : StoreSettings) (input : List
   pub turns : List Turn
   pub all : lines_of input ≡ lines_in turns
   pub may_be : MayBeAnswered honest settings before after turns
-  pub answered : Appends old new (output_of settings turns)
+  pub answered : Appends old new (output_of turns)
 
 -- Where a read failed: the answers to all lines that were read whole, with their line feeds, and nothing else.
 pub record AnswersWhatWasRead (honest : Type 0) (settings : StoreSettings) (input : List ℕ) (rest : Option (List ℕ)) (before after : ℕ) (old new : Option (List ℕ)) : Type 0 where
@@ -38,7 +37,7 @@ pub record AnswersWhatWasRead (honest : Type 0) (settings : StoreSettings) (inpu
   pub no_feed : HasNoFeed last
   pub read : Consumes (Some input) rest (flat_map with_feed (lines_in turns) ++ last)
   pub may_be : MayBeAnswered honest settings before after turns
-  pub answered : Appends old new (answers_of settings turns)
+  pub answered : Appends old new (answers_of turns)
 
 -- Where memory ran out: the answers to the first lines of the input, each whole, and nothing else.
 pub record AnswersFirstLines (honest : Type 0) (settings : StoreSettings) (input : List ℕ) (before after : ℕ) (old new : Option (List ℕ)) : Type 0 where
@@ -46,7 +45,7 @@ pub record AnswersFirstLines (honest : Type 0) (settings : StoreSettings) (input
   pub others : List (List ℕ)
   pub first : lines_of input ≡ lines_in turns ++ others
   pub may_be : MayBeAnswered honest settings before after turns
-  pub answered : Appends old new (answers_of settings turns)
+  pub answered : Appends old new (answers_of turns)
 
 -- Where a write failed: a front of the answers to the first lines of the input, and nothing else. Where these are all its lines,
 -- the report may have been begun too.
@@ -55,7 +54,7 @@ pub record AnswersFront (honest : Type 0) (settings : StoreSettings) (input : Li
   pub others : List (List ℕ)
   pub first : lines_of input ≡ lines_in turns ++ others
   pub may_be : MayBeAnswered honest settings before after turns
-  pub front : AppendsFront old new (answers_of settings turns) ⊎ ((others ≡ []) × AppendsFront old new (output_of settings turns))
+  pub front : AppendsFront old new (answers_of turns) ⊎ ((others ≡ []) × AppendsFront old new (output_of turns))
 
 -- ---- for private clauses
 
@@ -69,25 +68,23 @@ pub record IsFlushed {R : Type 0} {g : Ghosts R} (settings : StoreSettings) (old
   pub causes : HaveCause before after failed
   pub holds : IsHeld new (after_flush left old)
 
--- a command is obeyed, with this reply
-pub record Obeys {R : Type 0} {g : Ghosts R} (honest : Type 0) (settings : StoreSettings) (command : Result Command LineFault) (old : Held) (new : Session R g) (before after : ℕ) (reply : Data) : Type 0 where
-  pub outcomes : List Outcome
-  pub left : State
-  pub answer : Answer
-  pub may_be : CommandMayBe honest settings command outcomes left answer old
-  pub told : reply ≡ command_reply settings command outcomes answer old
-  pub causes : HaveCause before after (failed_at outcomes answer)
-  pub holds : IsHeld new (after_command settings command left old)
+-- what a line says is obeyed, with this reply
+pub record IsObeyed {R : Type 0} {g : Ghosts R} (honest : Type 0) (settings : StoreSettings) (said : Result Command LineFault) (old : Held) (new : Session R g) (before after : ℕ) (reply : Data) : Type 0 where
+  pub failed : ℕ
+  pub left : Held
+  pub obeys : Obeys honest settings old left failed reply said
+  pub causes : HaveCause before after failed
+  pub holds : IsHeld new left
 
 -- a line is answered, behind the replies that were held back
 pub record Answers {R : Type 0} {g : Ghosts R} (honest : Type 0) (settings : StoreSettings) (line : List ℕ) (old : Held) (new : Session R g) (before after : ℕ) (replies with_answer : List ℕ) : Type 0 where
-  pub outcomes : List Outcome
-  pub left : State
-  pub answer : Answer
-  pub may_be : MayBe honest settings (turn line outcomes left answer) old
-  pub told : with_answer ≡ replies ++ answer_to settings (turn line outcomes left answer) old
-  pub causes : HaveCause before after (failed_at outcomes answer)
-  pub holds : IsHeld new (after_line settings (turn line outcomes left answer) old)
+  pub answer : List ℕ
+  pub failed : ℕ
+  pub left : Held
+  pub may_be : MayBe honest settings (turn line answer failed left) old
+  pub told : with_answer ≡ replies ++ answer
+  pub causes : HaveCause before after failed
+  pub holds : IsHeld new left
 
 -- what a writer holds, and then the replies that are held back
 abbrev pub with_replies : Option (List ℕ) → List ℕ → Option (List ℕ)
@@ -101,9 +98,9 @@ pub record Serves {R : Type 0} {g : Ghosts R} (honest : Type 0) (settings : Stor
   pub taken : at_end ≡ false → input ≡ flat_map with_feed (lines_in turns) ++ left
   pub read : at_end ≡ true → (lines_of input ≡ lines_in turns) × (left ≡ [])
   pub settings_are : session.shard.settings ≡ settings
-  pub holds : IsHeld session (held_after settings nothing_held turns)
+  pub holds : IsHeld session (held_after nothing_held turns)
   pub may_be : MayBeAnswered honest settings before after turns
-  pub answered : Appends old new (answers_of settings turns)
+  pub answered : Appends old new (answers_of turns)
 
 -- the same where the bytes that are left are known
 abbrev pub ServesKnown : {R : Type 0} {g : Ghosts R} → Type 0 → StoreSettings → Session R g → List ℕ → ℕ → ℕ → Option (List ℕ) → Option (List ℕ) → Bool → Option (List ℕ) → Type 0

@@ -1,7 +1,7 @@
 -- What is written for an input: by the model alone, from the bytes read to the bytes written.
-use Rattle.std.specs.Prelude.{◌≡◌, ℕ, ◌+◌, ◌-◌, List, [], ◌∷◌, ◌++◌, length, map, sum_by, Bool, false, ◌||◌, ◌==◌, nat_lt, if◌then◌else◌, None, Result, Ok, Err, ⊤, MatchBool}
+use Rattle.std.specs.Prelude.{◌≡◌, ℕ, ◌-◌, List, [], ◌∷◌, ◌++◌, length, map, sum_by, Bool, false, ◌||◌, ◌==◌, nat_lt, if◌then◌else◌, Option, None, Some, Result, Ok, Err, ⊤, MatchOption}
 use Rattle.std.specs.List.{list_all}
-use Rattle.serde_json.specs.Data.{Data, null}
+use Rattle.serde_json.specs.Data.{Data}
 use Rattle.ing_labels.specs.declared.fault.LabelLimits.{LabelLimits}
 use Rattle.ing_labels.specs.declared.fault.LabelFault.{LabelFault}
 use Rattle.ing_labels.specs.Labels.{LabelMap, labels_of}
@@ -21,17 +21,21 @@ use Rattle.ing_shard.specs.declared.due.Op.{Op}
 use Rattle.ing_shard.specs.Contents.{stream_of, stored_count, listed_after}
 use Rattle.ing_shard.specs.Sealing.{ops_from}
 use Rattle.ing_session.specs.declared.reply.ShardReport.{ShardReport}
-use Rattle.ing_session.specs.declared.command.fault.LineFault.{LineFault}
-use Rattle.ing_session.specs.declared.command.fault.LineFault.TheVariants.{BadCommand}
-use Rattle.ing_session.specs.Faults.{refusal_of}
+use Rattle.ing_commands.specs.declared.fault.LineFault.{LineFault}
+use Rattle.ing_commands.specs.declared.fault.LineFault.TheVariants.{BadCommand}
+use Rattle.ing_commands.specs.Faults.{refusal_of}
 use Rattle.ing_refusals.specs.declared.refusal.Refusal.TheVariants.{TooManyEntries, CounterFull}
 use Rattle.ing_refusals.specs.declared.refusal.Refusal.TheVariants as refusals
-use Rattle.ing_session.specs.Commands.{Command, Push, Sweep, Flush, Gauges, Query, command_of}
+use Rattle.ing_commands.specs.Commands.{Command, Push, Sweep, Flush, Gauges, Query, command_of}
 use Rattle.ing_session.specs.Flushing.{Outcome, EndSo, failed_among, stored_among}
 use Rattle.ing_session.specs.Held.{Held, nothing_held, shard_number}
-use Rattle.ing_session.specs.PushCommands.{StreamEntries}
+use Rattle.ing_commands.specs.FlushCommands.{FlushCommand}
+use Rattle.ing_commands.specs.GaugesCommands.{GaugesCommand}
+use Rattle.ing_commands.specs.PushCommands.{PushCommand, StreamEntries}
+use Rattle.ing_commands.specs.QueryCommands.{QueryCommand}
+use Rattle.ing_commands.specs.SweepCommands.{SweepCommand}
 use Rattle.ing_session.specs.Parts.{max_line}
-use Rattle.ing_session.specs.Queries.{Answer, Unasked, Refused, Given, Failed, Damaged, QueryMayBe, failed_of}
+use Rattle.ing_session.specs.Queries.{Answer, Refused, Given, Failed, Damaged, QueryMayBe, failed_of}
 use Rattle.ing_session.specs.Replies.{fault_data, judged_data, push_data, sweep_data, flush_data, gauges_data, query_data, report_data, line_text}
 
 abbrev pub limits_of : Rules → LabelLimits
@@ -87,6 +91,12 @@ abbrev pub after_streams : Rules → List ℕ → ℕ → List StreamEntries →
 after_streams rules tenant now [] held = held
 after_streams rules tenant now (s ∷ ss) held = after_streams rules tenant now ss (after_stream rules tenant now s held)
 
+-- a push is obeyed
+pub record ObeysPush (settings : StoreSettings) (push : PushCommand) (old new : Held) (failed : ℕ) (reply : Data) : Type 0 where
+  pub told : reply ≡ push_data (stream_replies (rules_for settings push.tenant) push.tenant push.now push.streams old)
+  pub left : new ≡ after_streams (rules_for settings push.tenant) push.tenant push.now push.streams old
+  pub failures : failed ≡ 0
+
 -- ---- a sweep
 
 -- how many chunks are due at this time
@@ -104,6 +114,12 @@ sweep_reply settings now held = sweep_data (length (ops_at settings now held)) (
 abbrev pub after_sweep : StoreSettings → ℕ → Held → Held
 after_sweep settings now held =
     record held { state = swept (rules_for settings) now held.state; ops = held.ops ++ ops_at settings now held }
+
+-- a sweep is obeyed
+pub record ObeysSweep (settings : StoreSettings) (sweep : SweepCommand) (old new : Held) (failed : ℕ) (reply : Data) : Type 0 where
+  pub told : reply ≡ sweep_reply settings sweep.now old
+  pub left : new ≡ after_sweep settings sweep.now old
+  pub failures : failed ≡ 0
 
 -- ---- a flush
 
@@ -135,50 +151,61 @@ FlushMayBe settings outcomes left held = EndSo (rules_for settings) held.listed 
 abbrev pub after_flush : State → Held → Held
 after_flush left held = record held { state = left; ops = [] }
 
+-- a flush is obeyed: its operations ended so, and left these rows and marks
+pub record ObeysFlush (settings : StoreSettings) (flush : FlushCommand) (old new : Held) (failed : ℕ) (reply : Data) : Type 0 where
+  pub outcomes : List Outcome
+  pub rows : State
+  pub may_be : FlushMayBe settings outcomes rows (to_flush flush.forced old)
+  pub told : reply ≡ flush_reply flush.forced outcomes old
+  pub left : new ≡ after_flush rows old
+  pub failures : failed ≡ failed_among outcomes
+
+-- ---- a question for gauges
+
+-- it is answered, and changes nothing
+pub record ObeysGauges (gauges : GaugesCommand) (old new : Held) (failed : ℕ) (reply : Data) : Type 0 where
+  pub told : reply ≡ gauges_data (gauges_of old.state.rows gauges.tenant ∷ [])
+  pub left : new ≡ old
+  pub failures : failed ≡ 0
+
 -- ---- a query
 
 -- the reply to a query that came to this, of the one shard
 abbrev pub query_reply : Answer → Held → Data
-query_reply Unasked held = null
 query_reply (Refused fault) held = fault_data (text_refusal_of fault) (text_fault_place fault)
 query_reply (Given found) held = query_data found (length held.state.rows ∷ [])
 query_reply Failed held = fault_data refusals.StoreFault None
 query_reply Damaged held = fault_data refusals.BadObject None
 
--- ---- one line, by the rules of the tenant that it names
+-- a query is obeyed: it came to this answer, over an end of the store that is honest or not, and changes nothing
+pub record ObeysQuery (honest : Type 0) (query : QueryCommand) (old new : Held) (failed : ℕ) (reply : Data) : Type 0 where
+  pub answer : Answer
+  pub may_be : QueryMayBe honest query answer old.state.rows
+  pub told : reply ≡ query_reply answer old
+  pub left : new ≡ old
+  pub failures : failed ≡ failed_of answer
+
+-- ---- a line that is refused
 
 abbrev pub line_fault : LineFault → Data
 line_fault fault = fault_data (refusal_of fault) None
 
--- the reply to a command; of a flush, where its operations ended so, and of a query, where it came to this
-abbrev pub command_reply : StoreSettings → Result Command LineFault → List Outcome → Answer → Held → Data
-command_reply settings (Err fault) outcomes answer held = line_fault fault
-command_reply settings (Ok (Push push)) outcomes answer held =
-    push_data (stream_replies (rules_for settings push.tenant) push.tenant push.now push.streams held)
-command_reply settings (Ok (Sweep sweep)) outcomes answer held = sweep_reply settings sweep.now held
-command_reply settings (Ok (Flush flush)) outcomes answer held = flush_reply flush.forced outcomes held
-command_reply settings (Ok (Gauges gauges)) outcomes answer held = gauges_data (gauges_of held.state.rows gauges.tenant ∷ [])
-command_reply settings (Ok (Query query)) outcomes answer held = query_reply answer held
+-- it changes nothing
+pub record RefusesLine (fault : LineFault) (old new : Held) (failed : ℕ) (reply : Data) : Type 0 where
+  pub told : reply ≡ line_fault fault
+  pub left : new ≡ old
+  pub failures : failed ≡ 0
 
--- a refused line changes nothing, nor does a question; a flush leaves these rows and marks
-abbrev pub after_command : StoreSettings → Result Command LineFault → State → Held → Held
-after_command settings (Err fault) left held = held
-after_command settings (Ok (Push push)) left held =
-    after_streams (rules_for settings push.tenant) push.tenant push.now push.streams held
-after_command settings (Ok (Sweep sweep)) left held = after_sweep settings sweep.now held
-after_command settings (Ok (Flush flush)) left held = after_flush left held
-after_command settings (Ok (Gauges gauges)) left held = held
-after_command settings (Ok (Query query)) left held = held
+-- ---- one line, by the rules of the tenant that it names
 
--- The operations of a flush may end so, and leave these rows and marks; a query may come to this, over an end of the store
--- that is honest or not.
-abbrev pub CommandMayBe : Type 0 → StoreSettings → Result Command LineFault → List Outcome → State → Answer → Held → Type 0
-CommandMayBe honest settings (Err fault) outcomes left answer held = ⊤
-CommandMayBe honest settings (Ok (Push push)) outcomes left answer held = ⊤
-CommandMayBe honest settings (Ok (Sweep sweep)) outcomes left answer held = ⊤
-CommandMayBe honest settings (Ok (Flush flush)) outcomes left answer held = FlushMayBe settings outcomes left (to_flush flush.forced held)
-CommandMayBe honest settings (Ok (Gauges gauges)) outcomes left answer held = ⊤
-CommandMayBe honest settings (Ok (Query query)) outcomes left answer held = (outcomes ≡ []) × QueryMayBe honest query answer held.state.rows
+-- From old, what a line says may be obeyed, with this reply and so many failed uploads and queries, and leave new.
+pub data Obeys (honest : Type 0) (settings : StoreSettings) (old new : Held) (failed : ℕ) (reply : Data) : Result Command LineFault → Type 0 where
+  Refuses : {fault : LineFault} → RefusesLine fault old new failed reply → Obeys honest settings old new failed reply (Err fault)
+  Pushes : {push : PushCommand} → ObeysPush settings push old new failed reply → Obeys honest settings old new failed reply (Ok (Push push))
+  Sweeps : {sweep : SweepCommand} → ObeysSweep settings sweep old new failed reply → Obeys honest settings old new failed reply (Ok (Sweep sweep))
+  Flushes : {flush : FlushCommand} → ObeysFlush settings flush old new failed reply → Obeys honest settings old new failed reply (Ok (Flush flush))
+  AsksGauges : {gauges : GaugesCommand} → ObeysGauges gauges old new failed reply → Obeys honest settings old new failed reply (Ok (Gauges gauges))
+  Queries : {query : QueryCommand} → ObeysQuery honest query old new failed reply → Obeys honest settings old new failed reply (Ok (Query query))
 
 -- spaces, tabs and carriage returns alone
 abbrev pub is_blank : List ℕ → Bool
@@ -187,35 +214,38 @@ is_blank line = list_all (λ byte. byte == 32 || byte == 9 || byte == 13) line
 abbrev pub is_long : List ℕ → Bool
 is_long line = nat_lt max_line (length line)
 
--- A line of the input. Where it is a flush, its operations ended so, and these rows and marks were left; where it is a query, it
--- came to this. Of another line these say nothing.
+-- what a line says: one that is too long is refused unread, and a blank one says nothing
+abbrev pub said_in : List ℕ → Option (Result Command LineFault)
+said_in line =
+    if is_long line then Some (Err BadCommand)
+    else if is_blank line then None
+    else Some (command_of line)
+
+-- A line of the input: what is written for it, how many uploads and queries failed at it, and what is held then.
 pub record Turn : Type 0 where
   pub line : List ℕ
-  pub outcomes : List Outcome
-  pub left : State
-  pub answer : Answer
+  pub answer : List ℕ
+  pub failed : ℕ
+  pub left : Held
 
-abbrev pub turn : List ℕ → List Outcome → State → Answer → Turn
-turn line outcomes left answer = record { line = line; outcomes = outcomes; left = left; answer = answer }
+abbrev pub turn : List ℕ → List ℕ → ℕ → Held → Turn
+turn line answer failed left = record { line = line; answer = answer; failed = failed; left = left }
 
--- a line that is too long is refused unread, a blank one is skipped, and each other is answered
-abbrev pub answer_to : StoreSettings → Turn → Held → List ℕ
-answer_to settings t held =
-    if is_long t.line then line_text (line_fault BadCommand)
-    else if is_blank t.line then []
-    else line_text (command_reply settings (command_of t.line) t.outcomes t.answer held)
+-- what it says is obeyed, and its reply is written
+pub record IsAnswered (honest : Type 0) (settings : StoreSettings) (said : Result Command LineFault) (t : Turn) (old : Held) : Type 0 where
+  pub reply : Data
+  pub obeys : Obeys honest settings old t.left t.failed reply said
+  pub written : t.answer ≡ line_text reply
 
-abbrev pub after_line : StoreSettings → Turn → Held → Held
-after_line settings t held =
-    if is_long t.line then held
-    else if is_blank t.line then held
-    else after_command settings (command_of t.line) t.left held
+-- nothing is written, and nothing changes
+pub record IsSkipped (t : Turn) (old : Held) : Type 0 where
+  pub written : t.answer ≡ []
+  pub left : t.left ≡ old
+  pub failures : t.failed ≡ 0
 
+-- from this on, a line may be answered so
 abbrev pub MayBe : Type 0 → StoreSettings → Turn → Held → Type 0
-MayBe honest settings t held =
-    MatchBool (is_long t.line) ⊤ (
-    MatchBool (is_blank t.line) ⊤ (
-    CommandMayBe honest settings (command_of t.line) t.outcomes t.left t.answer held))
+MayBe honest settings t held = MatchOption (said_in t.line) (IsSkipped t held) (λ said. IsAnswered honest settings said t held)
 
 -- ---- the whole input
 
@@ -232,38 +262,28 @@ shard_report st = record {
 abbrev pub report_of : State → Data
 report_of st = report_data (shard_report st ∷ [])
 
--- the answers to lines, one after another, from what is held on
-abbrev pub answers_from : StoreSettings → Held → List Turn → List ℕ
-answers_from settings held [] = []
-answers_from settings held (t ∷ turns) =
-    answer_to settings t held ++ answers_from settings (after_line settings t held) turns
+-- what is written for lines, one after another
+abbrev pub answers_of : List Turn → List ℕ
+answers_of [] = []
+answers_of (t ∷ turns) = t.answer ++ answers_of turns
 
--- what is held after them
-abbrev pub held_after : StoreSettings → Held → List Turn → Held
-held_after settings held [] = held
-held_after settings held (t ∷ turns) = held_after settings (after_line settings t held) turns
+-- what is held after them, from what was held before
+abbrev pub held_after : Held → List Turn → Held
+held_after held [] = held
+held_after held (t ∷ turns) = held_after t.left turns
 
--- their flushes may end so, and their queries come to this
+-- from this on, they may be answered so
 abbrev pub MayBeFrom : Type 0 → StoreSettings → Held → List Turn → Type 0
 MayBeFrom honest settings held [] = ⊤
-MayBeFrom honest settings held (t ∷ turns) = MayBe honest settings t held × MayBeFrom honest settings (after_line settings t held) turns
+MayBeFrom honest settings held (t ∷ turns) = MayBe honest settings t held × MayBeFrom honest settings t.left turns
 
 abbrev pub lines_in : List Turn → List (List ℕ)
 lines_in = map (λ t. t.line)
 
--- how many uploads and queries failed at a line
-abbrev pub failed_at : List Outcome → Answer → ℕ
-failed_at outcomes answer = failed_among outcomes + failed_of answer
-
--- and in all
+-- how many uploads and queries failed in all
 abbrev pub failed_in : List Turn → ℕ
-failed_in = sum_by (λ t. failed_at t.outcomes t.answer)
-
--- the answers to the lines of a run
-abbrev pub answers_of : StoreSettings → List Turn → List ℕ
-answers_of settings turns = answers_from settings nothing_held turns
+failed_in = sum_by (λ t. t.failed)
 
 -- an answer for each line, and the report
-abbrev pub output_of : StoreSettings → List Turn → List ℕ
-output_of settings turns =
-    answers_of settings turns ++ line_text (report_of (held_after settings nothing_held turns).state)
+abbrev pub output_of : List Turn → List ℕ
+output_of turns = answers_of turns ++ line_text (report_of (held_after nothing_held turns).state)

@@ -1,85 +1,12 @@
--- What the code's types hold, without where it lies in memory.
-use Rattle.std.specs.Prelude.{ℕ, List, [], ◌∷◌, map, None}
-use Rattle.std.specs.Borrow.{Bor}
-use Rattle.ing_session.specs.declared.command.push.Push as push
-use Rattle.ing_session.specs.declared.command.push.StreamPush.{StreamPush}
-use Rattle.ing_session.specs.declared.command.push.texts.PushTexts.{PushTexts}
-use Rattle.ing_session.specs.declared.command.push.stream.StreamTexts.{StreamTexts}
-use Rattle.ing_session.specs.declared.command.push.texts.ValueTexts.{ValueTexts}
-use Rattle.ing_session.specs.declared.command.flush.Flush as flush
-use Rattle.ing_session.specs.declared.command.gauges.GaugesOf.{GaugesOf}
-use Rattle.ing_session.specs.declared.command.query.Query as query
-use Rattle.ing_session.specs.declared.command.query.QueryTexts.{QueryTexts}
-use Rattle.ing_session.specs.declared.command.sweep.Sweep as sweep
-use Rattle.ing_session.specs.declared.command.Command as code
-use Rattle.ing_session.specs.declared.command.Command.TheVariants as variants
+-- What replies hold, without where it lies in memory.
+use Rattle.std.specs.Prelude.{[], ◌∷◌, map, None}
 use Rattle.ing_session.specs.declared.reply.Reply.{Reply}
 use Rattle.ing_session.specs.declared.reply.Reply.TheVariants as replies
 use Rattle.ing_session.specs.declared.reply.StreamReply.{StreamReply}
 use Rattle.ing_session.specs.declared.reply.StreamReply.TheVariants as replies_of_streams
 use Rattle.ing_labels.specs.Canonical.{canonical_of}
 use Rattle.serde_json.specs.Data.{Data}
-use Rattle.serde_json.specs.View.{items_view}
 use Rattle.ing_session.specs.Replies.{fault_data, judged_data, push_data, sweep_data, flush_data, gauges_data, query_data, report_data}
-use Rattle.ing_session.specs.PushCommands.{RawValue, RawStream, RawPush, PushCommand, StreamEntries}
-use Rattle.ing_session.specs.PushTexts.{values_in}
-use Rattle.ing_session.specs.SweepCommands.{SweepCommand}
-use Rattle.ing_session.specs.FlushCommands.{FlushCommand}
-use Rattle.ing_session.specs.GaugesCommands.{GaugesCommand}
-use Rattle.ing_session.specs.QueryCommands.{RawQuery, QueryCommand}
-use Rattle.ing_session.specs.Commands.{Command, Push, Sweep, Flush, Gauges, Query}
-
--- the bytes of a label and its value
-abbrev pub label_view : Bor (List ℕ) × Bor (List ℕ) → List ℕ × List ℕ
-label_view pair = (pair.0.now, pair.1.now)
-
--- the texts of a value
-abbrev pub value_view : ValueTexts → RawValue
-value_view v = record { stamp = v.stamp.now; line = v.line.now; has_metadata = v.has_metadata }
-
--- the texts of a stream
-abbrev pub texts_view : StreamTexts → RawStream
-texts_view s = record { labels = map label_view s.labels.items; values = values_in (items_view s.values.now) }
-
--- the texts of a push
-abbrev pub shape_view : PushTexts → RawPush
-shape_view p = record { tenant = p.tenant.now; now = p.now.now; streams = map texts_view p.streams.items }
-
--- the entries of a stream
-abbrev pub stream_view : StreamPush → StreamEntries
-stream_view s = record { labels = map label_view s.labels.items; entries = s.entries.items }
-
--- a push
-abbrev pub push_view : push.Push → PushCommand
-push_view p = record { tenant = p.tenant; now = p.now; streams = map stream_view p.streams.items }
-
--- a sweep
-abbrev pub sweep_view : sweep.Sweep → SweepCommand
-sweep_view s = record { now = s.now }
-
--- a flush
-abbrev pub flush_view : flush.Flush → FlushCommand
-flush_view f = record { forced = f.forced }
-
--- a question for gauges
-abbrev pub gauges_view : GaugesOf → GaugesCommand
-gauges_view g = record { tenant = g.tenant }
-
--- the texts of a query
-abbrev pub query_texts : QueryTexts → RawQuery
-query_texts q = record { tenant = q.tenant.now; text = q.text.now; start = q.start.now; end = q.end.now; limit = q.limit; order = q.order }
-
--- a query
-abbrev pub query_view : query.Query → QueryCommand
-query_view q = record { tenant = q.tenant; text = q.text.now; start = q.start; end = q.end; limit = q.limit; order = q.order }
-
--- a command
-abbrev pub command_view : code.Command → Command
-command_view (variants.Push p) = Push (push_view p)
-command_view (variants.Sweep s) = Sweep (sweep_view s)
-command_view (variants.Flush f) = Flush (flush_view f)
-command_view (variants.Gauges g) = Gauges (gauges_view g)
-command_view (variants.Query q) = Query (query_view q)
 
 -- the reply to a stream
 abbrev pub stream_data : StreamReply → Data

@@ -1,8 +1,7 @@
-//! The session of the program: lines in, lines out. What a line commands and what is replied, by the settings of a file
+//! The session of the program: lines in, lines out. What a command does and what is replied, by the settings of a file
 //! and over any reader and writer.
 #![tactic(auto)]
 
-mod command;
 mod ending;
 mod lines;
 mod output;

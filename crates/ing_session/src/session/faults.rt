@@ -7,8 +7,8 @@ ghost use Rattle.ing_session.specs.Replies.{fault_data};
 ghost use Rattle.ing_session.specs.Session.{is_blank, label_fault, limits_of, line_fault};
 ghost use Rattle.ing_session.specs.Views.{reply_data, stream_data};
 
-use crate::command::LineFault;
 use crate::reply::{Reply, StreamReply};
+use ing_commands::LineFault;
 use ing_labels::{LabelFault, LabelLimits, TextFault};
 use ing_query::QueryFault;
 use ing_refusals::Refusal;

@@ -4,16 +4,17 @@ ghost use Rattle.ing_limits.specs.Ranges.{rules_for};
 ghost use Rattle.ing_rows.specs.Events.{GiveBack, GivenBack, Step};
 ghost use Rattle.ing_shard.specs.Contents.{IsSameShard};
 ghost use Rattle.ing_shard.specs.Flights.{IsInFlight};
-ghost use Rattle.ing_session.specs.Commands as commands;
+ghost use Rattle.ing_commands.specs.Commands as commands;
 ghost use Rattle.ing_session.specs.Flushing.{Outcome, Ends, GoesOn, HaveCause, failed_by, stored_by};
 ghost use Rattle.ing_session.specs.Held.{Held, IsHeld};
-ghost use Rattle.ing_session.specs.Runs.{IsFlushed, Obeys};
+ghost use Rattle.ing_session.specs.Runs.{IsFlushed, IsObeyed};
 ghost use Rattle.ing_session.specs.Session.{growing_in, with_sealed};
-ghost use Rattle.ing_session.specs.Views.{flush_view, reply_data};
+ghost use Rattle.ing_commands.specs.Views.{flush_view};
+ghost use Rattle.ing_session.specs.Views.{reply_data};
 
 use super::Session;
-use crate::command::Flush;
 use crate::reply::Reply;
+use ing_commands::Flush;
 use ing_rows::{flushes_have_no_order, seals_have_no_order};
 use ing_shard::{FinishFault, Op, Ticket};
 use ing_store::{Receipt, StoreEnd, StoreFault};
@@ -36,7 +37,7 @@ impl<R: Receipt> Session<R> {
         flush: Flush,
     ) -> Result<Reply, AllocError>
         ensures obeyed { IfOk result (λ reply. (old : Held) → IsHeld self.old old →
-            Obeys S.is_honest self.old.shard.settings (Ok (commands.Flush (flush_view flush))) old self.new
+            IsObeyed S.is_honest self.old.shard.settings (Ok (commands.Flush (flush_view flush))) old self.new
             (S.failure_count end.old) (S.failure_count end.new) (reply_data reply)) }
         ensures settings { self.new.shard.settings ≡ self.old.shard.settings }
         ensures end { GoesOn S.never_fails S.failure_count end.old end.new }

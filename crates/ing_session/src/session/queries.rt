@@ -1,16 +1,17 @@
 //! What a query gives.
 ghost use Rattle.std.specs.Prelude.{IfOk, Ok};
 ghost use Rattle.ing_labels.specs.Selectors.{IsSelector, IsSelectorText};
-ghost use Rattle.ing_session.specs.Commands as commands;
+ghost use Rattle.ing_commands.specs.Commands as commands;
 ghost use Rattle.ing_session.specs.Flushing.{GoesOn};
 ghost use Rattle.ing_session.specs.Held.{Held, IsHeld};
-ghost use Rattle.ing_session.specs.Runs.{Obeys};
-ghost use Rattle.ing_session.specs.Views.{query_view, reply_data};
+ghost use Rattle.ing_session.specs.Runs.{IsObeyed};
+ghost use Rattle.ing_commands.specs.Views.{query_view};
+ghost use Rattle.ing_session.specs.Views.{reply_data};
 
 use super::Session;
 use super::faults::{query_fault, selector_fault};
-use crate::command::Query;
 use crate::reply::Reply;
+use ing_commands::Query;
 use ing_labels::Selector;
 use ing_parts::{Question, found_rows_have_no_order, standing_joins};
 use ing_query::run_query;
@@ -25,7 +26,7 @@ impl<R: Receipt> Session<R> {
         query: &Query<'_>,
     ) -> Result<Reply, AllocError>
         ensures obeyed { IfOk result (λ reply. (old : Held) → IsHeld self.now old →
-            Obeys S.is_honest self.now.shard.settings (Ok (commands.Query (query_view query.now)))
+            IsObeyed S.is_honest self.now.shard.settings (Ok (commands.Query (query_view query.now)))
             old self.now (S.failure_count end.old) (S.failure_count end.new) (reply_data reply)) }
         ensures end { GoesOn S.never_fails S.failure_count end.old end.new }
     {
@@ -44,7 +45,7 @@ impl<R: Receipt> Session<R> {
     ) -> Result<Reply, AllocError>
         ensures obeyed { IsSelectorText selector.now query.now.text.now → IsSelector selector.now →
             IfOk result (λ reply. (old : Held) → IsHeld self.now old →
-            Obeys S.is_honest self.now.shard.settings (Ok (commands.Query (query_view query.now)))
+            IsObeyed S.is_honest self.now.shard.settings (Ok (commands.Query (query_view query.now)))
             old self.now (S.failure_count end.old) (S.failure_count end.new) (reply_data reply)) }
         ensures end { GoesOn S.never_fails S.failure_count end.old end.new }
     {

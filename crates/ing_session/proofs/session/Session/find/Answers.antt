@@ -3,7 +3,7 @@ use Rattle.ing_parts.specs.Answers.{IsAnswer}
 use Rattle.ing_query.specs.Answers.{wanted_in}
 use Rattle.ing_session.specs.Queries.{Given}
 use Rattle.ing_session.specs.Replies.{query_data}
-use Rattle.ing_session.specs.Views.{query_view}
+use Rattle.ing_commands.specs.Views.{query_view}
 use Rattle.ing_session.proofs.CausesLaws.{same_count}
 use Rattle.ing_session.proofs.QueryLaws.{is_found, not_answered, obeys_query, one_wanted, risen}
 use Rattle.ing_session.proofs.session.Session.find.Goals as goal

@@ -1,7 +1,7 @@
 use Rattle.std.proofs.Common.{◌∙◌, ap, true, false, subst, sym}
 use Rattle.ing_session.specs.Held.{IsHeld}
 use Rattle.ing_session.specs.Session.{with_sealed}
-use Rattle.ing_session.specs.Views.{flush_view}
+use Rattle.ing_commands.specs.Views.{flush_view}
 use Rattle.ing_session.proofs.ObeyLaws.{obeys_flush}
 use Rattle.ing_session.proofs.session.Session.flush.Goals.{then-flush+in_ok-sealed, else-flush}
 use Rattle.ing_session.proofs.session.Session.flush.Goals as goal

@@ -1,4 +1,4 @@
-use Rattle.ing_session.specs.Views.{query_view}
+use Rattle.ing_commands.specs.Views.{query_view}
 use Rattle.ing_session.proofs.QueryLaws.{refused}
 use Rattle.ing_session.proofs.session.Session.query.Goals as goal
 

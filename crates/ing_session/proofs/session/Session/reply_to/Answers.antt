@@ -1,6 +1,6 @@
 use Rattle.std.proofs.Common.{◌∙◌, ap}
 use Rattle.ing_refusals.specs.Results.{◌>>=◌}
-use Rattle.ing_session.specs.Commands.{command_of, said_by}
+use Rattle.ing_commands.specs.Commands.{command_of, said_by}
 use Rattle.ing_session.proofs.ObeyLaws.{obeys_fault}
 use Rattle.ing_session.proofs.session.Session.reply_to.Goals as goal
 

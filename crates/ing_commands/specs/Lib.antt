@@ -1,0 +1,10 @@
+pub mod Commands
+pub mod Faults
+pub mod FlushCommands
+pub mod GaugesCommands
+pub mod PushCommands
+pub mod PushTexts
+pub mod QueryCommands
+pub mod Shapes
+pub mod SweepCommands
+pub mod Views
