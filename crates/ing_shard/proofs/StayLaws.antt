@@ -16,13 +16,16 @@ use Rattle.ing_shard.proofs.FlightLaws.{flies_here}
 -- ---- the same chunks, and one more stream
 
 pub stay_same : (olds news : List Stream) → map key_of news ≡ map key_of olds → map slots_of news ≡ map slots_of olds → StayAmong olds news
-stay_same olds news keys sealed f (n, i, at) =
-    (n, i, record {
-      stream = ap (λ l. slice_get l n) keys ∙ at.stream;
-      slots = at.slots;
-      listed = ap (λ l. slice_get l n) sealed ∙ at.listed;
-      stands = at.stands;
-    })
+stay_same olds news keys sealed f (n, i, at) = (
+  n,
+  i,
+  record {
+    stream = ap (λ l. slice_get l n) keys ∙ at.stream;
+    slots = at.slots;
+    listed = ap (λ l. slice_get l n) sealed ∙ at.listed;
+    stands = at.stands;
+  },
+)
 
 read_front : {X : Type 0} (xs ys : List X) (i : ℕ) (y : X) → slice_get xs i ≡ Some y → slice_get (xs ++ ys) i ≡ Some y
 read_front [] ys i y is = absurd (cc)
@@ -31,13 +34,16 @@ read_front (x ∷ xs) ys (suc i) y is = read_front xs ys i y is
 
 pub stay_more : (olds news : List Stream) (s : StreamKey) → map key_of news ≡ map key_of olds ++ s ∷ []
     → map slots_of news ≡ map slots_of olds ++ [] ∷ [] → StayAmong olds news
-stay_more olds news s keys sealed f (n, i, at) =
-    (n, i, record {
-      stream = ap (λ l. slice_get l n) keys ∙ read_front (map key_of olds) (s ∷ []) n (key_in f) at.stream;
-      slots = at.slots;
-      listed = ap (λ l. slice_get l n) sealed ∙ read_front (map slots_of olds) ([] ∷ []) n at.slots at.listed;
-      stands = at.stands;
-    })
+stay_more olds news s keys sealed f (n, i, at) = (
+  n,
+  i,
+  record {
+    stream = ap (λ l. slice_get l n) keys ∙ read_front (map key_of olds) (s ∷ []) n (key_in f) at.stream;
+    slots = at.slots;
+    listed = ap (λ l. slice_get l n) sealed ∙ read_front (map slots_of olds) ([] ∷ []) n at.slots at.listed;
+    stands = at.stands;
+  },
+)
 
 -- where one is listed, or nothing is
 pub stay_begun : {T E : Type 0} (r : Result T E) (olds news : List Stream) (s : StreamKey)
@@ -75,13 +81,16 @@ at_changed : (Q : List Slot → List Slot → Type 0) → ((xs : List Slot) → 
     → Q st.chunks.sealed now.chunks.sealed → (f : Flown) → ((xs ys : List Slot) (i : ℕ) → Q xs ys → slice_get xs i ≡ Some (slot_at (Flight f.flight) f.chunk) → slice_get ys i ≡ Some (slot_at (Flight f.flight) f.chunk))
     → FliesAmong f (front ++ st ∷ back) → FliesAmong f (front ++ now ∷ back)
 at_changed Q same front st now back key stay f go (n, i, at) =
-    let read = read_changed Q same front st now back n at.slots stay at.listed in
-    (n, i, record {
-      stream = ap (λ l. slice_get l n) (map_same key_of front st now back key) ∙ at.stream;
-      slots = read.slots;
-      listed = read.listed;
-      stands = go at.slots read.slots i read.stay at.stands;
-    })
+    let read = read_changed Q same front st now back n at.slots stay at.listed in (
+      n,
+      i,
+      record {
+        stream = ap (λ l. slice_get l n) (map_same key_of front st now back key) ∙ at.stream;
+        slots = read.slots;
+        listed = read.listed;
+        stands = go at.slots read.slots i read.stay at.stands;
+      },
+    )
 
 pub stay_changed : (front : List Stream) (st now : Stream) (back : List Stream) → key_of now ≡ key_of st
     → StayInFlight st.chunks.sealed now.chunks.sealed → StayAmong (front ++ st ∷ back) (front ++ now ∷ back)

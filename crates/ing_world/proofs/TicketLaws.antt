@@ -62,6 +62,16 @@ past : (ts : Tickets) (o : OpenState) → open_at ts (length ts) ≡ Some o → 
 past [] o is = cc
 past (x ∷ ts) o is = past ts o is
 
+-- each but the last of one ticket more is where it was
+pub open_before : (ts : Tickets) (x : Option OpenState) (t : ℕ) (o : OpenState) → open_at ts t ≡ Some o → open_at (ts ++ x ∷ []) t ≡ Some o
+open_before [] x t o is = absurd cc
+open_before (y ∷ ts) x zero o is = is
+open_before (y ∷ ts) x (suc t) o is = open_before ts x t o is
+
+pub open_last : (ts : Tickets) (o : OpenState) → open_at (ts ++ Some o ∷ []) (length ts) ≡ Some o
+open_last [] o = refl
+open_last (x ∷ ts) o = open_last ts o
+
 -- ---- what is held
 
 -- the only shard stays the only one

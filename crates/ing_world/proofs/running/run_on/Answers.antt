@@ -33,6 +33,7 @@ returns g c =
     let done = c.loop-event.invariant in
     let rules = rules_for c.args.world.now.shard.settings in
     record {
+      held = done.held;
       run = has_run rules c.args.events.now c.loop-event.replies.items c.loop-event.world done.turns.0 done.turns.1
           (subst (λ l. Turns rules empty_world l c.loop-event.replies.items (seen c.loop-event.world done.turns.0)) (take_all c.loop-event.event-index c.args.events.now c.loop-event-test.false) done.turns.2);
     }
