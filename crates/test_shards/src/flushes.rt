@@ -75,6 +75,24 @@ impl<'a> Owned<'a> {
         pairs: &[(&str, &str)],
         lines: &[(u64, &str)],
     ) -> Result<Result<Pushed, PushFault>, Fail> {
+        let mut share = self.shard.push_share()?;
+        let pushed = self.push_told(alloc, &mut share, pairs, lines);
+        let _ = share.strand();
+        pushed
+    }
+
+    /// The same, which a share of what is accepted is told.
+    pub fn push_told(
+        &mut self,
+        alloc: Global,
+        share: &mut Share,
+        pairs: &[(&str, &str)],
+        lines: &[(u64, &str)],
+    ) -> Result<Result<Pushed, PushFault>, Fail>
+        requires { share.old.book ≡ self.old.shard.books.accepted.name }
+        ensures share { share.new.book ≡ share.old.book }
+        ensures same { IsSameShard self.old.shard self.new.shard }
+    {
         let labels = Labels::of_pairs(alloc, pairs, &LIMITS)?;
         let mut entries = Vec::new(alloc);
         for (nanoseconds, text) in lines {
@@ -87,12 +105,10 @@ impl<'a> Owned<'a> {
         if !self.shard.owns(&self.tenant, &labels) {
             return Err("a stream of the shard".into());
         }
-        let mut share = self.shard.push_share()?;
-        let pushed = self
-            .shard
-            .push(alloc, &mut share, &self.tenant, &labels, entries, now);
-        let _ = share.strand();
-        Ok(pushed)
+        Ok(
+            self.shard
+                .push(alloc, share, &self.tenant, &labels, entries, now),
+        )
     }
 
     /// The gauges of the tenant, and the totals of the shard.
