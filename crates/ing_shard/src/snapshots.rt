@@ -8,7 +8,7 @@ ghost use Rattle.ing_shard.specs.Streams.{AreHeld, whole};
 
 use crate::streams::Streams;
 use ing_labels::Selector;
-use ing_parts::{Question, Snapshot, rows_join};
+use ing_parts::{Order, Question, Snapshot, rows_join};
 use ing_postings::StreamNo;
 use ing_rows::Tenant;
 use ing_store::Receipt;
@@ -36,12 +36,31 @@ impl<R: Receipt> Streams<R> {
     {
         let numbers = self.select(alloc, tenant, selector)?;
         let mut snapshot = Snapshot::new(alloc, front, question);
-        self.add_streams(alloc, &mut snapshot, numbers.as_slice())?;
+        self.add_streams(alloc, &mut snapshot, numbers.as_slice(), question.order)?;
         Ok(snapshot)
     }
 
-    /// Adds what is wanted of these streams to a snapshot. A number that no stream has adds nothing.
+    /// Adds what is wanted of these streams to a snapshot. A number that no stream has adds nothing. Where the latest entries are
+    /// wanted, the stream that was listed last is the first: it has later ones more often than not, and what they push out was
+    /// copied for nothing.
     fn add_streams(
+        &self,
+        alloc: Global,
+        snapshot: &mut Snapshot<R>,
+        numbers: &[StreamNo],
+        order: Order,
+    ) -> Result<(), AllocError>
+        ensures { OnOk result (AddsRows (rows_at self.now.list.items numbers.now)
+            snapshot.old snapshot.new) }
+    {
+        match order {
+            Order::Forward => self.add_from_first(alloc, snapshot, numbers),
+            Order::Backward => self.add_from_last(alloc, snapshot, numbers),
+        }
+    }
+
+    /// Adds one after another.
+    fn add_from_first(
         &self,
         alloc: Global,
         snapshot: &mut Snapshot<R>,
@@ -53,6 +72,23 @@ impl<R: Receipt> Streams<R> {
         rows_join::<R>();
         for number in numbers {
             self.add_stream(alloc, snapshot, number.number() as usize)?;
+        }
+        Ok(())
+    }
+
+    /// Adds one after another, the last of them first.
+    fn add_from_last(
+        &self,
+        alloc: Global,
+        snapshot: &mut Snapshot<R>,
+        numbers: &[StreamNo],
+    ) -> Result<(), AllocError>
+        ensures { OnOk result (AddsRows (rows_at self.now.list.items numbers.now)
+            snapshot.old snapshot.new) }
+    {
+        rows_join::<R>();
+        for index in (0..numbers.len()).rev() {
+            self.add_stream(alloc, snapshot, numbers[index].number() as usize)?;
         }
         Ok(())
     }

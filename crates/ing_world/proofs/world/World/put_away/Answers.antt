@@ -1,4 +1,4 @@
-use Rattle.std.proofs.Common.{◌≡◌, ◌∙◌, ◌++◌, ◌∷◌, [], Some, ap, length}
+use Rattle.std.proofs.Common.{◌≡◌, ◌∙◌, ◌++◌, ◌∷◌, [], Some, ap, length, sym}
 use Rattle.ing_world.specs.Worlds.{open_at}
 use Rattle.ing_world.proofs.TicketLaws.{open_before, open_last}
 use Rattle.ing_world.proofs.world.World.put_away.Goals as goal
@@ -17,3 +17,14 @@ give_back-requires g c =
 pub loop-ticket-preserved : goal.loop-ticket-preserved
 loop-ticket-preserved g c = λ t o is.
     c.loop-ticket.invariant t o (ap (λ l. open_at l t) c.in-Some.ensures.items ∙ open_before c.pop.new.self.items c.in-Some.ticket t o is)
+
+-- and one that was open is given back, to the same books
+pub loop-ticket-preserved-in-Some-ticket : goal.loop-ticket-preserved-in-Some-ticket
+loop-ticket-preserved-in-Some-ticket g c = λ t o is.
+    c.loop-ticket.invariant t o (ap (λ l. open_at l t) c.in-Some.ensures.items ∙ open_before c.pop.new.self.items c.in-Some.ticket t o is)
+    ∙ sym (ap (λ n. n.flight) c.give_back.ensures.same.books)
+
+pub loop-ticket-preserved-in-Some-ticket-2 : goal.loop-ticket-preserved-in-Some-ticket-2
+loop-ticket-preserved-in-Some-ticket-2 g c = λ t o is.
+    c.loop-ticket.invariant t o (ap (λ l. open_at l t) c.in-Some.ensures.items ∙ open_before c.pop.new.self.items c.in-Some.ticket t o is)
+    ∙ sym (ap (λ n. n.flight) c.give_back.ensures.same.books)
