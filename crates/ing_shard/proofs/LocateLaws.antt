@@ -1,17 +1,17 @@
 -- A stream of a name stands in one place at most, so a chunk that is in flight is found there.
-use Rattle.std.proofs.Common.{◌≡◌, ℕ, zero, suc, ◌<◌, List, [], ◌∷◌, ◌++◌, false, length, map, Option, Some, None, refl, ap, sym, ◌∙◌, subst, arith, get_or, slice_get}
+use Rattle.std.proofs.Common.{◌≡◌, ℕ, zero, suc, List, [], ◌∷◌, ◌++◌, length, map, Some, None, refl, ap, sym, ◌∙◌, arith, slice_get}
 use Rattle.std.proofs.lemmas.Bool.{true≢false}
 use Rattle.std.proofs.lemmas.List.Elements.{All-head, All-tail}
-use Rattle.std.proofs.lemmas.Option.{same_Some, slice_get-get_or, slice_get-map}
+use Rattle.std.proofs.lemmas.Option.{same_Some, slice_get-map}
 use Rattle.std.specs.Option.{option_map}
 use Rattle.ing_rows.specs.declared.place.Place.TheVariants.{Flight}
 use Rattle.ing_rows.specs.Rows.{StreamKey, same_stream}
-use Rattle.ing_sealed.specs.Slots.{Slot, slot_at}
+use Rattle.ing_sealed.specs.Slots.{slot_at}
 use Rattle.ing_shard.specs.OneStream.{Stream}
 use Rattle.ing_shard.specs.Flights.{Flown, IsAt, key_in}
 use Rattle.ing_shard.specs.Streams.{AreDistinct, FliesAmong, key_of, position_of, slots_of}
 use Rattle.ing_shard.proofs.CountLaws.{same_self}
-use Rattle.ing_shard.proofs.PositionLaws.{Splits, none_others, position_splits}
+use Rattle.ing_shard.proofs.PositionLaws.{none_others, position_splits}
 use Rattle.ing_shard.proofs.WholeLaws.{AreOthers, IsOther}
 
 not_other : (s : StreamKey) (st : Stream) → IsOther s st → Some (key_of st) ≡ Some s → ⊥

@@ -16,7 +16,7 @@ loop-index-preserved g c =
     let later : List Row = rows_at sts (drop at.index numbers) in
     let own : List Row = rows_of (slice_get sts n) in
     let next : suc i ≡ at.index = omega arith in
-    let left : drop i numbers ≡ n ∷ drop at.index numbers = drop-cons i numbers n (omega arith) c.index-numbers-index.is ∙ ap (λ k. n ∷ drop k numbers) next in
+    let left : drop i numbers ≡ n ∷ drop at.index numbers = drop-cons numbers i n (omega arith) ∙ ap (λ y. y ∷ drop (suc i) numbers) (sym c.index-numbers-index.is) ∙ ap (λ k. n ∷ drop k numbers) next in
     let added : AddsRows own at.snapshot c.add_stream.new.snapshot = subst (λ k. AddsRows (rows_of (slice_get sts k)) at.snapshot c.add_stream.new.snapshot) c.number.ensures c.in_ok-add_stream.ensures in
     c.rows_join.ensures.of (map found_at (later ++ own)) (rows_at sts (drop i numbers)) c.args.snapshot.now c.add_stream.new.snapshot
     (IsPermutation-map found_at (rows_at sts (drop i numbers)) (later ++ own)

@@ -1,4 +1,4 @@
-use Rattle.std.proofs.Common.{◌≡◌, ◌<◌, ℕ, List, length, refl, map, ap, subst, sym, ◌∙◌, Some, None, Option, IfNone, slice_get, vec_len}
+use Rattle.std.proofs.Common.{◌≡◌, ◌<◌, ℕ, List, length, refl, map, ap, subst, sym, ◌∙◌, Some, None, Option, IfNone, slice_get}
 use Rattle.std.proofs.lemmas.Option.{slice_get_read}
 use Rattle.ing_rows.specs.Rows.{StreamKey}
 use Rattle.ing_shard.specs.Contents.{stream_of}
