@@ -1,11 +1,12 @@
 //! A shard whose books are gathered once all of their shares are there.
+ghost use Rattle.std.specs.Prelude.{◌≡◌, ◌∷◌, [], IfOk};
 ghost use Rattle.ing_shard.specs.Contents.{AreSharesOf};
 
 use crate::flushes::Owned;
-use ing_shard::{Gathered, Missing};
-use ing_store::{Fuse, MemoryStore};
+use ing_shard::{Gathered, Missing, Shard};
+use ing_store::{Fuse, MemoryReceipt, MemoryStore};
 use ing_tally::{Share, strand_each};
-use std::alloc::Global;
+use std::alloc::{AllocError, Global};
 use std::process::Abort;
 use std::sync::Wait;
 use std::test::Fail;
@@ -54,36 +55,65 @@ fn work<'a, R: Wait + Abort>(
     Ok([flying, without, stored])
 }
 
+/// A list of one share.
+fn alone(alloc: Global, share: Share) -> Result<Vec<Share>, AllocError>
+    ensures { IfOk result (λ shares. shares.items ≡ share ∷ []) }
+{
+    let Ok(mut shares) = Vec::with_capacity(alloc, 1) else {
+        let _ = share.strand();
+        return Err(AllocError);
+    };
+    shares.push_reserved(share);
+    Ok(shares)
+}
+
+/// What the books of a shard have with these two shares.
+fn gathered(
+    alloc: Global,
+    shard: Shard<MemoryReceipt<'_>>,
+    pushing: Share,
+    tally: Share,
+) -> Result<Gathered, Fail>
+    requires { AreSharesOf shard.books pushing tally }
+{
+    let Ok(pushes) = alone(alloc, pushing) else {
+        let _ = tally.strand();
+        return Err(AllocError.into());
+    };
+    let Ok(tallies) = alone(alloc, tally) else {
+        strand_each(pushes);
+        return Err(AllocError.into());
+    };
+    match shard.gather_books(pushes, tallies) {
+        Ok(whole) => Ok(whole),
+        Err((_, pushes, tallies, _)) => {
+            strand_each(pushes);
+            strand_each(tallies);
+            Err("shares are missing".into())
+        }
+    }
+}
+
 #[test]
 fn books_are_gathered(rt: HostRuntime) -> Result<(), Fail> {
     let alloc = rt.alloc();
     let store = MemoryStore::new(alloc)?;
     let mut one = Owned::fresh(alloc, "t", "")?;
-    let mut pushes = Vec::with_capacity(alloc, 1)?;
-    let mut tallies = Vec::with_capacity(alloc, 1)?;
     let mut pushing = one.shard.push_share()?;
     let Ok(mut tally) = one.shard.tally_share() else {
         let _ = pushing.strand();
         return Err("a share".into());
     };
-    let missing = work(&rt, alloc, &store, &mut one, &mut pushing, &mut tally);
-    pushes.push_reserved(pushing);
-    tallies.push_reserved(tally);
-    let Owned { shard, tenant: _ } = one;
-    match shard.gather_books(pushes, tallies) {
-        Ok(whole) => {
-            let wanted = Gathered {
-                accepted: 3,
-                stored: 2,
-            };
-            assert_eq!(rt; whole, wanted);
-            assert_eq!(rt; missing?, MISSING);
+    match work(&rt, alloc, &store, &mut one, &mut pushing, &mut tally) {
+        Ok(missing) => {
+            let whole = gathered(alloc, one.shard, pushing, tally)?;
+            assert_eq!(rt; missing, MISSING);
+            assert!(rt; whole.accepted == 3 && whole.stored == 2);
             Ok(())
         }
-        Err((_, pushes, tallies, _)) => {
-            strand_each(pushes);
-            strand_each(tallies);
-            Err("shares are missing".into())
+        Err(fault) => {
+            let _ = (pushing.strand(), tally.strand());
+            Err(fault)
         }
     }
 }

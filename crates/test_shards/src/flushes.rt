@@ -267,16 +267,16 @@ fn a_chunk_is_stored_once_after_a_failed_put(rt: HostRuntime) -> Result<(), Fail
     Ok(())
 }
 
-/// A ticket for a chunk of tenant `t` is a stray in a shard of another number where the same chunk of tenant `u` is in flight,
+/// A ticket for a chunk of tenant `t` is a stray in a shard of another number where the same chunk of tenant `v` is in flight,
 /// under the same number and at the same place.
 #[test]
 fn a_ticket_is_strange_to_another_shard(rt: HostRuntime) -> Result<(), Fail> {
     let alloc = rt.alloc();
     let store = MemoryStore::new(alloc)?;
-    let mut other = Owned::numbered(alloc, "u", "shards = 2\n", 1)?.sealed(alloc)?;
+    let mut other = Owned::numbered(alloc, "v", "shards = 2\n", 1)?.sealed(alloc)?;
     let own = other.claim(&rt, alloc)?;
     let strange = is_strange_to(&rt, alloc, &store, &mut other);
-    let flew = other.give_back(own).is_ok();
+    let flew = other.shard.give_back(own).is_ok();
     assert!(rt; strange? && flew);
     Ok(())
 }

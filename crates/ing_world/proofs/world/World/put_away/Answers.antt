@@ -1,4 +1,4 @@
-use Rattle.std.proofs.Common.{◌≡◌, ◌∙◌, ◌++◌, ◌∷◌, [], Some, ap, length, sym}
+use Rattle.std.proofs.Common.{◌∙◌, ◌++◌, ◌∷◌, [], ap, length, sym}
 use Rattle.ing_world.specs.Worlds.{open_at}
 use Rattle.ing_world.proofs.TicketLaws.{open_before, open_last}
 use Rattle.ing_world.proofs.world.World.put_away.Goals as goal
