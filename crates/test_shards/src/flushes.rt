@@ -118,8 +118,9 @@ impl<'a> Owned<'a> {
 
     /// Claims the oldest chunk of the first stream that waits.
     fn try_claim(&mut self, rt: &impl Abort, alloc: Global) -> Result<Option<Ticket>, AllocError>
-        ensures { IfOk result (λ o. IfSome o (λ ticket.
+        ensures lent { IfOk result (λ o. IfSome o (λ ticket.
             ticket.share.book ≡ self.new.shard.books.flight.name)) }
+        ensures same { IsSameShard self.old.shard self.new.shard }
     {
         let before = self.counts();
         match self.shard.claim(alloc, StreamNo::new(0)) {
@@ -133,7 +134,8 @@ impl<'a> Owned<'a> {
 
     /// The same, where one waits.
     pub fn claim(&mut self, rt: &impl Abort, alloc: Global) -> Result<Ticket, Fail>
-        ensures { IfOk result (λ ticket. ticket.share.book ≡ self.new.shard.books.flight.name) }
+        ensures lent { IfOk result (λ ticket. ticket.share.book ≡ self.new.shard.books.flight.name) }
+        ensures same { IsSameShard self.old.shard self.new.shard }
     {
         match self.try_claim(rt, alloc)? {
             Some(ticket) => Ok(ticket),
@@ -144,6 +146,7 @@ impl<'a> Owned<'a> {
     /// Lets the chunk of a ticket wait again.
     pub fn give_back(&mut self, ticket: Ticket) -> Result<(), Fail>
         requires { ticket.share.book ≡ self.old.shard.books.flight.name }
+        ensures { IsSameShard self.old.shard self.new.shard }
     {
         match self.shard.give_back(ticket) {
             Ok(()) => Ok(()),
@@ -230,26 +233,46 @@ fn standing<R: Wait + Abort>(rt: &R, alloc: Global, store: &MemoryStore) -> Resu
     Ok(usize::from(chunk) + usize::from(row))
 }
 
-/// The end with this fuse fails at an upload. By another end the chunk, claimed again, is then stored once, and only what does
-/// not stand yet is written.
-fn stores_after<R: Wait + Abort>(rt: &R, alloc: Global, fuse: Fuse) -> Result<(), Fail> {
-    let store = MemoryStore::new(alloc)?;
-    let mut one = Owned::fresh(alloc, "t", "")?.sealed(alloc)?;
+/// The end with this fuse fails at the upload of the chunk, which then waits as before.
+fn fails_first<'a, R: Wait + Abort>(
+    rt: &'a R,
+    alloc: Global,
+    store: &'a MemoryStore,
+    one: &mut Owned<'a>,
+    fuse: Fuse,
+) -> Result<(), Fail> {
     let waiting = one.counts();
     let ticket = one.claim(rt, alloc)?;
     let fault = upload(alloc, &mut store.end(rt, fuse), &ticket, &mut 0).err();
     one.give_back(ticket)?;
     assert_eq!(rt; fault, Some(StoreFault::Failed));
     assert_eq!(rt; one.counts(), waiting);
-    let unnamed = store.written().saturating_sub(standing(rt, alloc, &store)?);
+    Ok(())
+}
+
+/// By an end that does not fail the chunk is then stored once, and only what does not stand yet is written.
+fn is_stored_then<'a, R: Wait + Abort>(
+    rt: &'a R,
+    alloc: Global,
+    store: &'a MemoryStore,
+    one: &mut Owned<'a>,
+) -> Result<(), Fail> {
+    let mut refused = store.written().saturating_sub(standing(rt, alloc, store)?);
     let ticket = one.claim(rt, alloc)?;
-    let mut refused = unnamed;
     one.store(alloc, &mut store.end(rt, Fuse::None), ticket, &mut refused)?;
     assert_eq!(rt; one.shard.totals(), (2, 2));
-    assert_eq!(rt; standing(rt, alloc, &store)?, 2);
+    assert_eq!(rt; standing(rt, alloc, store)?, 2);
     let written = store.written();
     assert!(rt; 2 <= written && written <= refused.saturating_add(2));
     Ok(())
+}
+
+/// A chunk whose upload fails at this fuse is stored at the next try.
+fn stores_after<R: Wait + Abort>(rt: &R, alloc: Global, fuse: Fuse) -> Result<(), Fail> {
+    let store = MemoryStore::new(alloc)?;
+    let mut one = Owned::fresh(alloc, "t", "")?.sealed(alloc)?;
+    fails_first(rt, alloc, &store, &mut one, fuse)?;
+    is_stored_then(rt, alloc, &store, &mut one)
 }
 
 #[test]

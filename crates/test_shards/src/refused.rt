@@ -144,6 +144,23 @@ impl<'a, R: Wait + Abort> Watched<'a, R> {
         }
         Ok(verdicts.len() == lines.len())
     }
+
+    /// Fills blocks and chunks of two streams, and seals them, by calls of which one may be refused memory.
+    fn goes_through(&mut self) -> Result<(), Fail> {
+        // A new stream; a block and a chunk that are filled, and the next chunk begun; another stream, in one push.
+        assert!(self.rt; self.accepts("web", &LINES[..1], 0)?);
+        assert!(self.rt; self.accepts("web", &LINES[1..], 1)?);
+        assert!(self.rt; self.accepts("api", &LINES[..3], 0)?);
+        // Both growing chunks are idle 11 nanoseconds after they were added to, at times 2 and 1.
+        assert!(self.rt; self.seals(Some(11), 0, &[0])?);
+        assert!(self.rt; self.seals(Some(12), 1, &[0, 1])?);
+        assert!(self.rt; self.accepts("api", &LINES[3..], 3)?);
+        assert!(self.rt; self.seals(None, 2, &[0, 0, 1, 1])?);
+        let (gauges, totals) = self.one.counts();
+        assert_eq!(self.rt; totals, (10, 0));
+        assert_eq!(self.rt; gauges.block.entries, 10);
+        Ok(())
+    }
 }
 
 #[test]
@@ -157,20 +174,5 @@ fn watch<'a, R: Wait + Abort>(
     alloc: Global,
     store: &'a MemoryStore,
 ) -> Result<(), Fail> {
-    let mut watched = Watched::new(rt, alloc, store)?;
-    // A new stream; a block and a chunk that are filled, and the next chunk begun; another stream, in one push.
-    assert!(rt; watched.accepts("web", &LINES[..1], 0)?);
-    assert!(rt; watched.accepts("web", &LINES[1..], 1)?);
-    assert!(rt; watched.accepts("api", &LINES[..3], 0)?);
-    // Both growing chunks are idle 11 nanoseconds after they were added to, at times 2 and 1.
-    assert!(rt; watched.seals(Some(11), 0, &[0])?);
-    assert!(rt; watched.seals(Some(12), 1, &[0, 1])?);
-    assert!(rt; watched.accepts("api", &LINES[3..], 3)?);
-    assert!(rt; watched.seals(None, 2, &[0, 0, 1, 1])?);
-    assert_eq!(rt; watched.one.shard.totals(), (10, 0));
-    assert_eq!(rt;
-        watched.one.shard.gauges(&watched.one.tenant).block.entries,
-        10
-    );
-    Ok(())
+    Watched::new(rt, alloc, store)?.goes_through()
 }
