@@ -80,6 +80,24 @@ fn lines<'a, R: Wait>(
     Ok(joined(alloc, &found)?)
 }
 
+/// The snapshot shares so many blocks and chunks, and copies these lines.
+fn has_parts(
+    rt: &impl Abort,
+    one: &Owned<'_>,
+    alloc: Global,
+    selector: &Selector,
+    question: Question,
+    parts: usize,
+    copied: &str,
+) -> Result<(), Fail> {
+    for snapshot in snapshots(one, alloc, selector, question)? {
+        assert_eq!(rt; snapshot.parts.len(), parts);
+        let kept = snapshot.best.into_answer();
+        assert_eq!(rt; joined(alloc, &kept)?.as_str(), copied);
+    }
+    Ok(())
+}
+
 /// A snapshot shares the closed blocks that the range meets, and copies entries of a head alone.
 #[test]
 fn closed_blocks_are_shared(rt: HostRuntime) -> Result<(), Fail> {
@@ -99,14 +117,8 @@ fn closed_blocks_are_shared(rt: HostRuntime) -> Result<(), Fail> {
         end: 5,
         ..ALL
     };
-    for (question, parts, copied) in [(ALL, 3, "gggg"), (narrow, 1, "")] {
-        for snapshot in snapshots(&one, alloc, &all, question)? {
-            assert_eq!(rt; snapshot.parts.len(), parts);
-            let kept = snapshot.best.into_answer();
-            assert_eq!(rt; joined(alloc, &kept)?.as_str(), copied);
-        }
-    }
-    Ok(())
+    has_parts(&rt, &one, alloc, &all, ALL, 3, "gggg")?;
+    has_parts(&rt, &one, alloc, &all, narrow, 1, "")
 }
 
 /// From here on, the newest first where it is backward, so many.
@@ -119,18 +131,47 @@ fn from(start: u64, order: Order, limit: usize) -> Question {
     }
 }
 
+/// These lines are found where the store fails from this call on; none where it is called oftener.
+fn finds_after<'a, R: Wait + Abort>(
+    rt: &'a R,
+    alloc: Global,
+    one: &Owned<'a>,
+    store: &'a MemoryStore,
+    selector: &Selector,
+    calls: u64,
+    question: Question,
+    wanted: Option<&str>,
+) -> Result<(), Fail> {
+    let mut end = store.end(rt, Fuse::FailedFrom(calls));
+    match lines(one, alloc, selector, question, &mut end) {
+        Ok(found) => assert_eq!(rt; Some(found.as_str()), wanted),
+        Err(QueryFault::StoreFault { key: _ }) => assert_eq!(rt; None, wanted),
+        Err(fault) => return Err(fault.into()),
+    }
+    Ok(())
+}
+
+/// Pushes and stores two chunks, from time 1 to 4 and from 4 to 7, and pushes an entry at time 9, which stays in memory.
+fn store_two<'a, R: Wait + Abort>(
+    one: &mut Owned<'a>,
+    rt: &'a R,
+    alloc: Global,
+    store: &'a MemoryStore,
+) -> Result<(), Fail> {
+    push_all(one, alloc, 1, &["aaaa", "bbbb", "cccc", "dddd"])?;
+    push_all(one, alloc, 4, &["eeee", "ffff", "gggg", "hhhh"])?;
+    push_all(one, alloc, 9, &["iiii"])?;
+    store_next(one, rt, alloc, store)?;
+    store_next(one, rt, alloc, store)
+}
+
 #[test]
 fn a_stored_chunk_is_fetched_where_it_may_matter(rt: HostRuntime) -> Result<(), Fail> {
     let alloc = rt.alloc();
     let all = Selector::parse(alloc, "{a=\"1\"}")?;
     let store = MemoryStore::new(alloc)?;
     let mut one = fresh(alloc)?;
-    // Two stored chunks, from time 1 to 4 and from 4 to 7, and an entry in memory at time 9.
-    push_all(&mut one, alloc, 1, &["aaaa", "bbbb", "cccc", "dddd"])?;
-    push_all(&mut one, alloc, 4, &["eeee", "ffff", "gggg", "hhhh"])?;
-    push_all(&mut one, alloc, 9, &["iiii"])?;
-    store_next(&mut one, &rt, alloc, &store)?;
-    store_next(&mut one, &rt, alloc, &store)?;
+    store_two(&mut one, &rt, alloc, &store)?;
     for (calls, question, wanted) in [
         // What is in memory is enough; so is the last chunk beside it; the first is wanted at its greatest stamp.
         (0, from(0, Order::Backward, 1), Some("iiii")),
@@ -145,12 +186,7 @@ fn a_stored_chunk_is_fetched_where_it_may_matter(rt: HostRuntime) -> Result<(), 
         (1, from(5, Order::Forward, 100), Some("ffffgggghhhhiiii")),
         (0, from(8, Order::Forward, 100), Some("iiii")),
     ] {
-        let mut end = store.end(&rt, Fuse::FailedFrom(calls));
-        match lines(&one, alloc, &all, question, &mut end) {
-            Ok(found) => assert_eq!(rt; Some(found.as_str()), wanted),
-            Err(QueryFault::StoreFault { key: _ }) => assert_eq!(rt; None, wanted),
-            Err(fault) => return Err(fault.into()),
-        }
+        finds_after(&rt, alloc, &one, &store, &all, calls, question, wanted)?;
     }
     Ok(())
 }
