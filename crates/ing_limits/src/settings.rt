@@ -208,6 +208,19 @@ impl Settings {
         })
     }
 
+    /// A copy of these settings. `AllocError` where memory runs out.
+    pub fn try_clone(&self) -> Result<Settings, AllocError>
+        ensures { IfOk result (λ copy. copy ≡ self.now) }
+    {
+        Ok(Settings {
+            shards: self.shards,
+            flushers: self.flushers,
+            flush_queue_length: self.flush_queue_length,
+            rules: self.rules,
+            tenants: self.tenants.clone()?,
+        })
+    }
+
     /// How many shards there are.
     pub fn shards(&self) -> u32
         ensures value { result ≡ self.now.shards }

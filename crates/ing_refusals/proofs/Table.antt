@@ -2,7 +2,7 @@
 use Rattle.std.proofs.Common.{◌≡◌, ℕ, List, cond, refl, sym, ap, ◌∙◌, nat_eq, bytes_eq}
 use Rattle.std.specs.Prelude.{codes}
 use Rattle.ing_refusals.specs.declared.refusal.Refusal.{Refusal}
-use Rattle.ing_refusals.specs.declared.refusal.Refusal.TheVariants.{NoMemory, BadName, TwiceNamed, NoLabels, TooMany, NameTooLong, ValueTooLong, NotCanonical, BadSelector, TooWide, NotToml, UnknownSetting, BadSetting, Truncated, BadMagic, BadVersion, BadField, OutOfOrder, Trailing, CounterFull, Failed, Damaged, Stranger, StoreFault, BadObject, BadTenant, BadStamp, TooManyEntries, BadCommand, Metadata, InputFault, OutputFault, BadArguments, NoSettings}
+use Rattle.ing_refusals.specs.declared.refusal.Refusal.TheVariants.{NoMemory, BadName, TwiceNamed, NoLabels, TooMany, NameTooLong, ValueTooLong, NotCanonical, BadSelector, TooWide, NotToml, UnknownSetting, BadSetting, Truncated, BadMagic, BadVersion, BadField, OutOfOrder, Trailing, CounterFull, Failed, Damaged, Stranger, StoreFault, BadObject, StillOut, BadTenant, BadStamp, TooManyEntries, BadCommand, Metadata, InputFault, OutputFault, BadArguments, NoSettings, Misplaced}
 use Rattle.ing_refusals.specs.Refusals.{refusal_number, refusal_name}
 
 of_number : ℕ → Refusal
@@ -32,6 +32,7 @@ of_number n =
     cond (nat_eq n 24) Stranger (
     cond (nat_eq n 26) StoreFault (
     cond (nat_eq n 27) BadObject (
+    cond (nat_eq n 28) StillOut (
     cond (nat_eq n 30) BadTenant (
     cond (nat_eq n 31) BadStamp (
     cond (nat_eq n 32) TooManyEntries (
@@ -40,7 +41,8 @@ of_number n =
     cond (nat_eq n 36) InputFault (
     cond (nat_eq n 37) OutputFault (
     cond (nat_eq n 38) BadArguments (
-    NoSettings)))))))))))))))))))))))))))))))))
+    cond (nat_eq n 39) NoSettings (
+    Misplaced)))))))))))))))))))))))))))))))))))
 
 of_name : List ℕ → Refusal
 of_name name =
@@ -69,6 +71,7 @@ of_name name =
     cond (bytes_eq name (codes "Stranger")) Stranger (
     cond (bytes_eq name (codes "StoreFault")) StoreFault (
     cond (bytes_eq name (codes "BadObject")) BadObject (
+    cond (bytes_eq name (codes "StillOut")) StillOut (
     cond (bytes_eq name (codes "BadTenant")) BadTenant (
     cond (bytes_eq name (codes "BadStamp")) BadStamp (
     cond (bytes_eq name (codes "TooManyEntries")) TooManyEntries (
@@ -77,7 +80,8 @@ of_name name =
     cond (bytes_eq name (codes "InputFault")) InputFault (
     cond (bytes_eq name (codes "OutputFault")) OutputFault (
     cond (bytes_eq name (codes "BadArguments")) BadArguments (
-    NoSettings)))))))))))))))))))))))))))))))))
+    cond (bytes_eq name (codes "NoSettings")) NoSettings (
+    Misplaced)))))))))))))))))))))))))))))))))))
 
 numbered : (r : Refusal) → of_number (refusal_number r) ≡ r
 unfolding of_number
@@ -106,6 +110,7 @@ numbered Damaged = refl
 numbered Stranger = refl
 numbered StoreFault = refl
 numbered BadObject = refl
+numbered StillOut = refl
 numbered BadTenant = refl
 numbered BadStamp = refl
 numbered TooManyEntries = refl
@@ -115,6 +120,7 @@ numbered InputFault = refl
 numbered OutputFault = refl
 numbered BadArguments = refl
 numbered NoSettings = refl
+numbered Misplaced = refl
 
 named : (r : Refusal) → of_name (refusal_name r) ≡ r
 unfolding of_name
@@ -143,6 +149,7 @@ named Damaged = refl
 named Stranger = refl
 named StoreFault = refl
 named BadObject = refl
+named StillOut = refl
 named BadTenant = refl
 named BadStamp = refl
 named TooManyEntries = refl
@@ -152,6 +159,7 @@ named InputFault = refl
 named OutputFault = refl
 named BadArguments = refl
 named NoSettings = refl
+named Misplaced = refl
 
 pub same_number : (a b : Refusal) → refusal_number a ≡ refusal_number b → a ≡ b
 same_number a b h = sym (numbered a) ∙ ap of_number h ∙ numbered b

@@ -1,7 +1,7 @@
 -- The number and the name of each refusal (own).
 use Rattle.std.specs.Prelude.{ℕ, List, codes}
 use Rattle.ing_refusals.specs.declared.refusal.Refusal.{Refusal}
-use Rattle.ing_refusals.specs.declared.refusal.Refusal.TheVariants.{NoMemory, BadName, TwiceNamed, NoLabels, TooMany, NameTooLong, ValueTooLong, NotCanonical, BadSelector, TooWide, NotToml, UnknownSetting, BadSetting, Truncated, BadMagic, BadVersion, BadField, OutOfOrder, Trailing, CounterFull, Failed, Damaged, Stranger, StoreFault, BadObject, BadTenant, BadStamp, TooManyEntries, BadCommand, Metadata, InputFault, OutputFault, BadArguments, NoSettings}
+use Rattle.ing_refusals.specs.declared.refusal.Refusal.TheVariants.{NoMemory, BadName, TwiceNamed, NoLabels, TooMany, NameTooLong, ValueTooLong, NotCanonical, BadSelector, TooWide, NotToml, UnknownSetting, BadSetting, Truncated, BadMagic, BadVersion, BadField, OutOfOrder, Trailing, CounterFull, Failed, Damaged, Stranger, StoreFault, BadObject, StillOut, BadTenant, BadStamp, TooManyEntries, BadCommand, Metadata, InputFault, OutputFault, BadArguments, NoSettings, Misplaced}
 
 abbrev pub refusal_number : Refusal → ℕ
 refusal_number NoMemory = 0
@@ -29,6 +29,7 @@ refusal_number Damaged = 21
 refusal_number Stranger = 24
 refusal_number StoreFault = 26
 refusal_number BadObject = 27
+refusal_number StillOut = 28
 refusal_number BadTenant = 30
 refusal_number BadStamp = 31
 refusal_number TooManyEntries = 32
@@ -38,6 +39,7 @@ refusal_number InputFault = 36
 refusal_number OutputFault = 37
 refusal_number BadArguments = 38
 refusal_number NoSettings = 39
+refusal_number Misplaced = 43
 
 abbrev pub refusal_name : Refusal → List ℕ
 refusal_name NoMemory = codes "NoMemory"
@@ -65,6 +67,7 @@ refusal_name Damaged = codes "Damaged"
 refusal_name Stranger = codes "Stranger"
 refusal_name StoreFault = codes "StoreFault"
 refusal_name BadObject = codes "BadObject"
+refusal_name StillOut = codes "StillOut"
 refusal_name BadTenant = codes "BadTenant"
 refusal_name BadStamp = codes "BadStamp"
 refusal_name TooManyEntries = codes "TooManyEntries"
@@ -74,3 +77,4 @@ refusal_name InputFault = codes "InputFault"
 refusal_name OutputFault = codes "OutputFault"
 refusal_name BadArguments = codes "BadArguments"
 refusal_name NoSettings = codes "NoSettings"
+refusal_name Misplaced = codes "Misplaced"

@@ -56,6 +56,8 @@ pub enum Refusal {
     StoreFault,
     /// An object of the store is not the chunk that is listed.
     BadObject,
+    /// Shares of a ledger are out.
+    StillOut,
     /// A text is no tenant id.
     BadTenant,
     /// A text is no stamp.
@@ -74,6 +76,8 @@ pub enum Refusal {
     BadArguments,
     /// The settings file cannot be read.
     NoSettings,
+    /// A shard does not stand where its number says.
+    Misplaced,
 }
 
 impl Refusal {
@@ -107,6 +111,7 @@ impl Refusal {
             Refusal::Stranger => 24,
             Refusal::StoreFault => 26,
             Refusal::BadObject => 27,
+            Refusal::StillOut => 28,
             Refusal::BadTenant => 30,
             Refusal::BadStamp => 31,
             Refusal::TooManyEntries => 32,
@@ -116,6 +121,7 @@ impl Refusal {
             Refusal::OutputFault => 37,
             Refusal::BadArguments => 38,
             Refusal::NoSettings => 39,
+            Refusal::Misplaced => 43,
         }
     }
 
@@ -149,6 +155,7 @@ impl Refusal {
             Refusal::Stranger => "Stranger",
             Refusal::StoreFault => "StoreFault",
             Refusal::BadObject => "BadObject",
+            Refusal::StillOut => "StillOut",
             Refusal::BadTenant => "BadTenant",
             Refusal::BadStamp => "BadStamp",
             Refusal::TooManyEntries => "TooManyEntries",
@@ -158,6 +165,7 @@ impl Refusal {
             Refusal::OutputFault => "OutputFault",
             Refusal::BadArguments => "BadArguments",
             Refusal::NoSettings => "NoSettings",
+            Refusal::Misplaced => "Misplaced",
         }
     }
 }
