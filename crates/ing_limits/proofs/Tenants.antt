@@ -2,6 +2,7 @@
 use Rattle.std.proofs.Common.{◌≡◌, ℕ, cond, Option, List, [], ◌∷◌, Some, None, true, false, Bool, refl, ap, sym, ◌∙◌, String, BTreeMap, string_bytes, nat_cmp}
 use Rattle.std.specs.Ordering.{is_eq}
 use Rattle.std.specs.Cmp.Lexicographic.{slice_cmp}
+use Rattle.std.specs.List.{AllZip}
 use Rattle.std.specs.Map.{lookup}
 use Rattle.std.specs.Option.{option_or}
 use Rattle.std.specs.BTreeMap.{get_by_text}
@@ -43,3 +44,13 @@ pub one_more : (tenant name : List ℕ) (rules : Rules) (rest : List (List ℕ �
     → option_or old (find (slice_cmp nat_cmp) tenant ((name, rules) ∷ rest)) ≡ target → option_or new (find (slice_cmp nat_cmp) tenant rest) ≡ target
 one_more tenant name rules rest old new target put is = chosen old new target (is_eq (slice_cmp nat_cmp tenant name)) rules (find (slice_cmp nat_cmp) tenant rest)
     (put ∙ ap (λ b. option_or old (cond b (Some rules) None)) (sym (is_eq-slice_cmp tenant name))) is
+
+-- copies of tenants and of their rules are held alike
+pub copied_tenants : {Z : Type 0} (es fs : List (String Z × Rules)) → AllZip (λ p q. (string_bytes q.0 ≡ string_bytes p.0) × (q.1 ≡ p.1)) es fs → held_tenants fs ≡ held_tenants es
+copied_tenants [] [] all = refl
+copied_tenants [] (f ∷ fs) all = absurd all
+copied_tenants (e ∷ es) [] all = absurd all
+copied_tenants (e ∷ es) (f ∷ fs) all =
+    ap (λ t. (t, f.1) ∷ held_tenants fs) all.0.0
+    ∙ ap (λ r. (string_bytes e.0, r) ∷ held_tenants fs) all.0.1
+    ∙ ap (λ ts. (string_bytes e.0, e.1) ∷ ts) (copied_tenants es fs all.1)
