@@ -1,7 +1,9 @@
 -- What a query finds of the rows of chunks are their entries.
-use Rattle.std.proofs.Common.{◌≡◌, refl, ℕ, ◌+◌, List, [], ◌∷◌, ◌++◌, length, map, ap, sym, subst, ◌∙◌, Option, Some, None}
+use Rattle.std.proofs.Common.{◌≡◌, refl, true, ℕ, ◌+◌, List, [], ◌∷◌, ◌++◌, length, map, ap, sym, subst, ◌∙◌, Option, Some, None}
 use Rattle.std.specs.Prelude.{IsPermutation}
+use Rattle.std.specs.List.{Contains}
 use Rattle.std.proofs.lemmas.List.{map-append}
+use Rattle.std.proofs.lemmas.List.Elements.{All-contains, All-contains_itself, filter_passes}
 use Rattle.std.proofs.lemmas.List.Sorted.{IsPermutation-refl, IsPermutation-sym, IsPermutation-trans, IsPermutation-append, IsPermutation-append_comm}
 use Rattle.ing_rows.specs.declared.place.Place.{Place}
 use Rattle.ing_rows.specs.declared.place.Place.TheVariants.{Block, Head}
@@ -10,8 +12,9 @@ use Rattle.ing_chunk.specs.declared.numbered.Numbered.{Numbered}
 use Rattle.ing_chunk.specs.Chunks.{ChunkContents, ChunksContents, block_rows, chunk_state, chunks_state, entries_growing, entries_in_memory, entries_of, entries_of_all, growing_state, head_rows, in_blocks, row_in, stream_state}
 use Rattle.ing_parts.specs.declared.found.Found.{Found}
 use Rattle.ing_parts.specs.declared.snapshot.Snapshot.{Snapshot}
-use Rattle.ing_parts.specs.Parts.{Adds, AddsRows, RowsAreFound, found_at, found_of}
+use Rattle.ing_parts.specs.Parts.{Adds, AddsRows, HasRows, KeepsInRange, RowsAreFound, found_at, found_of, is_within, standing, within}
 use Rattle.ing_parts.proofs.RangeLaws.{adds_alike, adds_both}
+use Rattle.ing_parts.proofs.SomeLaws.{some_have}
 
 in_block : (s : StreamKey) (first index : ℕ) (place : Place) (es : List Numbered) → map found_at (map (row_in s first index place) es) ≡ map (found_of s.name) es
 in_block s first index place [] = refl
@@ -70,3 +73,13 @@ rows_both a b old mid new h k = subst (λ (l : List Found). Adds l old new) (sym
 
 pub rows_of : {R : Type 0} (all : List Found) (rows : List Row) (old new : Snapshot R) → IsPermutation (map found_at rows) all → Adds all old new → AddsRows rows old new
 rows_of all rows old new same h = adds_alike all (map found_at rows) old new (IsPermutation-sym (map found_at rows) all same) h
+
+-- what stands is of the rows
+pub rows_among : {R : Type 0} (rows : List Row) (s : Snapshot R) → HasRows rows s → (f : Found) → Contains (standing s) f → Contains (map found_at rows) f
+rows_among rows s h f = All-contains (Contains (map found_at rows)) (standing s) f (some_have (Contains (map found_at rows)) (standing s) (map found_at rows) h.drawn (All-contains_itself (map found_at rows)))
+
+-- what is kept of rows is in the range
+pub kept_in_range : {R : Type 0} (rows : List Row) (s : Snapshot R) → HasRows rows s → KeepsInRange s
+kept_in_range rows s h =
+    let test = is_within s.start s.end in
+    some_have (λ f. test f ≡ true) s.best.held (within s.start s.end (map found_at rows)) h.kept (filter_passes test (map found_at rows))

@@ -47,6 +47,7 @@ adds_none name es s none = record {
   order = refl;
   limit = refl;
   drawn = some_first (standing s) (map (found_of name) es);
+  kept = some_first s.best.held (within s.start s.end (map (found_of name) es));
   stand = subst (StandFor s.best.order s.best.limit (wanted s)) (sym (append-nil (wanted s)) ∙ ap (λ l. wanted s ++ l) (sym (missed s.start s.end name es none))) (stand_still s.best.order s.best.limit (wanted s));
 }
 
@@ -68,6 +69,7 @@ adds_part p old new front start end best parts =
       order = ap (λ b. b.order) best;
       limit = ap (λ b. b.limit) best;
       drawn = subst (AreSomeOf (standing new)) all (some_still (standing new));
+      kept = subst (λ b. AreSomeOf b.held (old.best.held ++ within old.start old.end (found_in p))) (sym best) (some_first old.best.held (within old.start old.end (found_in p)));
       stand = subst (StandFor old.best.order old.best.limit (wanted new)) more (stand_still old.best.order old.best.limit (wanted new));
     }
 
@@ -84,7 +86,7 @@ adds_offered name es old new front start end parts h =
     let n = old.best.limit in
     let all = found_between name old.start old.end es in
     let there = within old.start old.end (found_among old.parts.items) in
-    let kept : StandFor o n (new.best.held ++ there) ((old.best.held ++ all) ++ there) = stand_beside o n new.best.held (old.best.held ++ all) there h.stand in
+    let beside : StandFor o n (new.best.held ++ there) ((old.best.held ++ all) ++ there) = stand_beside o n new.best.held (old.best.held ++ all) there h.stand in
     let same : IsPermutation ((old.best.held ++ all) ++ there) ((old.best.held ++ there) ++ all) = aside old.best.held all there in
     let is : new.best.held ++ there ≡ wanted new = λ i. new.best.held ++ within (sym start i) (sym end i) (found_among (sym parts i)) in
     let among = found_among old.parts.items in
@@ -102,8 +104,9 @@ adds_offered name es old new front start end parts h =
       order = h.order;
       limit = h.limit;
       drawn = subst (λ l. AreSomeOf (new.best.held ++ found_among l) (standing old ++ found)) (sym parts) drawn;
+      kept = h.drawn;
       stand = subst (λ l. StandFor o n l (wanted old ++ all)) is
-          (stand_through o n (new.best.held ++ there) ((old.best.held ++ all) ++ there) (wanted old ++ all) kept (stand_alike o n ((old.best.held ++ all) ++ there) ((old.best.held ++ there) ++ all) same));
+          (stand_through o n (new.best.held ++ there) ((old.best.held ++ all) ++ there) (wanted old ++ all) beside (stand_alike o n ((old.best.held ++ all) ++ there) ((old.best.held ++ there) ++ all) same));
     }
 
 -- one addition after another
@@ -115,6 +118,7 @@ adds_nothing s = record {
   order = refl;
   limit = refl;
   drawn = some_first (standing s) [];
+  kept = some_first s.best.held [];
   stand = subst (StandFor s.best.order s.best.limit (wanted s)) (sym (append-nil (wanted s))) (stand_still s.best.order s.best.limit (wanted s));
 }
 
@@ -128,8 +132,9 @@ adds_both a b old mid new h k =
     subst (λ l. StandFor o n (wanted new) (wanted mid ++ l)) (λ i. within (h.start i) (h.end i) b)
     (subst (λ m. StandFor o m (wanted new) (wanted mid ++ within mid.start mid.end b)) h.limit (subst (λ q. StandFor q mid.best.limit (wanted new) (wanted mid ++ within mid.start mid.end b)) h.order k.stand)) in
     let sooner : StandFor o n (wanted mid ++ there) ((wanted old ++ here) ++ there) = stand_beside o n (wanted mid) (wanted old ++ here) there h.stand in
-    let all : (wanted old ++ here) ++ there ≡ wanted old ++ within old.start old.end (a ++ b) =
-    append_assoc (wanted old) here there ∙ ap (λ l. wanted old ++ l) (sym (filter-append _ a b)) in
+    let all : (us : List Found) → (us ++ here) ++ there ≡ us ++ within old.start old.end (a ++ b) =
+    λ us. append_assoc us here there ∙ ap (λ l. us ++ l) (sym (filter-append _ a b)) in
+    let last : AreSomeOf new.best.held (mid.best.held ++ there) = subst (λ l. AreSomeOf new.best.held (mid.best.held ++ l)) (λ i. within (h.start i) (h.end i) b) k.kept in
     record {
       front = k.front ∙ h.front;
       start = k.start ∙ h.start;
@@ -137,7 +142,8 @@ adds_both a b old mid new h k =
       order = k.order ∙ h.order;
       limit = k.limit ∙ h.limit;
       drawn = subst (AreSomeOf (standing new)) (append_assoc (standing old) a b) (some_through (standing new) (standing mid ++ b) ((standing old ++ a) ++ b) k.drawn (some_beside (standing mid) (standing old ++ a) b h.drawn));
-      stand = subst (StandFor o n (wanted new)) all (stand_through o n (wanted new) (wanted mid ++ there) ((wanted old ++ here) ++ there) later sooner);
+      kept = subst (AreSomeOf new.best.held) (all old.best.held) (some_through new.best.held (mid.best.held ++ there) ((old.best.held ++ here) ++ there) last (some_beside mid.best.held (old.best.held ++ here) there h.kept));
+      stand = subst (StandFor o n (wanted new)) (all (wanted old)) (stand_through o n (wanted new) (wanted mid ++ there) ((wanted old ++ here) ++ there) later sooner);
     }
 
 -- the same entries in another order
@@ -147,6 +153,7 @@ adds_alike a b old new same h =
     let n = old.best.limit in
     let here = within old.start old.end a in
     let there = within old.start old.end b in
+    let ranged : (us : List Found) → IsPermutation (us ++ here) (us ++ there) = λ us. IsPermutation-append_right us here there (filter_reordered (is_within old.start old.end) a b same) in
     record {
       front = h.front;
       start = h.start;
@@ -154,7 +161,8 @@ adds_alike a b old new same h =
       order = h.order;
       limit = h.limit;
       drawn = some_through (standing new) (standing old ++ a) (standing old ++ b) h.drawn (some_alike (standing old ++ a) (standing old ++ b) (IsPermutation-append_right (standing old) a b same));
-      stand = stand_through o n (wanted new) (wanted old ++ here) (wanted old ++ there) h.stand (stand_alike o n (wanted old ++ here) (wanted old ++ there) (IsPermutation-append_right (wanted old) here there (filter_reordered (is_within old.start old.end) a b same)));
+      kept = some_through new.best.held (old.best.held ++ here) (old.best.held ++ there) h.kept (some_alike (old.best.held ++ here) (old.best.held ++ there) (ranged old.best.held));
+      stand = stand_through o n (wanted new) (wanted old ++ here) (wanted old ++ there) h.stand (stand_alike o n (wanted old ++ here) (wanted old ++ there) (ranged (wanted old)));
     }
 
 -- the entries of chunks, one chunk more

@@ -1,7 +1,9 @@
 -- Some of all entries, none invented and none doubled.
 use Rattle.std.proofs.Common.{Bool, true, false, cond, List, [], ◌∷◌, ◌++◌, filter, append_assoc, append-nil, sym, subst}
-use Rattle.std.specs.Prelude.{IsPermutation}
-use Rattle.std.proofs.lemmas.List.Sorted.{IsPermutation-refl, IsPermutation-trans, IsPermutation-cons, IsPermutation-middle, IsPermutation-append_comm, IsPermutation-append_left, IsPermutation-append_right}
+use Rattle.std.specs.Prelude.{All, IsPermutation}
+use Rattle.std.specs.List.{Contains}
+use Rattle.std.proofs.lemmas.List.Elements.{All-contains, All-contains_itself, All-weaker, Contains-append_left}
+use Rattle.std.proofs.lemmas.List.Sorted.{Contains-permutation, IsPermutation-refl, IsPermutation-trans, IsPermutation-cons, IsPermutation-middle, IsPermutation-append_comm, IsPermutation-append_left, IsPermutation-append_right}
 use Rattle.ing_parts.specs.declared.found.Found.{Found}
 use Rattle.ing_parts.specs.Answers.{AreSomeOf}
 
@@ -41,6 +43,10 @@ some_behind us xs ys a = record {
   others = a.others;
   same = subst (λ l. IsPermutation l (us ++ ys)) (sym (append_assoc us xs a.others)) (IsPermutation-append_right us (xs ++ a.others) ys a.same);
 }
+
+-- what holds of each of all holds of each of some
+pub some_have : (P : Found → Type 0) (xs ys : List Found) → AreSomeOf xs ys → All P ys → All P xs
+some_have P xs ys a all = All-weaker (Contains xs) P (λ f of. All-contains P ys f all (Contains-permutation (xs ++ a.others) ys f a.same (Contains-append_left xs a.others f of))) xs (All-contains_itself xs)
 
 -- those that pass a test are of all
 module _ (test : Found → Bool) where

@@ -1,7 +1,7 @@
 -- Where entries of streams stand that a query may want, and what a query gives of them.
 -- What names no section of the Loki documentation is own.
 use Rattle.std.specs.Prelude.{◌≡◌, ◌++◌, ℕ, ◌≤◌, Bool, ◌&&◌, nat_le, nat_lt, List, map, filter, IsPermutation}
-use Rattle.std.specs.List.{flat_map}
+use Rattle.std.specs.List.{AllPass, flat_map}
 use Rattle.ing_rows.specs.Rows.{StreamKey, Row}
 use Rattle.ing_chunk.specs.declared.numbered.Numbered.{Numbered}
 use Rattle.ing_chunk.specs.Chunks.{ChunksContents, block_rows, entries_in_memory, greatest_of, in_blocks, least_of, stream_state}
@@ -60,7 +60,12 @@ wanted s = s.best.held ++ within s.start s.end (found_among s.parts.items)
 abbrev pub standing : {R : Type 0} → Snapshot R → List Found
 standing s = s.best.held ++ found_among s.parts.items
 
--- what is wanted of these entries is added to a snapshot, as far as it may be in an answer; no other is added, and none twice
+-- the stamp of each entry that a snapshot keeps is in its range
+abbrev pub KeepsInRange : {R : Type 0} → Snapshot R → Type 0
+KeepsInRange s = AllPass (is_within s.start s.end) s.best.held
+
+-- what is wanted of these entries is added to a snapshot, as far as it may be in an answer; no other is added, none twice, and of
+-- those that are out of its range none is kept
 pub record Adds {R : Type 0} (all : List Found) (old new : Snapshot R) : Type 0 where
   pub front : new.front ≡ old.front
   pub start : new.start ≡ old.start
@@ -68,16 +73,18 @@ pub record Adds {R : Type 0} (all : List Found) (old new : Snapshot R) : Type 0 
   pub order : new.best.order ≡ old.best.order
   pub limit : new.best.limit ≡ old.best.limit
   pub drawn : AreSomeOf (standing new) (standing old ++ all)
+  pub kept : AreSomeOf new.best.held (old.best.held ++ within old.start old.end all)
   pub stand : StandFor old.best.order old.best.limit (wanted new) (wanted old ++ within old.start old.end all)
 
 -- the same of these rows
 abbrev pub AddsRows : {R : Type 0} → List Row → Snapshot R → Snapshot R → Type 0
 AddsRows rows old new = Adds (map found_at rows) old new
 
--- what stands in a snapshot is of these rows, none invented and none twice; and what is wanted of it stands for what is in its
--- range of them
+-- what stands in a snapshot is of these rows, none invented and none twice; what it keeps is of what is in its range of them;
+-- and what is wanted of it stands for all that is in its range of them
 pub record HasRows {R : Type 0} (rows : List Row) (s : Snapshot R) : Type 0 where
   pub drawn : AreSomeOf (standing s) (map found_at rows)
+  pub kept : AreSomeOf s.best.held (within s.start s.end (map found_at rows))
   pub stand : StandFor s.best.order s.best.limit (wanted s) (within s.start s.end (map found_at rows))
 
 -- ---- rows of chunks

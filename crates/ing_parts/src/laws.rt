@@ -9,7 +9,7 @@ ghost use Rattle.ing_parts.specs.declared.snapshot.Snapshot.{Snapshot};
 ghost use Rattle.ing_parts.specs.Answers.{BestState, IsAnswer, IsFrom, Offers, PassesOver, StandFor, precedes};
 ghost use Rattle.ing_chunk.specs.Chunks.{AreInOrder};
 ghost use Rattle.ing_chunk.specs.declared.numbered.Numbered.{Numbered};
-ghost use Rattle.ing_parts.specs.Parts.{Adds, AddsRows, AreFrom, RowsAreFound, found_at, found_between, found_of};
+ghost use Rattle.ing_parts.specs.Parts.{Adds, AddsRows, AreFrom, HasRows, KeepsInRange, RowsAreFound, found_at, found_between, found_of, standing};
 
 use ing_chunk::stamps_rise;
 use ing_store::Receipt;
@@ -102,6 +102,13 @@ pub fn rows_join<R: Receipt>()
         AddsRows a old mid → AddsRows b mid new → AddsRows (a ++ b) old new }
     ensures of { (all : List Found) (rows : List Row) (old new : Snapshot R) →
         IsPermutation (map found_at rows) all → Adds all old new → AddsRows rows old new }
+{}
+
+/// What stands in a snapshot of rows is what a query finds of them, and what it keeps of them is in its range.
+pub fn rows_stand<R: Receipt>()
+    ensures among { (rows : List Row) (s : Snapshot R) → HasRows rows s →
+        (f : Found) → Contains (standing s) f → Contains (map found_at rows) f }
+    ensures kept { (rows : List Row) (s : Snapshot R) → HasRows rows s → KeepsInRange s }
 {}
 
 /// What a query finds of the rows of chunks are their entries.

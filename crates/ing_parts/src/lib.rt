@@ -16,7 +16,7 @@ pub use best::Best;
 pub use found::Found;
 pub use laws::{
     additions_join, answers_are_first, found_rows_have_no_order, offers_join, offers_of_streams,
-    rows_are_found, rows_join, standing_joins,
+    rows_are_found, rows_join, rows_stand, standing_joins,
 };
 pub use listing::Listing;
 pub use offers::offer_block;
