@@ -64,8 +64,8 @@ standing s = s.best.held ++ found_among s.parts.items
 abbrev pub KeepsInRange : {R : Type 0} → Snapshot R → Type 0
 KeepsInRange s = AllPass (is_within s.start s.end) s.best.held
 
--- what is wanted of these entries is added to a snapshot, as far as it may be in an answer; no other is added, none twice, and of
--- those that are out of its range none is kept
+-- what is wanted of these entries is added to a snapshot, as far as it may be in an answer; no other is added,
+-- none twice, and of those out of its range none is kept
 pub record Adds {R : Type 0} (all : List Found) (old new : Snapshot R) : Type 0 where
   pub front : new.front ≡ old.front
   pub start : new.start ≡ old.start
@@ -80,8 +80,8 @@ pub record Adds {R : Type 0} (all : List Found) (old new : Snapshot R) : Type 0 
 abbrev pub AddsRows : {R : Type 0} → List Row → Snapshot R → Snapshot R → Type 0
 AddsRows rows old new = Adds (map found_at rows) old new
 
--- what stands in a snapshot is of these rows, none invented and none twice; what it keeps is of what is in its range of them;
--- and what is wanted of it stands for all that is in its range of them
+-- what stands in a snapshot is of these rows, none invented and none twice; what it keeps is of those in its
+-- range; and what is wanted of it stands for all of those in its range
 pub record HasRows {R : Type 0} (rows : List Row) (s : Snapshot R) : Type 0 where
   pub drawn : AreSomeOf (standing s) (map found_at rows)
   pub kept : AreSomeOf s.best.held (within s.start s.end (map found_at rows))

@@ -5,3 +5,4 @@ mod FlatLaws
 mod AnswerLaws
 mod NumberLaws
 mod OnceLaws
+mod DrawnLaws

@@ -1,9 +1,9 @@
 -- What of the parts of streams stands in memory, and what is still to be read from a store (own).
-use Rattle.std.specs.Prelude.{◌≡◌, ℕ, List, [], ◌∷◌, ◌++◌, map, IsPermutation}
+use Rattle.std.specs.Prelude.{◌≡◌, ℕ, true, List, [], ◌∷◌, ◌++◌, map, IsPermutation}
 use Rattle.std.specs.List.{flat_map, AllByRecursion, Contains}
 use Rattle.ing_chunk.specs.Chunks.{in_blocks}
 use Rattle.ing_parts.specs.declared.found.Found.{Found}
-use Rattle.ing_parts.specs.Parts.{found_between, found_of}
+use Rattle.ing_parts.specs.Parts.{found_between, found_of, is_within, standing}
 use Rattle.ing_parts.specs.declared.part.Part.{Part}
 use Rattle.ing_parts.specs.declared.snapshot.Snapshot.{Snapshot}
 use Rattle.ing_parts.specs.declared.part.Source.{Source}
@@ -96,6 +96,16 @@ pub record IsAnswerOf {R : Type 0} (order : Order) (limit : ℕ) (snapshots : Li
   pub each : IsPermutation (flat_map waiting_of snapshots) (map (λ r. r.0) reads)
   pub taken : AreTaken reads
   pub is : IsAnswer order limit (flat_map memory_of snapshots ++ flat_map read_there reads) answer
+
+-- its stamp is in the range of one of the snapshots, and one of its name and number stands in that snapshot
+pub record IsOf {R : Type 0} (snapshots : List (Snapshot R)) (f : Found) : Type 0 where
+  pub snapshot : Snapshot R
+  pub there : Contains snapshots snapshot
+  pub in_range : is_within snapshot.start snapshot.end f ≡ true
+  pub entry : Found
+  pub stands : Contains (standing snapshot) entry
+  pub name : entry.name ≡ f.name
+  pub number : entry.number ≡ f.number
 
 -- the key of a place in a store
 abbrev pub IsKeyIn : {R : Type 0} → Source R → List ℕ → Type 0
