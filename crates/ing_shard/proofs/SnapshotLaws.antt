@@ -6,7 +6,7 @@ use Rattle.std.proofs.lemmas.List.Elements.{filter-append, All-weaker}
 use Rattle.ing_rows.specs.Rows.{StreamKey, Row}
 use Rattle.ing_parts.specs.declared.snapshot.Snapshot.{Snapshot}
 use Rattle.ing_parts.specs.Answers.{AreSomeOf, StandFor}
-use Rattle.ing_parts.specs.Parts.{AddsRows, HasRows, found_at, standing, wanted, within}
+use Rattle.ing_parts.specs.Parts.{AddsRows, HasRows, found_among, found_at, standing, wanted, within}
 use Rattle.ing_shard.specs.OneStream.{Stream}
 use Rattle.ing_shard.specs.Picked.{numbers_of_picked}
 use Rattle.ing_shard.specs.Snapshots.{rows_at, rows_of}
@@ -56,6 +56,10 @@ rows_from picked front (st ∷ sts) =
 pub picked_rows : (picked : StreamKey → Bool) (sts : List Stream) → rows_at sts (numbers_of_picked picked (map key_of sts)) ≡ filter (λ r. picked r.stream) (whole sts).rows
 picked_rows picked sts = rows_from picked [] sts
 
+nothing_first : {X : Type 0} (xs ys : List X) → xs ++ ys ≡ [] → xs ≡ []
+nothing_first [] ys none = refl
+nothing_first (x ∷ xs) ys none = absurd (cc)
+
 -- what was added to a snapshot in which nothing stands is of these rows, and stands for all of them that are in its range
 pub has_rows : {R : Type 0} (rows : List Row) (old new : Snapshot R) → standing old ≡ [] → wanted old ≡ [] → AddsRows rows old new → HasRows rows new
 has_rows rows old new bare none h =
@@ -64,6 +68,7 @@ has_rows rows old new bare none h =
     let there : within old.start old.end all ≡ within new.start new.end all = λ i. within (sym h.start i) (sym h.end i) all in
     record {
       drawn = subst (λ l. AreSomeOf (standing new) (l ++ all)) bare h.drawn;
+      kept = subst (AreSomeOf new.best.held) there (subst (λ l. AreSomeOf new.best.held (l ++ within old.start old.end all)) (nothing_first old.best.held (found_among old.parts.items) bare) h.kept);
       stand = subst (StandFor new.best.order new.best.limit (wanted new)) there
           (subst (λ o. StandFor o new.best.limit (wanted new) (within old.start old.end all)) (sym h.order)
           (subst (λ n. StandFor old.best.order n (wanted new) (within old.start old.end all)) (sym h.limit) stand));
