@@ -26,4 +26,5 @@ mod StreamLaws
 mod SumLaws
 mod TakeLaws
 mod TenantLaws
+mod WaitLaws
 mod WholeLaws

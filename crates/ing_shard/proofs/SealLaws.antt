@@ -137,10 +137,10 @@ claims_right : (s : StreamKey) (a b : State) → HasNone s a → claimable_count
 claims_right s a b none = claims_same s (beside a b) (beside b a) (beside_comm a b) ∙ claims_left s b a none
 
 -- a stream has of the whole what it has of its part
-abbrev ClaimsOwn : State → Stream → Type 0
+abbrev pub ClaimsOwn : State → Stream → Type 0
 ClaimsOwn st o = claimable_count (key_of o) (part_of o) ≡ claimable_count (key_of o) st
 
-claims_apart : (sts : List Stream) → AreDistinct sts → All (ClaimsOwn (whole sts)) sts
+pub claims_apart : (sts : List Stream) → AreDistinct sts → All (ClaimsOwn (whole sts)) sts
 claims_apart [] distinct = All-nil (ClaimsOwn empty_state)
 claims_apart (st ∷ sts) distinct =
     All-cons (ClaimsOwn (whole (st ∷ sts))) st sts

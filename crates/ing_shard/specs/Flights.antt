@@ -1,12 +1,13 @@
 -- Chunks that are claimed: where they stand, and what a flush does to a stream.
 -- What names no section of the Loki documentation is own.
-use Rattle.std.specs.Prelude.{◌≡◌, ◌≢◌, ℕ, ◌==◌, List, IsPermutation, length, filter, map, sum_by, slice_get, is_some, if◌then◌else◌, Some}
+use Rattle.std.specs.Prelude.{◌≡◌, ◌≢◌, ℕ, ◌<◌, ◌==◌, List, IsPermutation, length, filter, map, sum_by, slice_get, is_some, if◌then◌else◌, Some}
 use Rattle.slab.specs.Slab.{Slab, get}
 use Rattle.sha2.specs.Sha256.{sha256}
 use Rattle.ing_labels.specs.Labels.{LabelMap}
 use Rattle.ing_labels.specs.Canonical.{canonical_of}
 use Rattle.ing_rows.specs.declared.place.Place.TheVariants.{Flight}
 use Rattle.ing_rows.specs.Rows.{StreamKey, Row, State, is_flight}
+use Rattle.ing_rows.specs.Claims.{claimable_count}
 use Rattle.ing_chunk.specs.Chunks.{ChunkContents, block_rows, in_blocks}
 use Rattle.ing_codec.specs.ChunkObjects.{ChunkObject, chunk_text}
 use Rattle.ing_codec.specs.ChunkReading.{chunk_object}
@@ -53,6 +54,10 @@ Flies f keys sealed = (number : ℕ) × (index : ℕ) × IsAt f number index key
 -- it is in flight in the shard
 abbrev pub IsInFlight : Flown → Contents → Type 0
 IsInFlight f contents = (f.shard ≡ contents.number) × Flies f contents.listed contents.sealed
+
+-- of the listed stream with this number a chunk waits to be claimed
+abbrev pub Waits : ℕ → List StreamKey → State → Type 0
+Waits number listed st = (s : StreamKey) × (slice_get listed number ≡ Some s) × (0 < claimable_count s st)
 
 -- the rows in its flight are those of its chunk
 abbrev pub FliesAs : Flown → State → Type 0
