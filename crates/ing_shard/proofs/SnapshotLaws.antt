@@ -1,15 +1,20 @@
 -- What is read off a shard for a query: the rows of the streams that are picked.
-use Rattle.std.proofs.Common.{◌≡◌, ℕ, ◌+◌, Bool, true, false, cond, List, [], ◌∷◌, ◌++◌, length, map, filter, Some, refl, ap, sym, ◌∙◌, append_assoc, length-append, subst, All, slice_get}
+use Rattle.std.proofs.Common.{◌≡◌, ℕ, ◌+◌, Bool, true, false, cond, List, [], ◌∷◌, ◌++◌, length, map, filter, Some, refl, ap, sym, ◌∙◌, append_assoc, length-append, append-nil, reverse, subst, All, IsPermutation, slice_get}
 use Rattle.ing_shard.proofs.CountLaws.{filter_const, filter_eq}
 use Rattle.std.specs.List.{enumerate_from}
+use Rattle.std.proofs.lemmas.Grind.{flat_map-append}
+use Rattle.std.proofs.lemmas.List.{reverse-append}
 use Rattle.std.proofs.lemmas.List.Elements.{filter-append, All-weaker}
+use Rattle.std.proofs.lemmas.List.Sorted.{IsPermutation-append_comm, IsPermutation-append_right, IsPermutation-refl, IsPermutation-trans}
+use Rattle.ing_parts.specs.declared.order.Order.{Order}
+use Rattle.ing_parts.specs.declared.order.Order.TheVariants.{Forward, Backward}
 use Rattle.ing_rows.specs.Rows.{StreamKey, Row}
 use Rattle.ing_parts.specs.declared.snapshot.Snapshot.{Snapshot}
 use Rattle.ing_parts.specs.Answers.{AreSomeOf, StandFor}
 use Rattle.ing_parts.specs.Parts.{AddsRows, HasRows, found_among, found_at, standing, wanted, within}
 use Rattle.ing_shard.specs.OneStream.{Stream}
 use Rattle.ing_shard.specs.Picked.{numbers_of_picked}
-use Rattle.ing_shard.specs.Snapshots.{rows_at, rows_of}
+use Rattle.ing_shard.specs.Snapshots.{in_turn, rows_at, rows_of}
 use Rattle.ing_shard.specs.Streams.{key_of, part_of, whole}
 use Rattle.ing_shard.proofs.Parts.{all_rows}
 
@@ -59,6 +64,25 @@ picked_rows picked sts = rows_from picked [] sts
 nothing_first : {X : Type 0} (xs ys : List X) → xs ++ ys ≡ [] → xs ≡ []
 nothing_first [] ys none = refl
 nothing_first (x ∷ xs) ys none = absurd (cc)
+
+-- in whatever order the streams are looked at, their rows are the same
+rows_reversed : (sts : List Stream) (numbers : List ℕ) → IsPermutation (rows_at sts numbers) (rows_at sts (reverse numbers))
+rows_reversed sts [] = IsPermutation-refl []
+rows_reversed sts (n ∷ numbers) =
+    let own = rows_of (slice_get sts n) in
+    let others = rows_at sts (reverse numbers) in
+    let last : rows_at sts (reverse (n ∷ numbers)) ≡ others ++ own =
+    ap (rows_at sts) (reverse-append (n ∷ []) numbers)
+    ∙ flat_map-append (λ k. rows_of (slice_get sts k)) (reverse numbers) (n ∷ [])
+    ∙ ap (λ l. others ++ l) (append-nil own) in
+    subst (IsPermutation (rows_at sts (n ∷ numbers))) (sym last)
+    (IsPermutation-trans (own ++ rows_at sts numbers) (own ++ others) (others ++ own)
+    (IsPermutation-append_right own (rows_at sts numbers) others (rows_reversed sts numbers))
+    (IsPermutation-append_comm own others))
+
+pub rows_in_turn : (sts : List Stream) (order : Order) (numbers : List ℕ) → IsPermutation (rows_at sts numbers) (rows_at sts (in_turn order numbers))
+rows_in_turn sts Forward numbers = IsPermutation-refl (rows_at sts numbers)
+rows_in_turn sts Backward numbers = rows_reversed sts numbers
 
 -- what was added to a snapshot in which nothing stands is of these rows, and stands for all of them that are in its range
 pub has_rows : {R : Type 0} (rows : List Row) (old new : Snapshot R) → standing old ≡ [] → wanted old ≡ [] → AddsRows rows old new → HasRows rows new

@@ -3,7 +3,7 @@ ghost use Rattle.std.specs.Prelude.{◌≡◌, Bool, IfOk, OnOk, filter, slice_g
 ghost use Rattle.ing_rows.specs.Rows.{StreamKey};
 ghost use Rattle.ing_parts.specs.Parts.{AddsRows, HasRows};
 ghost use Rattle.ing_shard.specs.Picked.{Picks};
-ghost use Rattle.ing_shard.specs.Snapshots.{rows_at, rows_of};
+ghost use Rattle.ing_shard.specs.Snapshots.{in_turn, rows_at, rows_of};
 ghost use Rattle.ing_shard.specs.Streams.{AreHeld, whole};
 
 use crate::streams::Streams;
@@ -34,33 +34,16 @@ impl<R: Receipt> Streams<R> {
             Picks tenant.now selector.now picked →
             HasRows (filter (λ r. picked r.stream) (whole self.now.list.items).rows) s) }
     {
-        let numbers = self.select(alloc, tenant, selector)?;
+        rows_join::<R>();
+        let mut numbers = self.select(alloc, tenant, selector)?;
+        put_in_turn(&mut numbers, question.order);
         let mut snapshot = Snapshot::new(alloc, front, question);
-        self.add_streams(alloc, &mut snapshot, numbers.as_slice(), question.order)?;
+        self.add_streams(alloc, &mut snapshot, numbers.as_slice())?;
         Ok(snapshot)
     }
 
-    /// Adds what is wanted of these streams to a snapshot. A number that no stream has adds nothing. Where the latest entries are
-    /// wanted, the stream that was listed last is the first: it has later ones more often than not, and what they push out was
-    /// copied for nothing.
+    /// Adds what is wanted of these streams to a snapshot, one after another. A number that no stream has adds nothing.
     fn add_streams(
-        &self,
-        alloc: Global,
-        snapshot: &mut Snapshot<R>,
-        numbers: &[StreamNo],
-        order: Order,
-    ) -> Result<(), AllocError>
-        ensures { OnOk result (AddsRows (rows_at self.now.list.items numbers.now)
-            snapshot.old snapshot.new) }
-    {
-        match order {
-            Order::Forward => self.add_from_first(alloc, snapshot, numbers),
-            Order::Backward => self.add_from_last(alloc, snapshot, numbers),
-        }
-    }
-
-    /// Adds one after another.
-    fn add_from_first(
         &self,
         alloc: Global,
         snapshot: &mut Snapshot<R>,
@@ -72,23 +55,6 @@ impl<R: Receipt> Streams<R> {
         rows_join::<R>();
         for number in numbers {
             self.add_stream(alloc, snapshot, number.number() as usize)?;
-        }
-        Ok(())
-    }
-
-    /// Adds one after another, the last of them first.
-    fn add_from_last(
-        &self,
-        alloc: Global,
-        snapshot: &mut Snapshot<R>,
-        numbers: &[StreamNo],
-    ) -> Result<(), AllocError>
-        ensures { OnOk result (AddsRows (rows_at self.now.list.items numbers.now)
-            snapshot.old snapshot.new) }
-    {
-        rows_join::<R>();
-        for index in (0..numbers.len()).rev() {
-            self.add_stream(alloc, snapshot, numbers[index].number() as usize)?;
         }
         Ok(())
     }
@@ -108,5 +74,17 @@ impl<R: Receipt> Streams<R> {
             Some(stream) => stream.add_to(alloc, snapshot),
             None => Ok(()),
         }
+    }
+}
+
+/// Puts the numbers of streams into the order in which these are added to a snapshot. Where the latest entries are wanted, the
+/// stream that was listed last is the first: it has later ones more often than not, and what they push out was copied for
+/// nothing.
+fn put_in_turn(numbers: &mut Vec<StreamNo>, order: Order)
+    ensures { numbers.new.items ≡ in_turn order numbers.old.items }
+{
+    match order {
+        Order::Forward => {}
+        Order::Backward => numbers.reverse(),
     }
 }

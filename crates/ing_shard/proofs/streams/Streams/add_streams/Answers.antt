@@ -3,7 +3,7 @@ use Rattle.std.proofs.lemmas.List.{flat_map_more, take_more}
 use Rattle.ing_rows.specs.Rows.{Row}
 use Rattle.ing_parts.specs.Parts.{AddsRows}
 use Rattle.ing_shard.specs.Snapshots.{rows_at, rows_of}
-use Rattle.ing_shard.proofs.streams.Streams.add_from_first.Goals as goal
+use Rattle.ing_shard.proofs.streams.Streams.add_streams.Goals as goal
 
 -- one more is added, which stands behind the others
 pub loop-number-preserved : goal.loop-number-preserved

@@ -1,7 +1,7 @@
 use Rattle.std.proofs.Common.{take}
 use Rattle.ing_parts.specs.Parts.{AddsRows}
 use Rattle.ing_shard.specs.Snapshots.{rows_at}
-use Rattle.ing_shard.proofs.streams.Streams.add_from_first.Given as goal
+use Rattle.ing_shard.proofs.streams.Streams.add_streams.Given as goal
 
 -- the streams of the numbers so far are added
 abbrev pub invariant-loop-number : goal.invariant-loop-number
