@@ -1,5 +1,5 @@
 -- One share of a tally that rises.
-use Rattle.std.proofs.Common.{◌≡◌, ◌≢◌, ◌<◌, ◌+◌, ℕ, zero, suc, List, [], ◌∷◌, length, Some, refl, ap, sym, subst, ◌∙◌, arith, slice_set}
+use Rattle.std.proofs.Common.{◌≡◌, ◌≢◌, ◌<◌, ◌+◌, ℕ, zero, suc, List, [], ◌∷◌, length, refl, ap, sym, subst, ◌∙◌, arith, slice_set}
 use Rattle.std.specs.Prelude.{slice_get, slice_index_or}
 use Rattle.ing_chunk.specs.Chunks.{ChunkContents, IsWhole, count_in, in_blocks}
 use Rattle.ing_tally.specs.Books.{ShareState}

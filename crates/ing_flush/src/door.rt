@@ -1,26 +1,43 @@
 //! The way to the shards.
 ghost use Rattle.std.specs.Prelude.{◌≡◌, ◌+◌, ◌<◌, ℕ, IfOk, IfErr, IfSome, OnOk, OnErr};
 ghost use Rattle.ing_shard.specs.Books.{BookNames};
-ghost use Rattle.ing_shard.specs.FinishFaults.{GivesAllBack};
-ghost use Rattle.ing_shard.specs.Flights.{IsUploaded, entries_in};
+ghost use Rattle.ing_shard.specs.Flights.{Flown, entries_in};
+ghost use Rattle.ing_flush.specs.Unfinished.{GivesBack};
 
-use ing_sealed::Flushed;
-use ing_shard::{FinishFault, Finished, Op, Stray, Ticket};
-use ing_store::Receipt;
+use ing_shard::{Finished, Op, Stray, Ticket};
 use ing_tally::Share;
 use std::alloc::{AllocError, Global};
 use std::sync::Wait;
 
-/// The way to shards that are numbered from 0, each of which has its books. A call may wait for whoever has the shard.
-pub trait Door {
-    /// What a store gives for an object.
-    type Receipt: Receipt;
+/// Why a chunk was not listed as stored. All that was handed over comes back. It cannot be dropped: a ticket may be in it.
+pub enum Unfinished<U> {
+    /// Memory ran out.
+    NoMemory {
+        /// The ticket.
+        ticket: Ticket,
+        /// What its upload gave.
+        uploaded: U,
+    },
+    /// The chunk is not in flight in its shard.
+    Stranger {
+        /// The ticket.
+        stray: Stray,
+        /// What its upload gave.
+        uploaded: U,
+    },
+}
 
+/// The way to shards that are numbered from 0, each of which has its books; U is what an upload gives. A call may wait for
+/// whoever has the shard.
+pub trait Door<U> {
     /// How many shards there are.
     ghost shards: { ℕ };
 
     /// The books of each.
     ghost books: { ℕ → BookNames };
+
+    /// What an upload of a claimed chunk has to give.
+    ghost takes: { Flown → U → Type 0 };
 
     /// Claims the oldest chunk of the operation's stream that waits; `None` where none does. `AllocError` where memory runs
     /// out.
@@ -38,17 +55,16 @@ pub trait Door {
         &self,
         rt: &W,
         ticket: Ticket,
-        flushed: Flushed<Self::Receipt>,
+        uploaded: U,
         tally: &mut Share,
-    ) -> Result<Finished, FinishFault<Self::Receipt>>
+    ) -> Result<Finished, Unfinished<U>>
         requires shard { ticket.claimed.shard < shards }
-        requires uploaded { IsUploaded ticket.claimed flushed.listing
-            (Self.Receipt.bytes flushed.row) (Self.Receipt.name flushed.row) }
+        requires uploaded { takes ticket.claimed uploaded }
         requires ticket { ticket.share.book ≡ (books ticket.claimed.shard).flight }
         requires own { tally.old.book ≡ (books ticket.claimed.shard).stored }
         ensures told { OnOk result
             (tally.new ≡ record tally.old { amount = tally.old.amount + entries_in ticket.claimed }) }
-        ensures back { IfErr result (GivesAllBack ticket.claimed ticket.share flushed ⊥) }
+        ensures back { IfErr result (GivesBack ticket.claimed ticket.share uploaded) }
         ensures err { OnErr result (tally.new ≡ tally.old) };
 
     /// Lets the chunk of a ticket wait again. A `Stray` where it is not in flight in its shard. Takes no memory.

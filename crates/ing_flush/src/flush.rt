@@ -1,16 +1,17 @@
 //! One flush.
 ghost use Rattle.std.specs.Prelude.{◌≡◌, ◌<◌, IfErr, IfOk, OnErr, length};
-ghost use Rattle.ing_shard.specs.FinishFaults.{GivesAllBack};
-ghost use Rattle.ing_shard.specs.Flights.{IsUploaded, entries_in};
+ghost use Rattle.ing_sealed.specs.declared.uploads.Flushed.{Flushed as Uploaded};
+ghost use Rattle.ing_shard.specs.Flights.{Flown, IsUploaded, entries_in};
+ghost use Rattle.ing_flush.specs.Unfinished.{GivesBack};
 ghost use Rattle.ing_flush.specs.Flushes.{IsCounted, IsFlushed, IsGivenBack, RisesBy};
 ghost use Rattle.ing_flush.specs.Tallies.{AreStoredIn};
 
-use crate::door::Door;
+use crate::door::{Door, Unfinished};
 use crate::flusher::Flusher;
 use crate::gate::Gate;
 use crate::tally::FlusherTally;
 use ing_sealed::Flushed as Uploaded;
-use ing_shard::{FinishFault, Op, Stray, Ticket};
+use ing_shard::{Op, Stray, Ticket};
 use ing_store::{Receipt, StoreEnd, StoreFault};
 use std::alloc::Global;
 use std::sync::Wait;
@@ -40,10 +41,13 @@ pub fn flush_one<R, D, S, G, W>(
 ) -> Flushed
 where
     R: Receipt,
-    D: Door<Receipt = R>,
+    D: Door<Uploaded<R>>,
     S: StoreEnd<Receipt = R>,
     G: Gate,
     W: Wait,
+    // What an upload gives of a chunk can be listed through the door.
+    requires takes { (f : Flown) (done : Uploaded R) →
+        IsUploaded f done.listing (R.bytes done.row) (R.name done.row) → D.takes f done }
     requires shard { op.now.shard < D.shards }
     requires all { length flusher.old.tally ≡ D.shards }
     requires own { AreStoredIn D.books flusher.old.tally }
@@ -67,25 +71,27 @@ where
     };
     match finish(rt, door, ticket, uploaded, &mut flusher.tally) {
         Ok(entries) => Flushed::Stored(entries),
-        Err(FinishFault::NoMemory { ticket, flushed }) => {
-            drop(flushed);
+        Err(Unfinished::NoMemory { ticket, uploaded }) => {
+            drop(uploaded);
             give_back(rt, door, ticket, StoreFault::NoMemory)
         }
-        Err(FinishFault::Stranger(stranger)) => Flushed::Strange(stranger.stray),
+        Err(Unfinished::Stranger { stray, uploaded }) => {
+            drop(uploaded);
+            Flushed::Strange(stray)
+        }
     }
 }
 
 /// Lists the chunk of a ticket as stored, and says how many entries it has; the tally's share of its shard rises by them.
-fn finish<D: Door, W: Wait>(
+fn finish<U, D: Door<U>, W: Wait>(
     rt: &W,
     door: &D,
     ticket: Ticket,
-    uploaded: Uploaded<D::Receipt>,
+    uploaded: U,
     tally: &mut FlusherTally,
-) -> Result<u64, FinishFault<D::Receipt>>
+) -> Result<u64, Unfinished<U>>
     requires shard { ticket.claimed.shard < D.shards }
-    requires uploaded { IsUploaded ticket.claimed uploaded.listing
-        (D.Receipt.bytes uploaded.row) (D.Receipt.name uploaded.row) }
+    requires uploaded { D.takes ticket.claimed uploaded }
     requires ticket { ticket.share.book ≡ (D.books ticket.claimed.shard).flight }
     requires some { 0 < entries_in ticket.claimed }
     requires all { length tally.old ≡ D.shards }
@@ -93,7 +99,7 @@ fn finish<D: Door, W: Wait>(
     ensures all { length tally.new ≡ D.shards }
     ensures own { AreStoredIn D.books tally.new }
     ensures stored { IfOk result (λ entries. RisesBy entries ticket.claimed.shard tally.old tally.new) }
-    ensures back { IfErr result (GivesAllBack ticket.claimed ticket.share uploaded ⊥) }
+    ensures back { IfErr result (GivesBack ticket.claimed ticket.share uploaded) }
     ensures err { OnErr result (tally.new ≡ tally.old) }
 {
     let entries = ticket.claimed().chunk().count();
@@ -103,7 +109,7 @@ fn finish<D: Door, W: Wait>(
 }
 
 /// Gives a ticket back, because of a fault.
-fn give_back<D: Door, W: Wait>(rt: &W, door: &D, ticket: Ticket, fault: StoreFault) -> Flushed
+fn give_back<U, D: Door<U>, W: Wait>(rt: &W, door: &D, ticket: Ticket, fault: StoreFault) -> Flushed
     requires shard { ticket.claimed.shard < D.shards }
     requires ticket { ticket.share.book ≡ (D.books ticket.claimed.shard).flight }
     ensures { IsGivenBack fault result }

@@ -8,7 +8,7 @@ mod gate;
 mod gated_end;
 mod tally;
 
-pub use door::Door;
+pub use door::{Door, Unfinished};
 pub use flush::{Flushed, flush_one};
 pub use flusher::Flusher;
 pub use gate::{FreeGate, Gate};

@@ -30,8 +30,8 @@ returns-clause-stored g c =
     let at = c.shard-place.ensures ∙ ap (λ f. f.shard) c.claimed-2.ensures in
     let is = lent g.D.Door.books c.tally.inside.shares.items c.args.tally.now g.D.Door.shards c.args.ticket.claimed.shard c.shard-place.result c.index_mut.result.now c.tally.view_is c.requires.own c.requires.all c.requires.shard at c.index_mut.ensures.value in
     let count : c.count-entries.result ≡ entries_in c.args.ticket.claimed =
-        c.count-entries.ensures.value ∙ whole_count c.chunk.result.now c.chunk.ensures.whole
-        ∙ ap (λ x. length (in_blocks x.blocks)) (c.chunk.ensures.value ∙ ap (λ f. f.chunk) c.claimed.ensures) in
+    c.count-entries.ensures.value ∙ whole_count c.chunk.result.now c.chunk.ensures.whole
+    ∙ ap (λ x. length (in_blocks x.blocks)) (c.chunk.ensures.value ∙ ap (λ f. f.chunk) c.claimed.ensures) in
     subst (λ n. RisesBy n c.args.ticket.claimed.shard c.args.tally.now (slice_set c.tally.inside.shares.items c.shard-place.result c.finish.new.tally)) (sym count)
     (back_risen g.D.Door.books c.tally.inside.shares.items c.args.ticket.claimed.shard c.shard-place.result c.index_mut.result.now is (entries_in c.args.ticket.claimed) c.args.tally.now c.finish.new.tally c.tally.view_is
-        (ap (λ s. s.amount) c.in_ok-finish.ensures.told) c.requires.some)
+    (ap (λ s. s.amount) c.in_ok-finish.ensures.told) c.requires.some)

@@ -1,0 +1,103 @@
+-- Lists whose last item is taken, and what is closed.
+use Rattle.std.proofs.Common.{◌≡◌, ◌≢◌, ◌<◌, ◌≤◌, ◌+◌, ◌-◌, ◌⊎◌, inl, inr, ℕ, zero, suc, List, [], ◌∷◌, ◌++◌, length, Some, true, false, refl, sym, ap, subst, ◌∙◌, arith, slice_set}
+use Rattle.std.specs.Prelude.{slice_get}
+use Rattle.std.specs.Global.{Vec}
+use Rattle.std.proofs.lemmas.List.Sorted.{IsPermutation-refl}
+use Rattle.ing_rows.specs.Rows.{IsSame, State}
+use Rattle.ing_tally.specs.Books.{ShareState}
+use Rattle.ing_shard.specs.Contents.{Contents}
+use Rattle.ing_node.specs.declared.report.ShardReport.{ShardReport}
+use Rattle.ing_node.specs.Closing.{IsComplete, shares_at, shares_in}
+use Rattle.ing_node.specs.Reports.{IsClosed}
+
+-- ---- lists
+
+pub last_get : {X : Type 0} (rest : List X) (x : X) → slice_get (rest ++ x ∷ []) (length rest) ≡ Some x
+last_get [] x = refl
+last_get (y ∷ rest) x = last_get rest x
+
+pub front_get : {X : Type 0} (rest : List X) (x : X) (i : ℕ) → i < length rest → slice_get (rest ++ x ∷ []) i ≡ slice_get rest i
+front_get [] x i below = absurd (omega (arith, below))
+front_get (y ∷ rest) x zero below = refl
+front_get (y ∷ rest) x (suc i) below = front_get rest x i (omega (arith, below))
+
+pub get_below : {X : Type 0} (xs : List X) (i : ℕ) (x : X) → slice_get xs i ≡ Some x → i < length xs
+get_below [] i x at = absurd cc
+get_below (y ∷ xs) zero x at = omega arith
+get_below (y ∷ xs) (suc i) x at = let rest = get_below xs i x at in omega (arith, rest)
+
+-- where there would be a last item if there were any, and there is none
+pub none_left : (n : ℕ) → (0 < n → false ≡ true) → n ≡ 0
+none_left zero some = refl
+none_left (suc n) some = let no : false ≡ true = some (omega arith) in absurd cc
+
+-- what stands at a place of a list in which one item was replaced
+pub set_get : {X : Type 0} (xs : List X) (place : ℕ) (y : X) (i : ℕ) (x : X) → slice_get (slice_set xs place y) i ≡ Some x
+    → ((i ≡ place) × (x ≡ y)) ⊎ ((i ≢ place) × (slice_get xs i ≡ Some x))
+set_get [] place y i x at = absurd cc
+set_get (z ∷ xs) zero y zero x at = let same : y ≡ x = cc in inl (refl, sym same)
+set_get (z ∷ xs) zero y (suc i) x at = inr ((λ same. omega (arith, same)), at)
+set_get (z ∷ xs) (suc place) y zero x at = inr ((λ same. omega (arith, same)), at)
+set_get (z ∷ xs) (suc place) y (suc i) x at = further (set_get xs place y i x at) where
+  further : ((i ≡ place) × (x ≡ y)) ⊎ ((i ≢ place) × (slice_get xs i ≡ Some x)) → ((suc i ≡ suc place) × (x ≡ y)) ⊎ ((suc i ≢ suc place) × (slice_get xs i ≡ Some x))
+  further (inl there) = inl (ap suc there.0, there.1)
+  further (inr other) = inr ((λ same. other.0 (omega (arith, same))), other.1)
+
+-- ---- lists of shares
+
+-- the shares of the last list, and of the others
+pub last_shares : (rest : List (Vec ShareState)) (x : Vec ShareState) → shares_at (length rest) (rest ++ x ∷ []) ≡ x.items
+last_shares rest x = ap shares_in (last_get rest x)
+
+pub front_shares : (rest : List (Vec ShareState)) (x : Vec ShareState) (i : ℕ) → i < length rest → shares_at i (rest ++ x ∷ []) ≡ shares_at i rest
+front_shares rest x i below = ap shares_in (front_get rest x i below)
+
+-- ---- what is closed
+
+pub same_state : (state : State) → IsSame state state
+same_state state = record { rows = IsPermutation-refl state.rows; marks = IsPermutation-refl state.marks }
+
+pub closed_by : (accepted stored told counted : ℕ) → accepted ≡ told → stored ≡ counted → stored ≤ accepted
+    → IsClosed told counted (record { accepted = accepted; recovered = 0; stored = stored; kept = accepted - stored })
+closed_by accepted stored told counted is_told is_counted within = record {
+  accepted = is_told;
+  stored = is_counted;
+  recovered = refl;
+  all = omega (arith, within);
+}
+
+-- with equal counts
+pub closed_as : (told counted more less : ℕ) (r : ShardReport) → told ≡ more → counted ≡ less → IsClosed told counted r → IsClosed more less r
+closed_as told counted more less r t c is = subst (λ n. IsClosed n less r) t (subst (λ n. IsClosed told n r) c is)
+
+pub complete_as : (place number pushing tallies more less : ℕ) (shard : Contents) → place ≡ number → pushing ≡ more → tallies ≡ less
+    → IsComplete place pushing tallies shard → IsComplete number more less shard
+complete_as place number pushing tallies more less shard n p t is =
+    subst (λ k. IsComplete k more less shard) n (subst (λ k. IsComplete place k less shard) p (subst (λ k. IsComplete place pushing k shard) t is))
+
+-- ---- a list whose last item was taken
+
+module _ (all rest : List (Vec ShareState)) (x : Vec ShareState) (is : all ≡ rest ++ x ∷ []) (place : ℕ) (len : length rest ≡ place) (initial : List (Vec ShareState)) (same : (i : ℕ) → i < place + 1 → shares_at i all ≡ shares_at i initial) where
+  pub popped_shares : x.items ≡ shares_at place initial
+  popped_shares =
+      subst (λ n. x.items ≡ shares_at n initial) len
+      (sym (last_shares rest x) ∙ ap (shares_at (length rest)) (sym is) ∙ same (length rest) (omega (arith, len)))
+
+  pub left_shares : (i : ℕ) → i < place → shares_at i rest ≡ shares_at i initial
+  left_shares i below = sym (front_shares rest x i (omega (arith, len, below))) ∙ ap (shares_at i) (sym is) ∙ same i (omega (arith, below))
+
+module _ {X : Type 0} (all rest : List X) (x : X) (is : all ≡ rest ++ x ∷ []) where
+  pub popped_get : (place : ℕ) → length rest ≡ place → slice_get all place ≡ Some x
+  popped_get place len = subst (λ n. slice_get all n ≡ Some x) len (ap (λ l. slice_get l (length rest)) is ∙ last_get rest x)
+
+  pub left_get : (i : ℕ) (y : X) → slice_get rest i ≡ Some y → slice_get all i ≡ Some y
+  left_get i y at = ap (λ l. slice_get l i) is ∙ front_get rest x i (get_below rest i y at) ∙ at
+
+-- the reports from a place on are closed, once the one at the place is
+pub closed_set : (told counted : ℕ → ℕ) (reports : List ShardReport) (place : ℕ) (r : ShardReport) → IsClosed (told place) (counted place) r
+    → ((i : ℕ) (report : ShardReport) → place < i → slice_get reports i ≡ Some report → IsClosed (told i) (counted i) report)
+    → (i : ℕ) (report : ShardReport) → place ≤ i → slice_get (slice_set reports place r) i ≡ Some report → IsClosed (told i) (counted i) report
+closed_set told counted reports place r done beyond i report past at = by (set_get reports place r i report at) where
+  by : ((i ≡ place) × (report ≡ r)) ⊎ ((i ≢ place) × (slice_get reports i ≡ Some report)) → IsClosed (told i) (counted i) report
+  by (inl there) = subst (λ x. IsClosed (told i) (counted i) x) (sym there.1) (subst (λ n. IsClosed (told n) (counted n) r) (sym there.0) done)
+  by (inr other) = beyond i report (omega (arith, past, other.0)) other.1

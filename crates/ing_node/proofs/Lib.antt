@@ -1,0 +1,7 @@
+pub mod ClosingLaws
+pub mod Handing
+pub mod PlaceLaws
+pub mod PusherLaws
+pub mod Sealed
+pub mod Selected
+pub mod VerdictLaws

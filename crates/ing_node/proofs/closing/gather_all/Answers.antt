@@ -1,0 +1,94 @@
+use Rattle.std.proofs.Common.{◌≡◌, ◌<◌, ◌+◌, ℕ, List, length, Some, arith, subst, sym, ap, ◌∙◌, slice_get, slice_set, vec_len}
+use Rattle.ing_tally.specs.Books.{AreOf, ShareState, amount_of}
+use Rattle.ing_node.specs.Closing.{shares_at}
+use Rattle.ing_node.specs.Reports.{IsClosed}
+use Rattle.ing_node.proofs.ClosingLaws.{closed_as, complete_as, left_get, left_shares, none_left, popped_get, popped_shares, closed_set}
+use Rattle.ing_node.proofs.closing.gather_all.Goals as goal
+
+pub settle-requires-clause-own_pushing : goal.settle-requires-clause-own_pushing
+settle-requires-clause-own_pushing g c =
+    let at = c.loop-held.invariant in
+    let rest = c.pop.new.self in
+    let place = vec_len rest in
+    let longer : vec_len c.loop-held.helds ≡ place + 1 = omega (arith, c.in-Some.ensures.len) in
+    let len_h : length rest.items ≡ place = sym rest.ok.0 in
+    let len_p : length c.pop-in-Some.new.self.items ≡ place = omega (arith, c.in-Some-Some.ensures.len, at.pushing, longer, c.pop-in-Some.new.self.ok.0) in
+    let len_t : length c.pop-in-Some-2.new.self.items ≡ place = omega (arith, c.in-Some-Some.ensures'.len, at.stored, longer, c.pop-in-Some-2.new.self.ok.0) in
+    let same_p : (i : ℕ) → i < place + 1 → shares_at i c.loop-held.pushing.items ≡ shares_at i c.args.pushing.items = λ i below. at.same_pushing i (omega (arith, below, longer)) in
+    let same_t : (i : ℕ) → i < place + 1 → shares_at i c.loop-held.stored.items ≡ shares_at i c.args.stored.items = λ i below. at.same_stored i (omega (arith, below, longer)) in
+    let mine = popped_shares c.loop-held.pushing.items c.pop-in-Some.new.self.items c.in-Some-Some.pushers c.in-Some-Some.ensures.items place len_p c.args.pushing.items same_p in
+    let told = popped_shares c.loop-held.stored.items c.pop-in-Some-2.new.self.items c.in-Some-Some.tallies c.in-Some-Some.ensures'.items place len_t c.args.stored.items same_t in
+    let whole = at.complete place c.in-Some.held (popped_get c.loop-held.helds.items rest.items c.in-Some.held c.in-Some.ensures.items place len_h) in
+    subst (λ n. AreOf (g.N.NodeName.books n).accepted c.in-Some-Some.pushers.items) (sym whole.number)
+    (subst (λ (ss : List ShareState). AreOf (g.N.NodeName.books place).accepted ss) (sym mine) (c.requires.own_pushing place))
+
+pub settle-requires-clause-own_tallies : goal.settle-requires-clause-own_tallies
+settle-requires-clause-own_tallies g c =
+    let at = c.loop-held.invariant in
+    let rest = c.pop.new.self in
+    let place = vec_len rest in
+    let longer : vec_len c.loop-held.helds ≡ place + 1 = omega (arith, c.in-Some.ensures.len) in
+    let len_h : length rest.items ≡ place = sym rest.ok.0 in
+    let len_p : length c.pop-in-Some.new.self.items ≡ place = omega (arith, c.in-Some-Some.ensures.len, at.pushing, longer, c.pop-in-Some.new.self.ok.0) in
+    let len_t : length c.pop-in-Some-2.new.self.items ≡ place = omega (arith, c.in-Some-Some.ensures'.len, at.stored, longer, c.pop-in-Some-2.new.self.ok.0) in
+    let same_p : (i : ℕ) → i < place + 1 → shares_at i c.loop-held.pushing.items ≡ shares_at i c.args.pushing.items = λ i below. at.same_pushing i (omega (arith, below, longer)) in
+    let same_t : (i : ℕ) → i < place + 1 → shares_at i c.loop-held.stored.items ≡ shares_at i c.args.stored.items = λ i below. at.same_stored i (omega (arith, below, longer)) in
+    let mine = popped_shares c.loop-held.pushing.items c.pop-in-Some.new.self.items c.in-Some-Some.pushers c.in-Some-Some.ensures.items place len_p c.args.pushing.items same_p in
+    let told = popped_shares c.loop-held.stored.items c.pop-in-Some-2.new.self.items c.in-Some-Some.tallies c.in-Some-Some.ensures'.items place len_t c.args.stored.items same_t in
+    let whole = at.complete place c.in-Some.held (popped_get c.loop-held.helds.items rest.items c.in-Some.held c.in-Some.ensures.items place len_h) in
+    subst (λ n. AreOf (g.N.NodeName.books n).stored c.in-Some-Some.tallies.items) (sym whole.number)
+    (subst (λ (ss : List ShareState). AreOf (g.N.NodeName.books place).stored ss) (sym told) (c.requires.own_stored place))
+
+pub settle-requires-clause-complete : goal.settle-requires-clause-complete
+settle-requires-clause-complete g c =
+    let at = c.loop-held.invariant in
+    let rest = c.pop.new.self in
+    let place = vec_len rest in
+    let longer : vec_len c.loop-held.helds ≡ place + 1 = omega (arith, c.in-Some.ensures.len) in
+    let len_h : length rest.items ≡ place = sym rest.ok.0 in
+    let len_p : length c.pop-in-Some.new.self.items ≡ place = omega (arith, c.in-Some-Some.ensures.len, at.pushing, longer, c.pop-in-Some.new.self.ok.0) in
+    let len_t : length c.pop-in-Some-2.new.self.items ≡ place = omega (arith, c.in-Some-Some.ensures'.len, at.stored, longer, c.pop-in-Some-2.new.self.ok.0) in
+    let same_p : (i : ℕ) → i < place + 1 → shares_at i c.loop-held.pushing.items ≡ shares_at i c.args.pushing.items = λ i below. at.same_pushing i (omega (arith, below, longer)) in
+    let same_t : (i : ℕ) → i < place + 1 → shares_at i c.loop-held.stored.items ≡ shares_at i c.args.stored.items = λ i below. at.same_stored i (omega (arith, below, longer)) in
+    let mine = popped_shares c.loop-held.pushing.items c.pop-in-Some.new.self.items c.in-Some-Some.pushers c.in-Some-Some.ensures.items place len_p c.args.pushing.items same_p in
+    let told = popped_shares c.loop-held.stored.items c.pop-in-Some-2.new.self.items c.in-Some-Some.tallies c.in-Some-Some.ensures'.items place len_t c.args.stored.items same_t in
+    let whole = at.complete place c.in-Some.held (popped_get c.loop-held.helds.items rest.items c.in-Some.held c.in-Some.ensures.items place len_h) in
+    complete_as place c.in-Some.held.shard.number (length (shares_at place c.args.pushing.items)) (length (shares_at place c.args.stored.items))
+    (vec_len c.in-Some-Some.pushers) (vec_len c.in-Some-Some.tallies) c.in-Some.held.shard (sym whole.number)
+    (ap length (sym mine) ∙ sym c.in-Some-Some.pushers.ok.0) (ap length (sym told) ∙ sym c.in-Some-Some.tallies.ok.0) whole
+
+pub loop-held-preserved : goal.loop-held-preserved
+loop-held-preserved g c =
+    let at = c.loop-held.invariant in
+    let rest = c.pop.new.self in
+    let place = vec_len rest in
+    let longer : vec_len c.loop-held.helds ≡ place + 1 = omega (arith, c.in-Some.ensures.len) in
+    let len_h : length rest.items ≡ place = sym rest.ok.0 in
+    let len_p : length c.pop-in-Some.new.self.items ≡ place = omega (arith, c.in-Some-Some.ensures.len, at.pushing, longer, c.pop-in-Some.new.self.ok.0) in
+    let len_t : length c.pop-in-Some-2.new.self.items ≡ place = omega (arith, c.in-Some-Some.ensures'.len, at.stored, longer, c.pop-in-Some-2.new.self.ok.0) in
+    let same_p : (i : ℕ) → i < place + 1 → shares_at i c.loop-held.pushing.items ≡ shares_at i c.args.pushing.items = λ i below. at.same_pushing i (omega (arith, below, longer)) in
+    let same_t : (i : ℕ) → i < place + 1 → shares_at i c.loop-held.stored.items ≡ shares_at i c.args.stored.items = λ i below. at.same_stored i (omega (arith, below, longer)) in
+    let mine = popped_shares c.loop-held.pushing.items c.pop-in-Some.new.self.items c.in-Some-Some.pushers c.in-Some-Some.ensures.items place len_p c.args.pushing.items same_p in
+    let told = popped_shares c.loop-held.stored.items c.pop-in-Some-2.new.self.items c.in-Some-Some.tallies c.in-Some-Some.ensures'.items place len_t c.args.stored.items same_t in
+    let whole = at.complete place c.in-Some.held (popped_get c.loop-held.helds.items rest.items c.in-Some.held c.in-Some.ensures.items place len_h) in
+    let placed : c.len-place.result ≡ place = c.len-place.ensures in
+    let done : IsClosed (amount_of (shares_at place c.args.pushing.items)) (amount_of (shares_at place c.args.stored.items)) c.settle.result =
+    closed_as (amount_of c.in-Some-Some.pushers.items) (amount_of c.in-Some-Some.tallies.items) _ _ c.settle.result (ap amount_of mine) (ap amount_of told) c.settle.ensures in
+    record {
+      pushing = omega (arith, len_p, c.pop-in-Some.new.self.ok.0);
+      stored = omega (arith, len_t, c.pop-in-Some-2.new.self.ok.0);
+      reports = at.reports;
+      left = omega (arith, at.left, longer);
+      same_pushing = left_shares c.loop-held.pushing.items c.pop-in-Some.new.self.items c.in-Some-Some.pushers c.in-Some-Some.ensures.items place len_p c.args.pushing.items same_p;
+      same_stored = left_shares c.loop-held.stored.items c.pop-in-Some-2.new.self.items c.in-Some-Some.tallies c.in-Some-Some.ensures'.items place len_t c.args.stored.items same_t;
+      complete = λ i held there. at.complete i held (left_get c.loop-held.helds.items rest.items c.in-Some.held c.in-Some.ensures.items i held there);
+      closed = λ i report past there.
+          closed_set (λ n. amount_of (shares_at n c.args.pushing.items)) (λ n. amount_of (shares_at n c.args.stored.items)) c.loop-held.reports.items place c.settle.result done
+          (λ j r beyond. at.closed j r (omega (arith, beyond, longer))) i report past
+          (subst (λ n. slice_get (slice_set c.loop-held.reports.items n c.settle.result) i ≡ Some report) placed there);
+    }
+
+pub returns-clause-closed : goal.returns-clause-closed
+returns-clause-closed g c i report there =
+    let none = none_left (vec_len c.loop-held.helds) c.in_default.ensures.variant.1 in
+    c.loop-held.invariant.closed i report (omega (arith, none)) there

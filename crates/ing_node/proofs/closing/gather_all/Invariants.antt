@@ -1,0 +1,24 @@
+use Rattle.std.proofs.Common.{◌≡◌, ◌≤◌, ◌<◌, ℕ, Some, length, slice_get, vec_len}
+use Rattle.ing_tally.specs.Books.{amount_of}
+use Rattle.ing_node.specs.declared.report.ShardReport.{ShardReport}
+use Rattle.ing_node.specs.Closing.{AreComplete, shares_at}
+use Rattle.ing_node.specs.Reports.{IsClosed}
+use Rattle.ing_node.proofs.closing.gather_all.Given as goal
+
+-- the shards that are left are as they were, and the others are closed
+abbrev pub invariant-loop-held : goal.invariant-loop-held
+invariant-loop-held g l = record {
+  pushing : vec_len l.pushing ≡ vec_len l.helds;
+  stored : vec_len l.stored ≡ vec_len l.helds;
+  reports : vec_len l.reports ≡ vec_len l.initial.reports;
+  left : vec_len l.helds ≤ vec_len l.reports;
+  same_pushing : (i : ℕ) → i < vec_len l.helds → shares_at i l.pushing.items ≡ shares_at i l.initial.pushing.items;
+  same_stored : (i : ℕ) → i < vec_len l.helds → shares_at i l.stored.items ≡ shares_at i l.initial.stored.items;
+  complete : AreComplete (λ held. held.shard) (λ i. length (shares_at i l.initial.pushing.items))
+      (λ i. length (shares_at i l.initial.stored.items)) l.helds.items;
+  closed : (i : ℕ) (report : ShardReport) → vec_len l.helds ≤ i → slice_get l.reports.items i ≡ Some report
+      → IsClosed (amount_of (shares_at i l.initial.pushing.items)) (amount_of (shares_at i l.initial.stored.items)) report;
+}
+
+abbrev pub decreases-loop-held : goal.decreases-loop-held
+decreases-loop-held g l = vec_len l.helds

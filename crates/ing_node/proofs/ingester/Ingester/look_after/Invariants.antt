@@ -1,0 +1,17 @@
+use Rattle.std.proofs.Common.{◌≡◌, ◌≤◌, vec_len}
+use Rattle.std.specs.Prelude.{All}
+use Rattle.std.specs.Vec.{vec_capacity}
+use Rattle.ing_node.specs.Names.{AreAcceptedIn}
+use Rattle.ing_node.specs.Queries.{AreNoLess, IsAskedOf}
+use Rattle.ing_node.proofs.ingester.Ingester.look_after.Given as goal
+
+abbrev pub invariant-loop-place : goal.invariant-loop-place
+invariant-loop-place g l = record {
+  same : l.pusher-inside.told.items ≡ l.fn.pusher;
+  all : vec_len l.pusher-inside.told ≡ g.N.NodeName.settings.shards;
+  own : AreAcceptedIn g.N.NodeName.books l.pusher-inside.told.items;
+  snapshots : All (IsAskedOf l.tenant l.selector l.question) l.snapshots.items;
+  fronts : AreNoLess l.fn.pusher l.fronts.items;
+  made : (vec_len l.snapshots ≡ l.place) × (vec_len l.fronts ≡ l.place);
+  room : (vec_len l.self.shards ≤ vec_capacity l.snapshots) × (vec_len l.self.shards ≤ vec_capacity l.fronts);
+}

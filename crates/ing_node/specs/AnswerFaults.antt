@@ -1,0 +1,12 @@
+-- What a fault of a query through the locks tells of the store (own).
+use Rattle.std.specs.Prelude.{◌≡◌, ℕ, Result, Ok, Err}
+use Rattle.ing_query.specs.Fetched.{Counts}
+use Rattle.ing_node.specs.declared.query.AnswerFault.{AnswerFault}
+use Rattle.ing_node.specs.declared.query.AnswerFault.TheVariants.{Node, Query}
+
+-- the end's count of failures before and after: it stays where there is an answer, where a lock was not passed and where an
+-- object is bad, and a fault of the store comes only where the end has failed
+abbrev pub IsCaused : {T : Type 0} → ℕ → ℕ → Result T AnswerFault → Type 0
+IsCaused before after (Ok answer) = after ≡ before
+IsCaused before after (Err (Node fault)) = after ≡ before
+IsCaused before after (Err (Query fault)) = Counts before after fault

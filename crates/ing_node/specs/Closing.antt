@@ -1,0 +1,42 @@
+-- Shares that are gathered, shard by shard, and shards that can be gathered (own).
+use Rattle.std.specs.Prelude.{◌≡◌, ℕ, ◌+◌, ◌≤◌, List, [], ◌∷◌, Option, Some, None, slice_get, vec_len}
+use Rattle.std.specs.Global.{Vec}
+use Rattle.std.specs.Vec.{vec_capacity}
+use Rattle.ing_tally.specs.Books.{ShareState}
+use Rattle.ing_shard.specs.Contents.{Contents}
+
+-- ---- lists of shares, one for each shard
+
+-- the shares at a place; none where there is no list
+abbrev pub shares_in : Option (Vec ShareState) → List ShareState
+shares_in None = []
+shares_in (Some list) = list.items
+
+abbrev pub shares_at : ℕ → List (Vec ShareState) → List ShareState
+shares_at i lists = shares_in (slice_get lists i)
+
+-- the share at a place, as a list of one
+abbrev pub one_in : Option ShareState → List ShareState
+one_in None = []
+one_in (Some share) = share ∷ []
+
+abbrev pub one_at : ℕ → List ShareState → List ShareState
+one_at i shares = one_in (slice_get shares i)
+
+-- each list has room for so many more
+abbrev pub HaveRoom : ℕ → List (Vec ShareState) → Type 0
+HaveRoom n lists = (i : ℕ) (list : Vec ShareState) → slice_get lists i ≡ Some list → vec_len list + n ≤ vec_capacity list
+
+-- ---- shards
+
+-- It stands at its place, no chunk of it is in flight, and no more shares of its books are out than these.
+pub record IsComplete (place pushing tallies : ℕ) (shard : Contents) : Type 0 where
+  pub number : shard.number ≡ place
+  pub accepted : shard.books.accepted.out ≤ pushing
+  pub flight : shard.books.flight.out ≡ 0
+  pub stored : shard.books.stored.out ≤ tallies
+
+-- each shard is, with so many shares by its place; a shard is read off what lies under a lock
+abbrev pub AreComplete : {H : Type 0} → (H → Contents) → (ℕ → ℕ) → (ℕ → ℕ) → List H → Type 0
+AreComplete {H = H} shard_in pushing tallies helds =
+    (i : ℕ) (held : H) → slice_get helds i ≡ Some held → IsComplete i (pushing i) (tallies i) (shard_in held)

@@ -1,0 +1,252 @@
+//! The end of an ingester.
+ghost use Rattle.std.specs.Prelude.{◌≡◌, [], ℕ, ◌<◌, ◌≤◌, ◌^◌, All, IfOk, IfErr, OnOk, Some, length, slice_get, sum_by, vec_capacity, vec_len};
+ghost use Rattle.ing_tally.specs.Books.{AreOf, amount_of};
+ghost use Rattle.ing_flush.specs.Tallies.{amount_at};
+ghost use Rattle.ing_node.specs.Closing.{AreComplete, HaveRoom, IsComplete, shares_at};
+ghost use Rattle.ing_node.specs.Names.{IsTallyOf};
+ghost use Rattle.ing_node.specs.Reports.{AreClosed, HasReason, IsClosed};
+
+use crate::gathering::{empty_lists, hand_out_pushers, hand_out_tallies, let_go};
+use crate::held::Held;
+use crate::ingester::Ingester;
+use crate::names::NodeName;
+use crate::pusher::Pusher;
+use crate::report::{CloseRefusal, Report, ShardReport};
+use ing_flush::FlusherTally;
+use ing_shard::{Gathered, Missing};
+use ing_store::Receipt;
+use ing_tally::{Share, strand_each};
+use std::alloc::{AllocError, Global};
+use std::sync::Mutex;
+
+/// An ingester that was not closed, with all that was handed over, and why. It cannot be dropped.
+pub struct CloseFault<N: NodeName, R: Receipt> {
+    /// Why.
+    pub why: CloseRefusal,
+    /// The ingester.
+    pub ingester: Ingester<N, R>,
+    /// The pushers, as they were.
+    pub pushers: Vec<Pusher<N>>,
+    /// The flushers' tallies, as they were.
+    pub tallies: Vec<FlusherTally>,
+}
+
+/// All the room that a closing takes.
+struct Room<N: NodeName, R: Receipt> {
+    // For the shards, out of their locks, and for the locks, where they go back.
+    helds: Vec<Held<N, R>>,
+    locks: Vec<Mutex<Held<N, R>>>,
+    // For the shares of each shard's books.
+    pushing: Vec<Vec<Share>>,
+    stored: Vec<Vec<Share>>,
+    // For what is told.
+    reports: Vec<ShardReport>,
+}
+
+impl<N: NodeName, R: Receipt> Room<N, R> {
+    /// For so many shards, and a share of each for so many pushers and tallies.
+    fn new(
+        alloc: Global,
+        shards: usize,
+        pushers: usize,
+        tallies: usize,
+    ) -> Result<Room<N, R>, AllocError>
+        ensures helds { IfOk result (λ room. (vec_len room.helds ≡ 0) × (shards ≤ vec_capacity room.helds)) }
+        ensures locks { IfOk result (λ room. (vec_len room.locks ≡ 0) × (shards ≤ vec_capacity room.locks)) }
+        ensures pushing { IfOk result (λ room. (vec_len room.pushing ≡ shards)
+            × ((i : ℕ) → shares_at i room.pushing.items ≡ []) × HaveRoom pushers room.pushing.items) }
+        ensures stored { IfOk result (λ room. (vec_len room.stored ≡ shards)
+            × ((i : ℕ) → shares_at i room.stored.items ≡ []) × HaveRoom tallies room.stored.items) }
+        ensures reports { IfOk result (λ room. vec_len room.reports ≡ shards) }
+    {
+        let helds = Vec::with_capacity(alloc, shards)?;
+        let locks = Vec::with_capacity(alloc, shards)?;
+        let reports = Vec::from_elem(alloc, ShardReport::default(), shards)?;
+        let pushing = empty_lists(alloc, shards, pushers)?;
+        match empty_lists(alloc, shards, tallies) {
+            Ok(stored) => Ok(Room {
+                helds,
+                locks,
+                pushing,
+                stored,
+                reports,
+            }),
+            Err(error) => {
+                let_go(pushing);
+                Err(error)
+            }
+        }
+    }
+}
+
+impl<N: NodeName, R: Receipt> Ingester<N, R> {
+    /// Closes the ingester with all of its pushers and with the tallies of all of its flushers. Of each shard as many entries were
+    /// accepted as the pushers were told, as many are stored as the flushers counted, and each that was accepted is stored or kept:
+    /// none is lost, and none counts twice.
+    ///
+    /// `StillOut` where a share is missing, so that a pusher, a flusher or a ticket is still out somewhere or was given up; `Misplaced`,
+    /// and `NoMemory`. Then everything comes back as it was.
+    pub fn close(
+        self,
+        alloc: Global,
+        pushers: Vec<Pusher<N>>,
+        tallies: Vec<FlusherTally>,
+    ) -> Result<Report, CloseFault<N, R>>
+        requires { All (IsTallyOf N.settings.shards N.books) tallies.items }
+        ensures all { IfOk result (λ report. vec_len report.shards ≡ N.settings.shards) }
+        ensures closed { IfOk result (λ report. AreClosed (λ i. sum_by (amount_at i) pushers.items)
+            (λ i. sum_by (amount_at i) tallies.items) report.shards.items) }
+        ensures pushers { IfErr result (λ fault. fault.pushers ≡ pushers) }
+        ensures tallies { IfErr result (λ fault. fault.tallies ≡ tallies) }
+        ensures why { IfErr result (λ fault. HasReason fault.why) }
+    {
+        let Ok(room) = Room::new(alloc, self.shards.len(), pushers.len(), tallies.len()) else {
+            return Err(CloseFault {
+                why: CloseRefusal::NoMemory,
+                ingester: self,
+                pushers,
+                tallies,
+            });
+        };
+        let Room {
+            helds,
+            locks,
+            mut pushing,
+            mut stored,
+            reports,
+        } = room;
+        let helds = self.into_shards(helds);
+        if let Err(why) = are_complete(&helds, pushers.len() as u64, tallies.len() as u64) {
+            let_go(pushing);
+            let_go(stored);
+            return Err(CloseFault {
+                why,
+                ingester: Ingester::of_shards(helds, locks),
+                pushers,
+                tallies,
+            });
+        }
+        hand_out_pushers(&mut pushing, pushers);
+        hand_out_tallies::<N>(&mut stored, tallies);
+        Ok(Report {
+            shards: gather_all(helds, pushing, stored, reports),
+        })
+    }
+
+    /// Its shards, out of their locks, in a list with room for them.
+    fn into_shards(self, mut helds: Vec<Held<N, R>>) -> Vec<Held<N, R>>
+        requires empty { vec_len helds ≡ 0 }
+        requires room { vec_len self.shards ≤ vec_capacity helds }
+        ensures { vec_len result ≡ vec_len self.shards }
+    {
+        let Ingester { shards } = self;
+        for lock in shards {
+            helds.push_reserved(lock.into_inner());
+        }
+        helds
+    }
+
+    /// These shards, in locks again, in a list with room for them.
+    fn of_shards(helds: Vec<Held<N, R>>, mut locks: Vec<Mutex<Held<N, R>>>) -> Ingester<N, R>
+        requires all { vec_len helds ≡ N.settings.shards }
+        requires some { 0 < vec_len helds }
+        requires few { vec_len helds < 2 ^ 32 }
+        requires empty { vec_len locks ≡ 0 }
+        requires room { vec_len helds ≤ vec_capacity locks }
+    {
+        for held in helds {
+            locks.push_reserved(Mutex::new(held));
+        }
+        Ingester { shards: locks }
+    }
+}
+
+/// Whether each shard stands at its place, has no chunk in flight, and no more shares of its books out than these.
+fn are_complete<N: NodeName, R: Receipt>(
+    helds: &[Held<N, R>],
+    pushers: u64,
+    tallies: u64,
+) -> Result<(), CloseRefusal>
+    requires { length helds.now < 2 ^ 32 }
+    ensures complete { OnOk result
+        (AreComplete (λ held. held.shard) (λ _. pushers) (λ _. tallies) helds.now) }
+    ensures why { IfErr result HasReason }
+{
+    let mut all = Missing {
+        accepted: 0,
+        flight: 0,
+        stored: 0,
+    };
+    for place in 0..helds.len() {
+        let shard = &helds[place].shard;
+        if shard.number() != place as u32 {
+            return Err(CloseRefusal::Misplaced {
+                shard: place as u32,
+            });
+        }
+        let missing = shard.missing(pushers, tallies);
+        all.accepted = all.accepted.saturating_add(missing.accepted);
+        all.flight = all.flight.saturating_add(missing.flight);
+        all.stored = all.stored.saturating_add(missing.stored);
+    }
+    if all.accepted > 0 || all.flight > 0 || all.stored > 0 {
+        return Err(CloseRefusal::StillOut(all));
+    }
+    Ok(())
+}
+
+/// Gathers the books of each shard, which are complete with these shares.
+fn gather_all<N: NodeName, R: Receipt>(
+    mut helds: Vec<Held<N, R>>,
+    mut pushing: Vec<Vec<Share>>,
+    mut stored: Vec<Vec<Share>>,
+    mut reports: Vec<ShardReport>,
+) -> Vec<ShardReport>
+    requires pushing { vec_len pushing ≡ vec_len helds }
+    requires stored { vec_len stored ≡ vec_len helds }
+    requires reports { vec_len reports ≡ vec_len helds }
+    requires own_pushing { (i : ℕ) → AreOf (N.books i).accepted (shares_at i pushing.items) }
+    requires own_stored { (i : ℕ) → AreOf (N.books i).stored (shares_at i stored.items) }
+    requires complete { AreComplete (λ held. held.shard) (λ i. length (shares_at i pushing.items))
+        (λ i. length (shares_at i stored.items)) helds.items }
+    ensures all { vec_len result ≡ vec_len reports }
+    ensures closed { AreClosed (λ i. amount_of (shares_at i pushing.items))
+        (λ i. amount_of (shares_at i stored.items)) result.items }
+{
+    while let Some(held) = helds.pop() {
+        let place = helds.len();
+        match (pushing.pop(), stored.pop()) {
+            (Some(pushers), Some(tallies)) => reports[place] = settle(held, pushers, tallies),
+            _ => unreachable!(),
+        }
+    }
+    pushing.destroy_empty();
+    stored.destroy_empty();
+    reports
+}
+
+/// Gathers the books of a shard, which are complete with these shares.
+fn settle<N: NodeName, R: Receipt>(
+    held: Held<N, R>,
+    pushing: Vec<Share>,
+    tallies: Vec<Share>,
+) -> ShardReport
+    requires own_pushing { AreOf (N.books held.shard.number).accepted pushing.items }
+    requires own_tallies { AreOf (N.books held.shard.number).stored tallies.items }
+    requires complete { IsComplete held.shard.number (vec_len pushing) (vec_len tallies) held.shard }
+    ensures { IsClosed (amount_of pushing.items) (amount_of tallies.items) result }
+{
+    match held.into_shard().gather_books(pushing, tallies) {
+        Ok(Gathered { accepted, stored }) => ShardReport {
+            accepted,
+            recovered: 0,
+            stored,
+            kept: accepted - stored,
+        },
+        Err((_, pushing, tallies, _)) => {
+            strand_each(pushing);
+            strand_each(tallies);
+            unreachable!()
+        }
+    }
+}

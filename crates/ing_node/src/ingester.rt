@@ -1,0 +1,156 @@
+//! The shards behind their locks.
+ghost use Rattle.std.specs.Prelude.{◌≡◌, ◌+◌, ◌<◌, ◌≤◌, ◌^◌, All, IfOk, IfErr, OnOk, length, vec_len};
+ghost use Rattle.ing_flush.specs.Tallies.{AreStoredIn};
+ghost use Rattle.ing_node.specs.Names.{AreAcceptedIn, AreNamed};
+
+use crate::fault::NodeFault;
+use crate::held::Held;
+use crate::names::NodeName;
+use crate::pusher::Pusher;
+use crate::shards::Shards;
+use crate::told::Told;
+use ing_flush::FlusherTally;
+use ing_rows::{Gauges, Stamp, Tenant};
+use ing_shard::Due;
+use ing_store::Receipt;
+use ing_tally::Share;
+use std::alloc::Global;
+use std::marker::PhantomData;
+use std::sync::{Mutex, Wait};
+
+/// The shards of one ingester, each behind a lock at the place of its number. Any number of threads may push, flush and query
+/// through it.
+#[derive(Drop)]
+pub struct Ingester<N: NodeName, R: Receipt> {
+    pub(crate) shards: Vec<Mutex<Held<N, R>>>,
+    ghost all: { vec_len shards ≡ N.settings.shards },
+    ghost some: { 0 < vec_len shards },
+    ghost few: { vec_len shards < 2 ^ 32 },
+}
+
+impl<N: NodeName, R: Receipt> Ingester<N, R> {
+    /// The ingester of these shards, which N has to name: their settings, and their books by number. Where memory runs out they
+    /// come back.
+    pub fn open(alloc: Global, shards: Shards<R>) -> Result<Ingester<N, R>, Shards<R>>
+        requires settings { shards.settings ≡ N.settings }
+        requires named { AreNamed N.books shards.shards.items }
+        ensures back { IfErr result (λ back. back ≡ shards) }
+    {
+        let Ok(mut locks) = Vec::with_capacity(alloc, shards.shards.len()) else {
+            return Err(shards);
+        };
+        let Shards {
+            settings: _,
+            shards,
+        } = shards;
+        for shard in shards {
+            locks.push_reserved(Mutex::new(Held::new(shard)));
+        }
+        Ok(Ingester { shards: locks })
+    }
+
+    /// A new pusher, which was told nothing yet. `CounterFull` where 2^62 shares of a shard are out, `Misplaced`, and `NoMemory`;
+    /// then no share more is out.
+    pub fn pusher<W: Wait>(&self, rt: &W, alloc: Global) -> Result<Pusher<N>, NodeFault>
+        ensures { IfOk result (All (λ share. share.amount ≡ 0)) }
+    {
+        let mut told = Vec::with_capacity(alloc, self.shards.len())?;
+        for place in 0..self.shards.len() {
+            match self.shards[place].lock(rt).push_share(place as u32) {
+                Ok(share) => told.push_reserved(Told { share, amount: 0 }),
+                Err(fault) => {
+                    self.take_back(rt, told);
+                    return Err(fault);
+                }
+            }
+        }
+        Ok(Pusher {
+            told,
+            of: PhantomData,
+        })
+    }
+
+    /// Takes shares of the first shards back that were never raised.
+    fn take_back<W: Wait>(&self, rt: &W, mut told: Vec<Told>)
+        requires all { vec_len told ≤ N.settings.shards }
+        requires own { AreAcceptedIn N.books told.items }
+        requires zero { All (λ share. share.amount ≡ 0) told.items }
+    {
+        while let Some(last) = told.pop() {
+            let place = told.len();
+            let Told { share, amount: _ } = last;
+            self.shards[place]
+                .lock(rt)
+                .take_back_push(place as u32, share);
+        }
+        told.destroy_empty();
+    }
+
+    /// A new tally of what a flusher stores, of nothing. `CounterFull` where 2^62 shares of a shard are out, `Misplaced`, and
+    /// `NoMemory`; then no share more is out.
+    pub fn tally<W: Wait>(&self, rt: &W, alloc: Global) -> Result<FlusherTally, NodeFault>
+        ensures all { IfOk result (λ tally. length tally ≡ N.settings.shards) }
+        ensures own { IfOk result (AreStoredIn N.books) }
+        ensures zero { IfOk result (All (λ share. share.amount ≡ 0)) }
+    {
+        let mut shares = Vec::with_capacity(alloc, self.shards.len())?;
+        for place in 0..self.shards.len() {
+            match self.shards[place].lock(rt).tally_share(place as u32) {
+                Ok(share) => shares.push_reserved(share),
+                Err(fault) => {
+                    self.take_back_tallies(rt, shares);
+                    return Err(fault);
+                }
+            }
+        }
+        Ok(FlusherTally::of_shares(shares))
+    }
+
+    /// Takes shares of the first shards back that were never raised.
+    fn take_back_tallies<W: Wait>(&self, rt: &W, mut shares: Vec<Share>)
+        requires all { vec_len shares ≤ N.settings.shards }
+        requires own { AreStoredIn N.books shares.items }
+        requires zero { All (λ share. share.amount ≡ 0) shares.items }
+    {
+        while let Some(share) = shares.pop() {
+            let place = shares.len();
+            self.shards[place]
+                .lock(rt)
+                .take_back_tally(place as u32, share);
+        }
+        shares.destroy_empty();
+    }
+
+    /// Seals what is due in a shard at this time, and gives one operation for each sealed chunk that waits there, as `Shard::sweep`.
+    /// `Misplaced`, and `NoMemory`: then nothing is sealed.
+    pub fn sweep<W: Wait>(
+        &self,
+        rt: &W,
+        alloc: Global,
+        shard: u32,
+        now: Stamp,
+    ) -> Result<Due, NodeFault>
+        requires { shard < N.settings.shards }
+        ensures { IfOk result (λ due. All (λ op. op.shard ≡ shard) due.ops.items) }
+    {
+        self.shards[shard as usize]
+            .lock(rt)
+            .sweep(shard, alloc, now)
+    }
+
+    /// Seals every growing chunk of a shard, and gives one operation for each sealed chunk that waits there, as
+    /// `Shard::seal_all`. `Misplaced`, and `NoMemory`: then nothing is sealed.
+    pub fn seal_all<W: Wait>(&self, rt: &W, alloc: Global, shard: u32) -> Result<Due, NodeFault>
+        requires { shard < N.settings.shards }
+        ensures { IfOk result (λ due. All (λ op. op.shard ≡ shard) due.ops.items) }
+    {
+        self.shards[shard as usize].lock(rt).seal_all(shard, alloc)
+    }
+
+    /// The gauges of a tenant in a shard, at some moment. `Misplaced`.
+    pub fn gauges<W: Wait>(&self, rt: &W, shard: u32, tenant: &Tenant) -> Result<Gauges, NodeFault>
+        requires { shard < N.settings.shards }
+    {
+        self.shards[shard as usize].lock(rt).gauges(shard, tenant)
+    }
+}

@@ -1,0 +1,130 @@
+//! What a query gives through the locks.
+ghost use Rattle.std.specs.Prelude.{◌≡◌, ◌≤◌, All, IfOk, IfErr, length, vec_len};
+ghost use Rattle.std.specs.List.{AllPass};
+ghost use Rattle.std.specs.List.Sorted.{IsSortedBy};
+ghost use Rattle.ing_parts.specs.Answers.{precedes};
+ghost use Rattle.ing_parts.specs.Parts.{is_within};
+ghost use Rattle.ing_node.specs.AnswerFaults.{IsCaused};
+ghost use Rattle.ing_node.specs.Queries.{AreNoLess, AreSelected, IsAskedOf};
+
+use crate::fault::NodeFault;
+use crate::ingester::Ingester;
+use crate::laws::answers_are_of_snapshots;
+use crate::names::NodeName;
+use crate::pusher::Pusher;
+use ing_labels::Selector;
+use ing_parts::{Found, Question, Snapshot};
+use ing_query::{QueryFault, run_query};
+use ing_rows::Tenant;
+use ing_store::{Receipt, StoreEnd};
+use std::alloc::Global;
+use std::sync::Wait;
+
+/// What a query through the locks gives.
+#[derive(Drop)]
+pub struct Answer {
+    /// The entries, in the order that was asked for.
+    pub entries: Vec<Found>,
+    /// How many entries each shard had accepted when it was looked at, by the shard's number.
+    pub fronts: Vec<u64>,
+}
+
+/// Why a query through the locks is not answered.
+#[derive(Clone, Copy, Debug, PartialEq, Eq)]
+pub enum AnswerFault {
+    /// A lock was not passed.
+    Node(NodeFault),
+    /// The snapshots were not answered from.
+    Query(QueryFault),
+}
+
+impl From<NodeFault> for AnswerFault {
+    ghost use Rattle.std.specs.Prelude.{◌≡◌};
+    ghost use Rattle.ing_node.specs.declared.query.AnswerFault.TheVariants.{Node};
+
+    ghost from_gives = { λ node fault. fault ≡ Node node };
+
+    fn from(fault: NodeFault) -> AnswerFault {
+        AnswerFault::Node(fault)
+    }
+}
+
+impl From<QueryFault> for AnswerFault {
+    ghost use Rattle.std.specs.Prelude.{◌≡◌};
+    ghost use Rattle.ing_node.specs.declared.query.AnswerFault.TheVariants.{Query};
+
+    ghost from_gives = { λ query fault. fault ≡ Query query };
+
+    fn from(fault: QueryFault) -> AnswerFault {
+        AnswerFault::Query(fault)
+    }
+}
+
+impl<N: NodeName, R: Receipt> Ingester<N, R> {
+    /// The entries of a tenant whose labels the selector matches and whose stamp is in the question's range: the first ones in its
+    /// order, at most so many. It looks at one shard after the other, each under its lock, and not at one moment; each has then at
+    /// least as many entries as the pusher was told of, so that who pushed finds what was accepted. The answer is never a partial one.
+    /// (Loki documentation: HTTP API, query range; own.)
+    ///
+    /// `StoreFault` only where the end has failed, and `BadObject` where it gave something else than what is listed; `Misplaced`, and
+    /// `NoMemory`.
+    pub fn query_after<S: StoreEnd<Receipt = R>, W: Wait>(
+        &self,
+        rt: &W,
+        alloc: Global,
+        pusher: &mut Pusher<N>,
+        end: &mut S,
+        tenant: &Tenant,
+        selector: &Selector,
+        question: Question,
+    ) -> Result<Answer, AnswerFault>
+        ensures fronts { IfOk result (λ answer. (vec_len answer.fronts ≡ N.settings.shards)
+            × AreNoLess pusher.old answer.fronts.items) }
+        // Whatever the end gives.
+        ensures selected { IfOk result (λ answer. AreSelected tenant.now selector.now answer.entries.items) }
+        ensures within { IfOk result (λ answer.
+            AllPass (is_within question.start question.end) answer.entries.items) }
+        ensures in_order { IfOk result (λ answer.
+            IsSortedBy (precedes question.order) answer.entries.items) }
+        ensures most { IfOk result (λ answer. length answer.entries.items ≤ question.limit) }
+        ensures same { pusher.new ≡ pusher.old }
+        // A fault of the store has a cause, and an end that never fails stays such an end.
+        ensures count { IsCaused (S.failure_count end.old) (S.failure_count end.new) result }
+        ensures sure { S.never_fails end.old → (S.never_fails end.new)
+            × (S.failure_count end.new ≡ S.failure_count end.old) }
+    {
+        answers_are_of_snapshots::<R>();
+        let (snapshots, fronts) = self.look_after(rt, alloc, pusher, tenant, selector, question)?;
+        let entries = run_query(alloc, snapshots, end, question)?;
+        Ok(Answer { entries, fronts })
+    }
+
+    /// A snapshot of each shard, and how many entries it had accepted.
+    fn look_after<W: Wait>(
+        &self,
+        rt: &W,
+        alloc: Global,
+        pusher: &mut Pusher<N>,
+        tenant: &Tenant,
+        selector: &Selector,
+        question: Question,
+    ) -> Result<(Vec<Snapshot<R>>, Vec<u64>), NodeFault>
+        ensures snapshots { IfOk result (λ looked.
+            All (IsAskedOf tenant.now selector.now question) looked.0.items) }
+        ensures fronts { IfOk result (λ looked. (vec_len looked.1 ≡ N.settings.shards)
+            × AreNoLess pusher.old looked.1.items) }
+        ensures same { pusher.new ≡ pusher.old }
+    {
+        let mut snapshots = Vec::with_capacity(alloc, self.shards.len())?;
+        let mut fronts = Vec::with_capacity(alloc, self.shards.len())?;
+        for place in 0..self.shards.len() {
+            let share = &mut pusher.told[place].share;
+            let snapshot = self.shards[place]
+                .lock(rt)
+                .snapshot(place as u32, alloc, share, tenant, selector, question)?;
+            fronts.push_reserved(snapshot.front);
+            snapshots.push_reserved(snapshot);
+        }
+        Ok((snapshots, fronts))
+    }
+}

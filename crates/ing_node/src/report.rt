@@ -1,0 +1,49 @@
+//! What a closing tells.
+
+use ing_refusals::Refusal;
+use ing_shard::Missing;
+
+/// What a shard had when every share of its books was there.
+#[derive(Clone, Copy, Debug, Default, PartialEq, Eq)]
+pub struct ShardReport {
+    /// How many entries the pushers were told were accepted.
+    pub accepted: u64,
+    /// How many it had from an earlier run: none, since there is no log yet.
+    pub recovered: u64,
+    /// How many are stored.
+    pub stored: u64,
+    /// How many are kept in memory.
+    pub kept: u64,
+}
+
+/// What an ingester had when it was closed: of each shard, by number.
+#[derive(Debug, Drop)]
+pub struct Report {
+    /// Of each shard, by number.
+    pub shards: Vec<ShardReport>,
+}
+
+/// Why an ingester was not closed.
+#[derive(Clone, Copy, Debug, PartialEq, Eq)]
+pub enum CloseRefusal {
+    /// Memory ran out.
+    NoMemory,
+    /// So many shares are missing, over all shards: some pusher, flusher or ticket is still out, or was given up.
+    StillOut(Missing),
+    /// The shard behind the lock at this place has another number.
+    Misplaced {
+        /// The place.
+        shard: u32,
+    },
+}
+
+impl CloseRefusal {
+    /// Which refusal it is. Takes no memory.
+    pub fn refusal(&self) -> Refusal {
+        match self {
+            CloseRefusal::NoMemory => Refusal::NoMemory,
+            CloseRefusal::StillOut(_) => Refusal::StillOut,
+            CloseRefusal::Misplaced { .. } => Refusal::Misplaced,
+        }
+    }
+}
