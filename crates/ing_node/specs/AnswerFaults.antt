@@ -1,6 +1,9 @@
--- What a fault of a query through the locks tells of the store (own).
+-- Which refusal a fault of a query through the locks is, and what it tells of the store (own).
 use Rattle.std.specs.Prelude.{◌≡◌, ℕ, Result, Ok, Err}
+use Rattle.ing_refusals.specs.declared.refusal.Refusal.{Refusal}
 use Rattle.ing_query.specs.Fetched.{Counts}
+use Rattle.ing_query.specs.QueryFaults.{query_refusal_of}
+use Rattle.ing_node.specs.Faults.{refusal_of}
 use Rattle.ing_node.specs.declared.query.AnswerFault.{AnswerFault}
 use Rattle.ing_node.specs.declared.query.AnswerFault.TheVariants.{Node, Query}
 
@@ -10,3 +13,8 @@ abbrev pub IsCaused : {T : Type 0} → ℕ → ℕ → Result T AnswerFault → 
 IsCaused before after (Ok answer) = after ≡ before
 IsCaused before after (Err (Node fault)) = after ≡ before
 IsCaused before after (Err (Query fault)) = Counts before after fault
+
+-- that of the fault in it
+abbrev pub answer_refusal_of : AnswerFault → Refusal
+answer_refusal_of (Node fault) = refusal_of fault
+answer_refusal_of (Query fault) = query_refusal_of fault

@@ -1,5 +1,7 @@
 -- What a closing tells of a shard (own).
 use Rattle.std.specs.Prelude.{◌≡◌, ◌+◌, ◌<◌, ℕ, List, Some, slice_get}
+use Rattle.ing_refusals.specs.declared.refusal.Refusal.{Refusal}
+use Rattle.ing_refusals.specs.declared.refusal.Refusal.TheVariants as refusal
 use Rattle.ing_node.specs.declared.report.ShardReport.{ShardReport}
 use Rattle.ing_node.specs.declared.report.CloseRefusal.{CloseRefusal}
 use Rattle.ing_node.specs.declared.report.CloseRefusal.TheVariants.{NoMemory, StillOut, Misplaced}
@@ -22,3 +24,9 @@ HasReason (Misplaced shard) = Unit {0}
 abbrev pub AreClosed : (ℕ → ℕ) → (ℕ → ℕ) → List ShardReport → Type 0
 AreClosed told counted reports =
     (i : ℕ) (report : ShardReport) → slice_get reports i ≡ Some report → IsClosed (told i) (counted i) report
+
+-- the refusal of the same name
+abbrev pub close_refusal_of : CloseRefusal → Refusal
+close_refusal_of NoMemory = refusal.NoMemory
+close_refusal_of (StillOut missing) = refusal.StillOut
+close_refusal_of (Misplaced shard) = refusal.Misplaced

@@ -4,7 +4,7 @@ ghost use Rattle.std.specs.List.{AllPass};
 ghost use Rattle.std.specs.List.Sorted.{IsSortedBy};
 ghost use Rattle.ing_parts.specs.Answers.{precedes};
 ghost use Rattle.ing_parts.specs.Parts.{is_within};
-ghost use Rattle.ing_node.specs.AnswerFaults.{IsCaused};
+ghost use Rattle.ing_node.specs.AnswerFaults.{IsCaused, answer_refusal_of};
 ghost use Rattle.ing_node.specs.Queries.{AreNoLess, AreSelected, IsAskedOf};
 
 use crate::fault::NodeFault;
@@ -15,6 +15,7 @@ use crate::pusher::Pusher;
 use ing_labels::Selector;
 use ing_parts::{Found, Question, Snapshot};
 use ing_query::{QueryFault, run_query};
+use ing_refusals::Refusal;
 use ing_rows::Tenant;
 use ing_store::{Receipt, StoreEnd};
 use std::alloc::Global;
@@ -36,6 +37,18 @@ pub enum AnswerFault {
     Node(NodeFault),
     /// The snapshots were not answered from.
     Query(QueryFault),
+}
+
+impl AnswerFault {
+    /// Which refusal it is. Takes no memory.
+    pub fn refusal(&self) -> Refusal
+        ensures { result ≡ answer_refusal_of self.now }
+    {
+        match self {
+            AnswerFault::Node(fault) => fault.refusal(),
+            AnswerFault::Query(fault) => fault.refusal(),
+        }
+    }
 }
 
 impl From<NodeFault> for AnswerFault {

@@ -1,4 +1,6 @@
 //! What a closing tells.
+ghost use Rattle.std.specs.Prelude.{◌≡◌};
+ghost use Rattle.ing_node.specs.Reports.{close_refusal_of};
 
 use ing_refusals::Refusal;
 use ing_shard::Missing;
@@ -39,7 +41,9 @@ pub enum CloseRefusal {
 
 impl CloseRefusal {
     /// Which refusal it is. Takes no memory.
-    pub fn refusal(&self) -> Refusal {
+    pub fn refusal(&self) -> Refusal
+        ensures { result ≡ close_refusal_of self.now }
+    {
         match self {
             CloseRefusal::NoMemory => Refusal::NoMemory,
             CloseRefusal::StillOut(_) => Refusal::StillOut,
