@@ -1,7 +1,7 @@
 -- Failures that were answered, and the failures that a store end has counted.
-use Rattle.std.proofs.Common.{◌≡◌, ℕ, ◌+◌, ◌≤◌, arith, inl, inr}
+use Rattle.std.proofs.Common.{◌≡◌, ◌∙◌, ℕ, ◌+◌, ◌≤◌, arith, inl, inr}
 use Rattle.ing_store.specs.StoreFaults.{HasFailed}
-use Rattle.ing_session.specs.Flushing.{HaveCause}
+use Rattle.ing_session.specs.Causes.{GoesOn, HaveCause}
 
 pub no_failure : (n : ℕ) → HaveCause n n 0
 no_failure n = (omega arith, inl (omega arith))
@@ -24,3 +24,7 @@ pub causes_more : (a b c n m : ℕ) → HaveCause a b n → HaveCause b c m → 
 causes_more a b c n m (risen, inl counted) (more, inl next) = (omega (arith, risen, more), inl (omega (arith, counted, next)))
 causes_more a b c n m (risen, inl counted) (more, inr last) = (omega (arith, risen, more), inr last)
 causes_more a b c n m (risen, inr last) (more, next) = (omega (arith, risen, more), inr (omega (arith, last, more)))
+
+-- an end of a store goes on and on
+pub goes_on : {E : Type 0} (never_fails : E → Type 0) (failures : E → ℕ) (a b c : E) → GoesOn never_fails failures a b → GoesOn never_fails failures b c → GoesOn never_fails failures a c
+goes_on never_fails failures a b c h k = (omega (arith, h.0, k.0), λ sure. let mid = h.1 sure in let last = k.1 mid.0 in (last.0, last.1 ∙ mid.1))

@@ -18,7 +18,8 @@ use Rattle.sha2.specs.Sha256.{sha256}
 use Rattle.ing_shard.specs.declared.due.Op.{Op}
 use Rattle.ing_shard.specs.Flights.{Flown, key_in, object_in}
 use Rattle.ing_session.proofs.CausesLaws.{one_failure}
-use Rattle.ing_session.specs.Flushing.{Outcome, NoneWaited, GaveBack, Stored, Ends, EndSo, GoesOn, HaveCause, failed_by, stored_by, failed_among, stored_among}
+use Rattle.ing_session.specs.Causes.{HaveCause}
+use Rattle.ing_session.specs.Flushing.{Outcome, NoneWaited, GaveBack, Stored, Ends, EndSo, failed_by, stored_by, failed_among, stored_among}
 
 same_refl : (a : State) → IsSame a a
 same_refl a = record { rows = IsPermutation-refl a.rows; marks = IsPermutation-refl a.marks }
@@ -90,7 +91,3 @@ pub at_most_one : (o : Outcome) → failed_by o + stored_by o ≤ 1
 at_most_one NoneWaited = omega arith
 at_most_one (GaveBack x) = omega arith
 at_most_one (Stored x) = omega arith
-
--- an end of a store goes on and on
-pub goes_on : {E : Type 0} (never_fails : E → Type 0) (failures : E → ℕ) (a b c : E) → GoesOn never_fails failures a b → GoesOn never_fails failures b c → GoesOn never_fails failures a c
-goes_on never_fails failures a b c h k = (omega (arith, h.0, k.0), λ sure. let mid = h.1 sure in let last = k.1 mid.0 in (last.0, last.1 ∙ mid.1))

@@ -1,12 +1,12 @@
 pub mod LinesLaws
-pub mod StartingLaws
+pub mod KnownLaws
 mod WritingLaws
 pub mod FlushingLaws
 pub mod CausesLaws
 pub mod FrontsLaws
-mod NameLaws
+pub mod NameLaws
 pub mod RunsLaws
-mod ObeyLaws
-mod StreamsLaws
+pub mod ObeyLaws
+pub mod StreamsLaws
 mod EndingsLaws
 pub mod QueryLaws

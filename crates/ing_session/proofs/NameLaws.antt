@@ -5,7 +5,7 @@ use Rattle.ing_labels.specs.Labels.{LabelMap, KeepsLimits}
 use Rattle.ing_labels.specs.Canonical.{canonical_of, CanonicalNamesAreShort}
 use Rattle.ing_rows.specs.declared.rules.Rules.{Rules}
 use Rattle.ing_limits.specs.Ranges.{AreRulesInRange}
-use Rattle.ing_session.specs.Session.{limits_of}
+use Rattle.ing_session.specs.ByRows.{limits_of}
 
 pub short_name : (rules : Rules) (m : LabelMap) → CanonicalNamesAreShort → AreRulesInRange rules → KeepsLimits (limits_of rules) m → length (canonical_of m) < 2 ^ 32
 short_name rules m are_short range keeps =

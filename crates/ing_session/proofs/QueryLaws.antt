@@ -21,16 +21,16 @@ use Rattle.ing_query.specs.declared.fault.QueryFault.TheVariants.{NoMemory, Stor
 use Rattle.ing_rows.specs.Rows.{Row, StreamKey}
 use Rattle.ing_store.specs.declared.store_end.Receipt.{Ghosts}
 use Rattle.ing_session.specs.declared.reply.Reply.{Reply}
-use Rattle.ing_session.specs.declared.session.Session.{Session}
+use Rattle.ing_session.specs.declared.one_shard.OneShard.{OneShard}
 use Rattle.ing_commands.specs.Commands.{Query}
 use Rattle.ing_query.specs.QueryFaults.{query_refusal_of}
-use Rattle.ing_session.specs.Flushing.{HaveCause}
+use Rattle.ing_session.specs.Causes.{HaveCause}
 use Rattle.ing_session.specs.Held.{Held, IsHeld}
 use Rattle.ing_session.specs.Queries.{Answer, Refused, Failed, Damaged, QueryMayBe, Reads, IsFound, failed_of}
 use Rattle.ing_commands.specs.QueryCommands.{QueryCommand}
 use Rattle.ing_session.specs.Replies.{fault_data}
 use Rattle.ing_session.specs.Runs.{IsObeyed}
-use Rattle.ing_session.specs.Session.{Queries, query_reply}
+use Rattle.ing_session.specs.ByRows.{Queries, by_rows, query_reply}
 use Rattle.ing_session.specs.Views.{reply_data}
 use Rattle.ing_session.proofs.CausesLaws.{no_failure, one_failure, same_count}
 
@@ -64,10 +64,10 @@ risen before after NoMemory counted = counted
 risen before after (StoreFault key) counted = counted.0
 risen before after (BadObject key) counted = omega (arith, counted)
 
-module _ {R : Type 0} {g : Ghosts R} (honest : Type 0) (settings : StoreSettings) (query : QueryCommand) (session : Session R g) where
+module _ {R : Type 0} {g : Ghosts R} (honest : Type 0) (settings : StoreSettings) (query : QueryCommand) (one : OneShard R g) where
   -- a query that came to this is obeyed
-  pub obeys_query : (old : Held) (answer : Answer) (before after : ℕ) (reply : Data) → IsHeld session old → QueryMayBe honest query answer old.state.rows
-      → reply ≡ query_reply answer old → HaveCause before after (failed_of answer) → IsObeyed honest settings (Ok (Query query)) old session before after reply
+  pub obeys_query : (old : Held) (answer : Answer) (before after : ℕ) (reply : Data) → IsHeld one old → QueryMayBe honest query answer old.state.rows
+      → reply ≡ query_reply answer old → HaveCause before after (failed_of answer) → IsObeyed (by_rows honest) settings (Ok (Query query)) old (IsHeld one) before after reply
   obeys_query old answer before after reply holds may_be told causes =
       record {
         failed = failed_of answer;
@@ -80,7 +80,7 @@ module _ {R : Type 0} {g : Ghosts R} (honest : Type 0) (settings : StoreSettings
   -- its text is refused
   pub refused : (n : ℕ) (fault : TextFault) (r : Result Reply AllocError) → IsSelectorFault query.text fault → (fault ≡ texts.NoMemory → IsErr r)
       → IfOk r (λ reply. reply_data reply ≡ fault_data (text_refusal_of fault) (text_fault_place fault))
-      → IfOk r (λ reply. (old : Held) → IsHeld session old → IsObeyed honest settings (Ok (Query query)) old session n n (reply_data reply))
+      → IfOk r (λ reply. (old : Held) → IsHeld one old → IsObeyed (by_rows honest) settings (Ok (Query query)) old (IsHeld one) n n (reply_data reply))
   refused n fault (Err e) is memory told = tt
   refused n fault (Ok reply) is memory told = λ old holds.
       let other : fault ≢ texts.NoMemory = λ none. (let no = memory none in absurd cc) in
@@ -89,7 +89,7 @@ module _ {R : Type 0} {g : Ghosts R} (honest : Type 0) (settings : StoreSettings
   -- the store does not let it be answered
   pub not_answered : (before after : ℕ) (fault : QueryFault) (r : Result Reply AllocError) → Reads query.text → (honest → NotBad fault) → Counts before after fault
       → (fault ≡ NoMemory → IsErr r) → IfOk r (λ reply. reply_data reply ≡ fault_data (query_refusal_of fault) None)
-      → IfOk r (λ reply. (old : Held) → IsHeld session old → IsObeyed honest settings (Ok (Query query)) old session before after (reply_data reply))
+      → IfOk r (λ reply. (old : Held) → IsHeld one old → IsObeyed (by_rows honest) settings (Ok (Query query)) old (IsHeld one) before after (reply_data reply))
   not_answered before after fault (Err e) reads good counted memory told = tt
   not_answered before after NoMemory (Ok reply) reads good counted memory told = let no = memory refl in absurd cc
   not_answered before after (StoreFault key) (Ok reply) reads good counted memory told = λ old holds.

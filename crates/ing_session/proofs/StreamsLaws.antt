@@ -18,7 +18,7 @@ use Rattle.ing_session.specs.Replies.{fault_data, judged_data}
 use Rattle.ing_rows.specs.declared.rules.Rules.{Rules}
 use Rattle.ing_session.specs.Held.{Held}
 use Rattle.ing_commands.specs.PushCommands.{StreamEntries}
-use Rattle.ing_session.specs.Session.{limits_of, is_too_many, with_pushed, stream_reply, after_stream, stream_replies, after_streams}
+use Rattle.ing_session.specs.ByRows.{limits_of, is_too_many, with_pushed, stream_reply, after_stream, stream_replies, after_streams}
 
 module _ (rules : Rules) (tenant : List ℕ) (now : ℕ) where
   pub after_more : (ss : List StreamEntries) (s : StreamEntries) (held : Held) → after_streams rules tenant now (ss ++ s ∷ []) held ≡ after_stream rules tenant now s (after_streams rules tenant now ss held)

@@ -1,15 +1,18 @@
 -- How the program ends on a fault (own).
-use Rattle.std.specs.Prelude.{ℕ, List, [], ◌∷◌, ◌++◌, codes, Result, Ok, Err, Bool, true, false, Option, Some, None, string_bytes}
+use Rattle.std.specs.Prelude.{◌≡◌, ℕ, List, [], ◌∷◌, ◌++◌, codes, Result, Ok, Err, Bool, true, false, Option, Some, None, string_bytes}
 use Rattle.ing_refusals.specs.declared.refusal.Refusal as table
 use Rattle.ing_refusals.specs.declared.refusal.Refusal.TheVariants as refusals
 use Rattle.ing_refusals.specs.Refusals.{refusal_name}
 use Rattle.ing_limits.specs.Settings.{Refusal, not_toml, unknown_setting, bad_setting}
 use Rattle.ing_limits.specs.declared.fault.SettingsFault.{SettingsFault}
 use Rattle.ing_limits.specs.declared.fault.SettingsFault.TheVariants as settings
+use Rattle.ing_node.specs.Faults as node
+use Rattle.ing_node.specs.declared.fault.NodeFault.{NodeFault}
+use Rattle.ing_node.specs.declared.fault.NodeFault.TheVariants as node_faults
 use Rattle.ing_session.specs.declared.lines.LineError.{LineError}
 use Rattle.ing_session.specs.declared.lines.LineError.TheVariants as lines
 use Rattle.ing_session.specs.declared.ending.Ending.{Ending}
-use Rattle.ing_session.specs.declared.ending.Ending.TheVariants.{NoMemory, NotToml, UnknownSetting, BadSetting, InputFault, OutputFault, BadArguments, NoSettings}
+use Rattle.ing_session.specs.declared.ending.Ending.TheVariants.{NoMemory, NotToml, UnknownSetting, BadSetting, InputFault, OutputFault, BadArguments, NoSettings, NotOpened}
 
 abbrev pub ending_refusal : Ending → table.Refusal
 ending_refusal NoMemory = refusals.NoMemory
@@ -20,8 +23,10 @@ ending_refusal InputFault = refusals.InputFault
 ending_refusal OutputFault = refusals.OutputFault
 ending_refusal BadArguments = refusals.BadArguments
 ending_refusal NoSettings = refusals.NoSettings
+ending_refusal (NotOpened fault) = node.refusal_of fault
 
--- the exit status: 1 where arguments or settings are refused, 2 where input or output failed, 3 where memory ran out
+-- the exit status: 1 where arguments or settings are refused, 2 where input or output failed, 3 where memory ran out or
+-- the ingester was not opened
 abbrev pub ending_status : Ending → ℕ
 ending_status NoMemory = 3
 ending_status NotToml = 1
@@ -31,6 +36,7 @@ ending_status InputFault = 2
 ending_status OutputFault = 2
 ending_status BadArguments = 1
 ending_status NoSettings = 1
+ending_status (NotOpened fault) = 3
 
 -- the exit status of the program
 abbrev pub status_of : Result (Unit {0}) Ending → ℕ
@@ -51,6 +57,7 @@ is_of_run InputFault = true
 is_of_run OutputFault = true
 is_of_run BadArguments = false
 is_of_run NoSettings = false
+is_of_run (NotOpened fault) = false
 
 -- what it says of a settings text; the other endings say nothing of it
 abbrev pub refusal_of : Ending → Option Refusal
@@ -62,6 +69,7 @@ refusal_of InputFault = None
 refusal_of OutputFault = None
 refusal_of BadArguments = None
 refusal_of NoSettings = None
+refusal_of (NotOpened fault) = None
 
 -- the ending where a line could not be read
 abbrev pub ending_of_line : LineError → Ending
@@ -75,3 +83,14 @@ ending_of_settings settings.NoMemory = NoMemory
 ending_of_settings settings.NotToml = NotToml
 ending_of_settings (settings.UnknownSetting name) = UnknownSetting name
 ending_of_settings (settings.BadSetting name) = BadSetting name
+
+-- the ending where the ingester refused a pusher or a flusher: memory that ran out is its own ending
+abbrev pub ending_of_node : NodeFault → Ending
+ending_of_node node_faults.NoMemory = NoMemory
+ending_of_node node_faults.CounterFull = NotOpened node_faults.CounterFull
+ending_of_node node_faults.TooManyEntries = NotOpened node_faults.TooManyEntries
+ending_of_node (node_faults.Misplaced shard) = NotOpened (node_faults.Misplaced shard)
+
+-- it is one of these
+abbrev pub IsNotOpened : Ending → Type 0
+IsNotOpened ending = (fault : NodeFault) × (ending ≡ NotOpened fault)

@@ -1,5 +1,5 @@
 -- What becomes of the operations that a flush works off.
-use Rattle.std.specs.Prelude.{◌≡◌, ◌⊎◌, ℕ, ◌+◌, ◌^◌, ◌≤◌, List, [], ◌∷◌, sum_by, slice_get, Option, Some, None}
+use Rattle.std.specs.Prelude.{◌≡◌, ℕ, List, [], ◌∷◌, sum_by, slice_get, Option, Some, None}
 use Rattle.sha2.specs.Sha256.{sha256}
 use Rattle.ing_codec.specs.ChunkObjects.{chunk_text}
 use Rattle.ing_rows.specs.declared.rules.Rules.{Rules}
@@ -62,13 +62,3 @@ EndSo rules listed (op ∷ ops) (outcome ∷ outcomes) old new =
     (mid : State) × Ends rules (slice_get listed op.stream) outcome old mid × EndSo rules listed ops outcomes mid new
 EndSo rules listed [] (outcome ∷ outcomes) old new = ⊥
 EndSo rules listed (op ∷ ops) [] old new = ⊥
-
--- So many uploads and queries failed between two readings of a store end's count of failures: it rose by as many at least, or it
--- stands at its last value, 2^64-1. It is given as 64 bits, so it is never more.
-abbrev pub HaveCause : ℕ → ℕ → ℕ → Type 0
-HaveCause before after failed = (before ≤ after) × ((before + failed ≤ after) ⊎ (2 ^ 64 ≤ after + 1))
-
--- what calls leave of an end of a store: its count of failures does not fall, and where it never fails it stays so, and the count
--- stays too
-abbrev pub GoesOn : {E : Type 0} → (E → Type 0) → (E → ℕ) → E → E → Type 0
-GoesOn never_fails failures old new = (failures old ≤ failures new) × (never_fails old → never_fails new × (failures new ≡ failures old))

@@ -4,105 +4,113 @@ use Rattle.std.specs.List.{AllByRecursion, flat_map}
 use Rattle.std.specs.Io.KnownBytes.{Appends, Consumes, append_known}
 use Rattle.ing_limits.specs.Settings.{StoreSettings}
 use Rattle.serde_json.specs.Data.{Data}
-use Rattle.ing_rows.specs.Rows.{State}
 use Rattle.ing_commands.specs.declared.fault.LineFault.{LineFault}
 use Rattle.ing_commands.specs.Commands.{Command}
-use Rattle.ing_session.specs.Flushing.{Outcome, HaveCause, failed_among, stored_among}
+use Rattle.ing_session.specs.Causes.{HaveCause}
 use Rattle.ing_session.specs.Fronts.{AppendsFront}
 use Rattle.ing_session.specs.Lines.{lines_of, with_feed}
-use Rattle.ing_store.specs.declared.store_end.Receipt.{Ghosts}
-use Rattle.ing_session.specs.declared.session.Session.{Session}
-use Rattle.ing_session.specs.Held.{Held, nothing_held, IsHeld}
 use Rattle.ing_session.specs.Parts.{HasNoFeed}
-use Rattle.ing_session.specs.Session.{Turn, turn, FlushMayBe, Obeys, MayBe, MayBeFrom, after_flush, answers_of, failed_in, held_after, lines_in, output_of}
+use Rattle.ing_session.specs.Replies.{line_text}
+use Rattle.ing_session.specs.Manners.{Manner, Turn, turn, Obeys, MayBe, MayBeFrom, answers_of, failed_in, held_after, lines_in, output_of}
 
--- These lines may be answered so from nothing on, over an end of the store that is honest or not and counts its failures from
--- before to after.
-pub record MayBeAnswered (honest : Type 0) (settings : StoreSettings) (before after : ℕ) (turns : List Turn) : Type 0 where
-  pub flushes : MayBeFrom honest settings nothing_held turns
+-- These lines may be answered so from nothing on, over an end of the store that counts its failures from before to after.
+pub record MayBeAnswered (m : Manner) (settings : StoreSettings) (before after : ℕ) (turns : List (Turn m.Held)) : Type 0 where
+  pub flushes : MayBeFrom m settings m.nothing turns
   pub causes : HaveCause before after (failed_in turns)
 
 -- Where the input came to its end: the answers to all its lines and the report, and nothing else.
-pub record AnswersAll (honest : Type 0) (settings : StoreSettings) (input : List ℕ) (before after : ℕ) (old new : Option (List ℕ)) : Type 0 where
-  pub turns : List Turn
+pub record AnswersAll (m : Manner) (settings : StoreSettings) (input : List ℕ) (before after : ℕ) (old new : Option (List ℕ)) : Type 0 where
+  pub turns : List (Turn m.Held)
   pub all : lines_of input ≡ lines_in turns
-  pub may_be : MayBeAnswered honest settings before after turns
-  pub answered : Appends old new (output_of turns)
+  pub may_be : MayBeAnswered m settings before after turns
+  pub report : Data
+  pub reports : m.reports (held_after m.nothing turns) report
+  pub answered : Appends old new (output_of turns report)
 
 -- Where a read failed: the answers to all lines that were read whole, with their line feeds, and nothing else.
-pub record AnswersWhatWasRead (honest : Type 0) (settings : StoreSettings) (input : List ℕ) (rest : Option (List ℕ)) (before after : ℕ) (old new : Option (List ℕ)) : Type 0 where
-  pub turns : List Turn
+pub record AnswersWhatWasRead (m : Manner) (settings : StoreSettings) (input : List ℕ) (rest : Option (List ℕ)) (before after : ℕ) (old new : Option (List ℕ)) : Type 0 where
+  pub turns : List (Turn m.Held)
   pub last : List ℕ
   pub no_feeds : AllByRecursion HasNoFeed (lines_in turns)
   pub no_feed : HasNoFeed last
   pub read : Consumes (Some input) rest (flat_map with_feed (lines_in turns) ++ last)
-  pub may_be : MayBeAnswered honest settings before after turns
+  pub may_be : MayBeAnswered m settings before after turns
   pub answered : Appends old new (answers_of turns)
 
 -- Where memory ran out: the answers to the first lines of the input, each whole, and nothing else.
-pub record AnswersFirstLines (honest : Type 0) (settings : StoreSettings) (input : List ℕ) (before after : ℕ) (old new : Option (List ℕ)) : Type 0 where
-  pub turns : List Turn
+pub record AnswersFirstLines (m : Manner) (settings : StoreSettings) (input : List ℕ) (before after : ℕ) (old new : Option (List ℕ)) : Type 0 where
+  pub turns : List (Turn m.Held)
   pub others : List (List ℕ)
   pub first : lines_of input ≡ lines_in turns ++ others
-  pub may_be : MayBeAnswered honest settings before after turns
+  pub may_be : MayBeAnswered m settings before after turns
   pub answered : Appends old new (answers_of turns)
+
+-- the answers may be followed by a report, of which a front is written
+pub record BeginsReport (m : Manner) (turns : List (Turn m.Held)) (old new : Option (List ℕ)) : Type 0 where
+  pub report : Data
+  pub reports : m.reports (held_after m.nothing turns) report
+  pub front : AppendsFront old new (output_of turns report)
 
 -- Where a write failed: a front of the answers to the first lines of the input, and nothing else. Where these are all its lines,
 -- the report may have been begun too.
-pub record AnswersFront (honest : Type 0) (settings : StoreSettings) (input : List ℕ) (before after : ℕ) (old new : Option (List ℕ)) : Type 0 where
-  pub turns : List Turn
+pub record AnswersFront (m : Manner) (settings : StoreSettings) (input : List ℕ) (before after : ℕ) (old new : Option (List ℕ)) : Type 0 where
+  pub turns : List (Turn m.Held)
   pub others : List (List ℕ)
   pub first : lines_of input ≡ lines_in turns ++ others
-  pub may_be : MayBeAnswered honest settings before after turns
-  pub front : AppendsFront old new (answers_of turns) ⊎ ((others ≡ []) × AppendsFront old new (output_of turns))
+  pub may_be : MayBeAnswered m settings before after turns
+  pub front : AppendsFront old new (answers_of turns) ⊎ ((others ≡ []) × BeginsReport m turns old new)
 
 -- ---- for private clauses
 
--- a flush worked its operations off: so many uploads failed and so many chunks were stored
-pub record IsFlushed {R : Type 0} {g : Ghosts R} (settings : StoreSettings) (old : Held) (new : Session R g) (before after failed stored : ℕ) : Type 0 where
-  pub outcomes : List Outcome
-  pub left : State
-  pub may_be : FlushMayBe settings outcomes left old
-  pub failures : failed ≡ failed_among outcomes
-  pub successes : stored ≡ stored_among outcomes
-  pub causes : HaveCause before after failed
-  pub holds : IsHeld new (after_flush left old)
+-- all lines are answered, and nothing is reported yet
+pub record AnswersLines (m : Manner) (settings : StoreSettings) (now_holds : m.Held → Type 0) (input : List ℕ) (before after : ℕ) (old new : Option (List ℕ)) : Type 0 where
+  pub turns : List (Turn m.Held)
+  pub all : lines_of input ≡ lines_in turns
+  pub holds : now_holds (held_after m.nothing turns)
+  pub may_be : MayBeAnswered m settings before after turns
+  pub answered : Appends old new (answers_of turns)
+
+-- a report of this is put behind the replies
+pub record Reports (m : Manner) (held : m.Held) (replies with_report : List ℕ) : Type 0 where
+  pub report : Data
+  pub reports : m.reports held report
+  pub told : with_report ≡ replies ++ line_text report
 
 -- what a line says is obeyed, with this reply
-pub record IsObeyed {R : Type 0} {g : Ghosts R} (honest : Type 0) (settings : StoreSettings) (said : Result Command LineFault) (old : Held) (new : Session R g) (before after : ℕ) (reply : Data) : Type 0 where
+pub record IsObeyed (m : Manner) (settings : StoreSettings) (said : Result Command LineFault) (old : m.Held) (now_holds : m.Held → Type 0) (before after : ℕ) (reply : Data) : Type 0 where
   pub failed : ℕ
-  pub left : Held
-  pub obeys : Obeys honest settings old left failed reply said
+  pub left : m.Held
+  pub obeys : Obeys m settings old left failed reply said
   pub causes : HaveCause before after failed
-  pub holds : IsHeld new left
+  pub holds : now_holds left
 
 -- a line is answered, behind the replies that were held back
-pub record Answers {R : Type 0} {g : Ghosts R} (honest : Type 0) (settings : StoreSettings) (line : List ℕ) (old : Held) (new : Session R g) (before after : ℕ) (replies with_answer : List ℕ) : Type 0 where
+pub record Answers (m : Manner) (settings : StoreSettings) (line : List ℕ) (old : m.Held) (now_holds : m.Held → Type 0) (before after : ℕ) (replies with_answer : List ℕ) : Type 0 where
   pub answer : List ℕ
   pub failed : ℕ
-  pub left : Held
-  pub may_be : MayBe honest settings (turn line answer failed left) old
+  pub left : m.Held
+  pub may_be : MayBe m settings (turn line answer failed left) old
   pub told : with_answer ≡ replies ++ answer
   pub causes : HaveCause before after failed
-  pub holds : IsHeld new left
+  pub holds : now_holds left
 
 -- what a writer holds, and then the replies that are held back
 abbrev pub with_replies : Option (List ℕ) → List ℕ → Option (List ℕ)
 with_replies contents replies = append_known contents replies
 
 -- While a run goes on: the lines that were answered, with their line feeds, are what was read of the input but for what is
--- left; once the input is at its end, all lines were answered. The session holds what these lines leave.
-pub record Serves {R : Type 0} {g : Ghosts R} (honest : Type 0) (settings : StoreSettings) (session : Session R g) (input : List ℕ) (before after : ℕ) (old new : Option (List ℕ)) (at_end : Bool) (left : List ℕ) : Type 0 where
-  pub turns : List Turn
+-- left; once the input is at its end, all lines were answered. What these lines leave is held, under these settings.
+pub record Serves (m : Manner) (settings now_settings : StoreSettings) (now_holds : m.Held → Type 0) (input : List ℕ) (before after : ℕ) (old new : Option (List ℕ)) (at_end : Bool) (left : List ℕ) : Type 0 where
+  pub turns : List (Turn m.Held)
   pub no_feeds : AllByRecursion HasNoFeed (lines_in turns)
   pub taken : at_end ≡ false → input ≡ flat_map with_feed (lines_in turns) ++ left
   pub read : at_end ≡ true → (lines_of input ≡ lines_in turns) × (left ≡ [])
-  pub settings_are : session.shard.settings ≡ settings
-  pub holds : IsHeld session (held_after nothing_held turns)
-  pub may_be : MayBeAnswered honest settings before after turns
+  pub settings_are : now_settings ≡ settings
+  pub holds : now_holds (held_after m.nothing turns)
+  pub may_be : MayBeAnswered m settings before after turns
   pub answered : Appends old new (answers_of turns)
 
 -- the same where the bytes that are left are known
-abbrev pub ServesKnown : {R : Type 0} {g : Ghosts R} → Type 0 → StoreSettings → Session R g → List ℕ → ℕ → ℕ → Option (List ℕ) → Option (List ℕ) → Bool → Option (List ℕ) → Type 0
-ServesKnown honest settings session input before after old new at_end None = ⊥
-ServesKnown honest settings session input before after old new at_end (Some left) = Serves honest settings session input before after old new at_end left
+abbrev pub ServesKnown : (m : Manner) → StoreSettings → StoreSettings → (m.Held → Type 0) → List ℕ → ℕ → ℕ → Option (List ℕ) → Option (List ℕ) → Bool → Option (List ℕ) → Type 0
+ServesKnown m settings now_settings now_holds input before after old new at_end None = ⊥
+ServesKnown m settings now_settings now_holds input before after old new at_end (Some left) = Serves m settings now_settings now_holds input before after old new at_end left

@@ -1,5 +1,5 @@
 -- What replies hold, without where it lies in memory.
-use Rattle.std.specs.Prelude.{[], ◌∷◌, map, None}
+use Rattle.std.specs.Prelude.{map, None}
 use Rattle.ing_session.specs.declared.reply.Reply.{Reply}
 use Rattle.ing_session.specs.declared.reply.Reply.TheVariants as replies
 use Rattle.ing_session.specs.declared.reply.StreamReply.{StreamReply}
@@ -19,7 +19,7 @@ reply_data (replies.Fault refusal) = fault_data refusal None
 reply_data (replies.Push streams) = push_data (map stream_data streams.items)
 reply_data (replies.Sweep queued sealed) = sweep_data queued sealed
 reply_data (replies.Flush failed sealed stored) = flush_data failed sealed stored
-reply_data (replies.Gauges gauges) = gauges_data (gauges ∷ [])
+reply_data (replies.Gauges gauges) = gauges_data gauges.items
 reply_data (replies.Refused refusal at) = fault_data refusal at
-reply_data (replies.Query found front) = query_data found.items (front ∷ [])
-reply_data (replies.Report shard) = report_data (shard ∷ [])
+reply_data (replies.Query found fronts) = query_data found.items fronts.items
+reply_data (replies.Report shards) = report_data shards.items

@@ -4,6 +4,7 @@ ghost use Rattle.ing_session.specs.Endings.{ending_refusal, ending_status};
 
 use crate::lines::LineError;
 use ing_limits::SettingsFault;
+use ing_node::NodeFault;
 use ing_refusals::Refusal;
 use std::alloc::{AllocError, AllocFailed};
 
@@ -26,6 +27,8 @@ pub enum Ending {
     BadArguments,
     /// The settings file cannot be read.
     NoSettings,
+    /// The ingester refused a pusher or a flusher, before anything was read.
+    NotOpened(NodeFault),
 }
 
 impl Ending {
@@ -42,11 +45,12 @@ impl Ending {
             Ending::OutputFault => Refusal::OutputFault,
             Ending::BadArguments => Refusal::BadArguments,
             Ending::NoSettings => Refusal::NoSettings,
+            Ending::NotOpened(fault) => fault.refusal(),
         }
     }
 
     /// The exit status of the program: 1 where arguments or settings are refused, 2 where input or output failed, 3 where
-    /// memory ran out (own). Takes no memory.
+    /// memory ran out or the ingester was not opened (own). Takes no memory.
     pub fn status(&self) -> u8
         ensures { result ≡ ending_status self.now }
     {
@@ -57,7 +61,7 @@ impl Ending {
             | Ending::BadArguments
             | Ending::NoSettings => 1,
             Ending::InputFault | Ending::OutputFault => 2,
-            Ending::NoMemory => 3,
+            Ending::NoMemory | Ending::NotOpened(_) => 3,
         }
     }
 }
@@ -110,6 +114,20 @@ impl From<SettingsFault> for Ending {
             SettingsFault::NotToml => Ending::NotToml,
             SettingsFault::UnknownSetting { name } => Ending::UnknownSetting { name },
             SettingsFault::BadSetting { name } => Ending::BadSetting { name },
+        }
+    }
+}
+
+impl From<NodeFault> for Ending {
+    ghost use Rattle.std.specs.Prelude.{◌≡◌};
+    ghost use Rattle.ing_session.specs.Endings.{ending_of_node};
+
+    ghost from_gives = { λ fault ending. ending ≡ ending_of_node fault };
+
+    fn from(fault: NodeFault) -> Ending {
+        match fault {
+            NodeFault::NoMemory => Ending::NoMemory,
+            fault => Ending::NotOpened(fault),
         }
     }
 }

@@ -2,15 +2,21 @@
 //! and over any reader and writer.
 #![tactic(auto)]
 
+mod answer;
+mod concluding;
 mod ending;
+mod faults;
 mod lines;
+mod one_shard;
 mod output;
-mod program;
 mod reply;
-mod session;
+mod service;
 mod transport;
 
+pub use concluding::conclude;
 pub use ending::Ending;
+pub use faults::{label_fault, label_limits, query_fault, selector_fault};
 pub use lines::{LineError, Lines, NextLine, Part, lines_end_at_line_feeds};
-pub use program::{conclude, start, start_on};
-pub use transport::run;
+pub use reply::{Reply, StreamReply};
+pub use service::Service;
+pub use transport::{run, serve_all};

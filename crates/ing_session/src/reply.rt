@@ -1,5 +1,5 @@
 //! The replies, and the lines that they are written as.
-ghost use Rattle.std.specs.Prelude.{◌≡◌, ◌++◌, ◌∷◌, [], OnOk, OnErr, codes, decimal, map};
+ghost use Rattle.std.specs.Prelude.{◌≡◌, ◌++◌, OnOk, OnErr, codes, decimal, map};
 ghost use Rattle.ing_session.specs.Replies.{verdict_data, verdicts_data, fault_data, judged_data, push_data, sweep_data, flush_data, gauge_data, gauges_data, tenant_data, entry_data, query_data, shard_data, report_data, line_text, count};
 ghost use Rattle.ing_session.specs.Views.{stream_data, reply_data};
 ghost use Rattle.ing_session.specs.Written.{Adds, member_tokens, data_tokens, tokens_of_each};
@@ -8,6 +8,7 @@ ghost use Rattle.serde_json.specs.View.{items_of};
 ghost use Rattle.ing_labels.specs.Canonical.{canonical_of};
 
 use ing_labels::Labels;
+use ing_node::ShardReport;
 use ing_parts::Found;
 use ing_refusals::Refusal;
 use ing_rows::{Gauge, Gauges, Verdict};
@@ -32,20 +33,20 @@ pub enum Reply {
         sealed: u64,
         stored: u64,
     },
-    /// What the one shard counts of a tenant.
-    Gauges(Gauges),
+    /// What each shard counts of a tenant, by the shard's number.
+    Gauges(Vec<Gauges>),
     /// The text of a query is refused, with the place at fault where there is one.
     Refused {
         refusal: Refusal,
         at: Option<usize>,
     },
-    /// What a query gives, and how many entries the one shard had accepted.
+    /// What a query gives, and how many entries each shard had accepted, by the shard's number.
     Query {
         found: Vec<Found>,
-        front: u64,
+        fronts: Vec<u64>,
     },
-    /// What is reported of the one shard.
-    Report(ShardReport),
+    /// What is reported of each shard, by its number.
+    Report(Vec<ShardReport>),
 }
 
 /// The reply to one stream of a push.
@@ -62,19 +63,6 @@ pub enum StreamReply {
         durable: bool,
         verdicts: Vec<Verdict>,
     },
-}
-
-/// What is reported of a shard, in counts of entries.
-#[derive(Clone, Copy, Debug)]
-pub struct ShardReport {
-    /// Accepted in this run.
-    pub accepted: u64,
-    /// Kept in memory.
-    pub kept: u64,
-    /// Recovered from an earlier run.
-    pub recovered: u64,
-    /// Stored.
-    pub stored: u64,
 }
 
 /// Room that most replies fit into, in bytes.
@@ -110,8 +98,8 @@ fn write_reply(alloc: Global, out: &mut Writer, reply: &Reply) -> Result<(), All
         } => write_flush(out, *failed, *sealed, *stored),
         Reply::Gauges(gauges) => write_gauges(alloc, out, gauges),
         Reply::Refused { refusal, at } => write_fault(out, *refusal, *at),
-        Reply::Query { found, front } => write_query(out, found, *front),
-        Reply::Report(shard) => write_report(out, shard),
+        Reply::Query { found, fronts } => write_query(out, found, fronts),
+        Reply::Report(shards) => write_report(out, shards),
     }
 }
 
@@ -310,18 +298,28 @@ fn write_flush(out: &mut Writer, failed: u64, sealed: u64, stored: u64) -> Resul
     Ok(())
 }
 
-/// Writes the gauges of a tenant in the one shard.
-fn write_gauges(alloc: Global, out: &mut Writer, gauges: &Gauges) -> Result<(), AllocError>
-    ensures tokens { OnOk result
-        (Adds out.old out.new (data_tokens (gauges_data (gauges.now ∷ [])))) }
+/// Writes the gauges of a tenant in each shard.
+fn write_gauges(alloc: Global, out: &mut Writer, gauges: &[Gauges]) -> Result<(), AllocError>
+    ensures tokens { OnOk result (Adds out.old out.new (data_tokens (gauges_data gauges.now))) }
     ensures before { out.new.before ≡ out.old.before }
 {
     out.begin_object()?;
     out.key("gauges")?;
     out.begin_array()?;
-    write_tenant(alloc, out, gauges)?;
+    write_each_tenant(alloc, out, gauges)?;
     out.end_array()?;
     out.end_object()?;
+    Ok(())
+}
+
+fn write_each_tenant(alloc: Global, out: &mut Writer, gauges: &[Gauges]) -> Result<(), AllocError>
+    ensures tokens { OnOk result (Adds out.old out.new
+        (tokens_of_each (map tenant_data gauges.now))) }
+    ensures before { out.new.before ≡ out.old.before }
+{
+    for of_shard in gauges {
+        write_tenant(alloc, out, of_shard)?;
+    }
     Ok(())
 }
 
@@ -365,31 +363,41 @@ fn write_bytes(alloc: Global, out: &mut Writer, bytes: u128) -> Result<(), Alloc
 }
 
 /// Writes what a query gives.
-fn write_query(out: &mut Writer, found: &[Found], front: u64) -> Result<(), AllocError>
+fn write_query(out: &mut Writer, found: &[Found], fronts: &[u64]) -> Result<(), AllocError>
     ensures tokens { OnOk result
-        (Adds out.old out.new (data_tokens (query_data found.now (front ∷ [])))) }
+        (Adds out.old out.new (data_tokens (query_data found.now fronts.now))) }
     ensures before { out.new.before ≡ out.old.before }
 {
     out.begin_object()?;
     out.key("query")?;
     out.begin_object()?;
     write_entries(out, found)?;
-    write_front(out, front)?;
+    write_fronts(out, fronts)?;
     out.end_object()?;
     out.end_object()?;
     Ok(())
 }
 
-/// Writes how many entries the one shard had accepted.
-fn write_front(out: &mut Writer, front: u64) -> Result<(), AllocError>
+/// Writes how many entries each shard had accepted.
+fn write_fronts(out: &mut Writer, fronts: &[u64]) -> Result<(), AllocError>
     ensures tokens { OnOk result (Adds out.old out.new
-        (member_tokens (codes "fronts") (array (items_of (map count (front ∷ [])))))) }
+        (member_tokens (codes "fronts") (array (items_of (map count fronts.now))))) }
     ensures before { out.new.before ≡ out.old.before }
 {
     out.key("fronts")?;
     out.begin_array()?;
-    out.u64(front)?;
+    write_each_front(out, fronts)?;
     out.end_array()?;
+    Ok(())
+}
+
+fn write_each_front(out: &mut Writer, fronts: &[u64]) -> Result<(), AllocError>
+    ensures tokens { OnOk result (Adds out.old out.new (tokens_of_each (map count fronts.now))) }
+    ensures before { out.new.before ≡ out.old.before }
+{
+    for front in fronts {
+        out.u64(*front)?;
+    }
     Ok(())
 }
 
@@ -430,17 +438,27 @@ fn write_entry(out: &mut Writer, found: &Found) -> Result<(), AllocError>
     Ok(())
 }
 
-/// Writes the report of the one shard.
-fn write_report(out: &mut Writer, shard: &ShardReport) -> Result<(), AllocError>
-    ensures tokens { OnOk result (Adds out.old out.new (data_tokens (report_data (shard.now ∷ [])))) }
+/// Writes the report of each shard.
+fn write_report(out: &mut Writer, shards: &[ShardReport]) -> Result<(), AllocError>
+    ensures tokens { OnOk result (Adds out.old out.new (data_tokens (report_data shards.now))) }
     ensures before { out.new.before ≡ out.old.before }
 {
     out.begin_object()?;
     out.key("report")?;
     out.begin_array()?;
-    write_shard(out, shard)?;
+    write_each_shard(out, shards)?;
     out.end_array()?;
     out.end_object()?;
+    Ok(())
+}
+
+fn write_each_shard(out: &mut Writer, shards: &[ShardReport]) -> Result<(), AllocError>
+    ensures tokens { OnOk result (Adds out.old out.new (tokens_of_each (map shard_data shards.now))) }
+    ensures before { out.new.before ≡ out.old.before }
+{
+    for shard in shards {
+        write_shard(out, shard)?;
+    }
     Ok(())
 }
 

@@ -1,19 +1,23 @@
-//! The transport of a session: lines in from a reader, replies out to a writer. What a line says is not looked at here.
+//! Lines in from a reader, replies out to a writer. What a line says is not looked at here.
 ghost use Rattle.std.specs.Prelude.{◌≡◌, ◌≢◌, ◌<◌, ◌≤◌, [], ℕ, List, Option, IfOk, IfErr, OnOk, OnErr, IsErrOf, IfSome, IsTrue, MatchBool, Err, true, false, vec_len};
 ghost use Rattle.std.specs.Io.KnownBytes.{Appends, Consumes, Keeps, IsAtEnd};
 ghost use Rattle.ing_limits.specs.Settings.{StoreSettings};
+ghost use Rattle.ing_session.specs.ByRows.{by_rows};
 ghost use Rattle.ing_session.specs.Endings.{is_of_run};
-ghost use Rattle.ing_session.specs.Flushing.{GoesOn};
+ghost use Rattle.ing_session.specs.Causes.{GoesOn};
 ghost use Rattle.ing_session.specs.Fronts.{AppendsFront, Grows};
 ghost use Rattle.ing_session.specs.Lines.{TakesLine};
 ghost use Rattle.ing_session.specs.Parts.{HasNoFeed};
-ghost use Rattle.ing_session.specs.Runs.{AnswersAll, AnswersWhatWasRead, AnswersFirstLines, AnswersFront, with_replies, ServesKnown};
+ghost use Rattle.ing_session.specs.Runs.{AnswersAll, AnswersWhatWasRead, AnswersFirstLines, AnswersFront, AnswersLines, Reports, with_replies, ServesKnown};
 ghost use Rattle.ing_session.specs.Unread.{left, is_ended, progress};
 
+use crate::answer::{answer, refuse_long};
 use crate::ending::Ending;
 use crate::lines::{Lines, MAX_LINE, NextLine, Part, found};
+use crate::one_shard::OneShard;
 use crate::output::put_out;
-use crate::session::Session;
+use crate::reply::add_line;
+use crate::service::Service;
 use ing_limits::Settings;
 use ing_store::StoreEnd;
 use std::alloc::Global;
@@ -23,13 +27,7 @@ use std::io::{Read, Write};
 const ENOUGH: usize = 65_536;
 
 /// Reads commands line by line, answers each in a line, and writes a report at the end of input; flushes put into the store
-/// by `end`. The settings are of one shard. Replies are held back while they have fewer than 64 KiB together and a whole
-/// further line is at hand: so the memory that they take does not grow with the lines that are read ahead. They are written
-/// out before anything is read, and before the run ends.
-///
-/// `InputFault` where a read failed or the input took more than 2^40 reads, `NoMemory` where memory ran out: then what was
-/// answered before is written, and no report. `OutputFault` where a write failed: then a front of the answers is written, with
-/// the report behind them where the input was at its end, and nothing else. (Own.)
+/// by `end`. The settings are of one shard. As `serve_all`, of which it is the run over a shard that nobody shares. (Own.)
 pub fn run<R: Read, W: Write, S: StoreEnd>(
     alloc: Global,
     reader: &mut R,
@@ -41,24 +39,62 @@ pub fn run<R: Read, W: Write, S: StoreEnd>(
     // What is written is, line for line, what the model answers to the lines read, by how the uploads ended; and each that
     // failed has a cause of its own.
     ensures output { OnOk result (IfSome (R.remaining reader.old) (λ input.
-        AnswersAll S.is_honest settings input (S.failure_count end.old) (S.failure_count end.new)
+        AnswersAll (by_rows S.is_honest) settings input (S.failure_count end.old) (S.failure_count end.new)
         (W.contents writer.old) (W.contents writer.new))) }
     ensures input_fault { IsErrOf result Ending.InputFault → IfSome (R.remaining reader.old) (λ input.
-        AnswersWhatWasRead S.is_honest settings input (R.remaining reader.new)
+        AnswersWhatWasRead (by_rows S.is_honest) settings input (R.remaining reader.new)
         (S.failure_count end.old) (S.failure_count end.new)
         (W.contents writer.old) (W.contents writer.new)) }
     ensures no_memory { IsErrOf result Ending.NoMemory → IfSome (R.remaining reader.old) (λ input.
-        AnswersFirstLines S.is_honest settings input (S.failure_count end.old) (S.failure_count end.new)
+        AnswersFirstLines (by_rows S.is_honest) settings input (S.failure_count end.old) (S.failure_count end.new)
         (W.contents writer.old) (W.contents writer.new)) }
     ensures output_fault { IsErrOf result Ending.OutputFault →
         IfSome (R.remaining reader.old) (λ input.
-        AnswersFront S.is_honest settings input (S.failure_count end.old) (S.failure_count end.new)
+        AnswersFront (by_rows S.is_honest) settings input (S.failure_count end.old) (S.failure_count end.new)
         (W.contents writer.old) (W.contents writer.new)) }
     ensures end { GoesOn S.never_fails S.failure_count end.old end.new }
     ensures ending { IfErr result (λ e. IsTrue (is_of_run e)) }
 {
+    let one: OneShard<S::Receipt> = OneShard::new(alloc, settings)?;
+    serve_all(alloc, reader, writer, end, one)
+}
+
+/// Reads commands line by line, has each obeyed by the service, answers it in a line, and writes the service's report at the end
+/// of input. Replies are held back while they have fewer than 64 KiB together and a whole further line is at hand: so the memory
+/// that they take does not grow with the lines that are read ahead. They are written out before anything is read, and before the
+/// run ends.
+///
+/// `InputFault` where a read failed or the input took more than 2^40 reads, `NoMemory` where memory ran out: then what was
+/// answered before is written, and no report. `OutputFault` where a write failed: then a front of the answers is written, with
+/// the report behind them where the input was at its end, and nothing else. (Own.)
+pub fn serve_all<R: Read, W: Write, S, C: Service<S>>(
+    alloc: Global,
+    reader: &mut R,
+    writer: &mut W,
+    end: &mut S,
+    service: C,
+) -> Result<(), Ending>
+    requires nothing { C.holds service C.manner.nothing }
+    // What is written is, line for line, what the service may answer to the lines read.
+    ensures output { OnOk result (IfSome (R.remaining reader.old) (λ input.
+        AnswersAll C.manner (C.settings_of service) input (C.failures end.old) (C.failures end.new)
+        (W.contents writer.old) (W.contents writer.new))) }
+    ensures input_fault { IsErrOf result Ending.InputFault → IfSome (R.remaining reader.old) (λ input.
+        AnswersWhatWasRead C.manner (C.settings_of service) input (R.remaining reader.new)
+        (C.failures end.old) (C.failures end.new)
+        (W.contents writer.old) (W.contents writer.new)) }
+    ensures no_memory { IsErrOf result Ending.NoMemory → IfSome (R.remaining reader.old) (λ input.
+        AnswersFirstLines C.manner (C.settings_of service) input (C.failures end.old) (C.failures end.new)
+        (W.contents writer.old) (W.contents writer.new)) }
+    ensures output_fault { IsErrOf result Ending.OutputFault →
+        IfSome (R.remaining reader.old) (λ input.
+        AnswersFront C.manner (C.settings_of service) input (C.failures end.old) (C.failures end.new)
+        (W.contents writer.old) (W.contents writer.new)) }
+    ensures end { GoesOn C.never_fails C.failures end.old end.new }
+    ensures ending { IfErr result (λ e. IsTrue (is_of_run e)) }
+{
     let mut replies = Vec::new(alloc);
-    let ended = answer_all(alloc, reader, writer, end, settings, &mut replies);
+    let ended = answer_all(alloc, reader, writer, end, service, &mut replies);
     if is_output_fault(&ended) {
         return Err(Ending::OutputFault);
     }
@@ -75,162 +111,181 @@ fn is_output_fault(ended: &Result<(), Ending>) -> bool
 }
 
 /// Answers all lines of the input, and makes the report. What it leaves in `replies` is still to be written.
-fn answer_all<R: Read, W: Write, S: StoreEnd>(
+fn answer_all<R: Read, W: Write, S, C: Service<S>>(
     alloc: Global,
     reader: &mut R,
     writer: &mut W,
     end: &mut S,
-    settings: Settings,
+    service: C,
     replies: &mut Vec<u8>,
 ) -> Result<(), Ending>
-    requires one { settings.shards ≡ 1 }
+    requires nothing { C.holds service C.manner.nothing }
     requires none { replies.old.items ≡ [] }
     ensures output { OnOk result (IfSome (R.remaining reader.old) (λ input.
-        AnswersAll S.is_honest settings input (S.failure_count end.old) (S.failure_count end.new)
+        AnswersAll C.manner (C.settings_of service) input (C.failures end.old) (C.failures end.new)
         (W.contents writer.old) (with_replies (W.contents writer.new) replies.new.items))) }
     ensures input_fault { IsErrOf result Ending.InputFault → IfSome (R.remaining reader.old) (λ input.
-        AnswersWhatWasRead S.is_honest settings input (R.remaining reader.new)
-        (S.failure_count end.old) (S.failure_count end.new)
+        AnswersWhatWasRead C.manner (C.settings_of service) input (R.remaining reader.new)
+        (C.failures end.old) (C.failures end.new)
         (W.contents writer.old) (with_replies (W.contents writer.new) replies.new.items)) }
     ensures no_memory { IsErrOf result Ending.NoMemory → IfSome (R.remaining reader.old) (λ input.
-        AnswersFirstLines S.is_honest settings input (S.failure_count end.old) (S.failure_count end.new)
+        AnswersFirstLines C.manner (C.settings_of service) input (C.failures end.old) (C.failures end.new)
         (W.contents writer.old) (with_replies (W.contents writer.new) replies.new.items)) }
     ensures output_fault { IsErrOf result Ending.OutputFault →
         IfSome (R.remaining reader.old) (λ input.
-        AnswersFront S.is_honest settings input (S.failure_count end.old) (S.failure_count end.new)
+        AnswersFront C.manner (C.settings_of service) input (C.failures end.old) (C.failures end.new)
         (W.contents writer.old) (W.contents writer.new)) }
     ensures grown { Grows (W.contents writer.old) (W.contents writer.new) }
-    ensures end { GoesOn S.never_fails S.failure_count end.old end.new }
+    ensures end { GoesOn C.never_fails C.failures end.old end.new }
     ensures ending { IfErr result (λ e. IsTrue (is_of_run e)) }
 {
-    let mut lines = Lines::new(alloc)?;
-    let mut session = Session::new(alloc, settings)?;
-    let ended = answer_lines(
+    let mut service = service;
+    let Ok(mut lines) = Lines::new(alloc) else {
+        service.put_away();
+        return Err(Ending::NoMemory);
+    };
+    match answer_lines(
         alloc,
         reader,
         writer,
         end,
         &mut lines,
-        &mut session,
+        &mut service,
         replies,
-    );
-    session.put_away();
-    ended
+    ) {
+        Ok(()) => report(alloc, service, replies),
+        Err(ending) => {
+            service.put_away();
+            Err(ending)
+        }
+    }
+}
+
+/// Makes the report.
+fn report<S, C: Service<S>>(alloc: Global, service: C, replies: &mut Vec<u8>) -> Result<(), Ending>
+    ensures text { OnOk result ((held : C.manner.Held) → C.holds service held →
+        Reports C.manner held replies.old.items replies.new.items) }
+    ensures err { OnErr result (replies.new.items ≡ replies.old.items) }
+    ensures ending { IfErr result (λ e. e ≡ Ending.NoMemory) }
+{
+    let reply = service.report()?;
+    add_line(alloc, replies, &reply)?;
+    Ok(())
 }
 
 /// Answers line after line, until there is none.
-fn answer_lines<R: Read, W: Write, S: StoreEnd>(
+fn answer_lines<R: Read, W: Write, S, C: Service<S>>(
     alloc: Global,
     reader: &mut R,
     writer: &mut W,
     end: &mut S,
     lines: &mut Lines,
-    session: &mut Session<S::Receipt>,
+    service: &mut C,
     replies: &mut Vec<u8>,
 ) -> Result<(), Ending>
     // From whatever lines are answered so far.
     ensures output { OnOk result ((settings : StoreSettings) (input : List ℕ) →
-        ServesKnown S.is_honest settings session.old input
-        (S.failure_count end.old) (S.failure_count end.old) (W.contents writer.old)
+        ServesKnown C.manner settings (C.settings_of service.old) (C.holds service.old) input
+        (C.failures end.old) (C.failures end.old) (W.contents writer.old)
         (with_replies (W.contents writer.old) replies.old.items) (is_ended lines.old)
         (left lines.old (R.remaining reader.old)) →
-        AnswersAll S.is_honest settings input (S.failure_count end.old) (S.failure_count end.new)
+        AnswersLines C.manner settings (C.holds service.new) input (C.failures end.old) (C.failures end.new)
         (W.contents writer.old) (with_replies (W.contents writer.new) replies.new.items)) }
     ensures input_fault { IsErrOf result Ending.InputFault → (settings : StoreSettings) (input : List ℕ) →
-        ServesKnown S.is_honest settings session.old input
-        (S.failure_count end.old) (S.failure_count end.old) (W.contents writer.old)
+        ServesKnown C.manner settings (C.settings_of service.old) (C.holds service.old) input
+        (C.failures end.old) (C.failures end.old) (W.contents writer.old)
         (with_replies (W.contents writer.old) replies.old.items) (is_ended lines.old)
         (left lines.old (R.remaining reader.old)) →
-        AnswersWhatWasRead S.is_honest settings input (R.remaining reader.new)
-        (S.failure_count end.old) (S.failure_count end.new)
+        AnswersWhatWasRead C.manner settings input (R.remaining reader.new)
+        (C.failures end.old) (C.failures end.new)
         (W.contents writer.old) (with_replies (W.contents writer.new) replies.new.items) }
     ensures no_memory { IsErrOf result Ending.NoMemory → (settings : StoreSettings) (input : List ℕ) →
-        ServesKnown S.is_honest settings session.old input
-        (S.failure_count end.old) (S.failure_count end.old) (W.contents writer.old)
+        ServesKnown C.manner settings (C.settings_of service.old) (C.holds service.old) input
+        (C.failures end.old) (C.failures end.old) (W.contents writer.old)
         (with_replies (W.contents writer.old) replies.old.items) (is_ended lines.old)
         (left lines.old (R.remaining reader.old)) →
-        AnswersFirstLines S.is_honest settings input (S.failure_count end.old) (S.failure_count end.new)
+        AnswersFirstLines C.manner settings input (C.failures end.old) (C.failures end.new)
         (W.contents writer.old) (with_replies (W.contents writer.new) replies.new.items) }
     ensures output_fault { IsErrOf result Ending.OutputFault → (settings : StoreSettings) (input : List ℕ) →
-        ServesKnown S.is_honest settings session.old input
-        (S.failure_count end.old) (S.failure_count end.old) (W.contents writer.old)
+        ServesKnown C.manner settings (C.settings_of service.old) (C.holds service.old) input
+        (C.failures end.old) (C.failures end.old) (W.contents writer.old)
         (with_replies (W.contents writer.old) replies.old.items) (is_ended lines.old)
         (left lines.old (R.remaining reader.old)) →
-        AnswersFront S.is_honest settings input (S.failure_count end.old) (S.failure_count end.new)
+        AnswersFront C.manner settings input (C.failures end.old) (C.failures end.new)
         (W.contents writer.old) (W.contents writer.new) }
     ensures grown { Grows (W.contents writer.old) (W.contents writer.new) }
-    ensures end { GoesOn S.never_fails S.failure_count end.old end.new }
+    ensures end { GoesOn C.never_fails C.failures end.old end.new }
     ensures ending { IfErr result (λ e. IsTrue (is_of_run e)) }
 {
     let mut line = Vec::new(alloc);
     loop {
-        if !serve(reader, writer, end, lines, &mut line, session, replies)? {
+        if !serve(
+            alloc, reader, writer, end, lines, &mut line, service, replies,
+        )? {
             return Ok(());
         }
     }
 }
 
-/// Answers the next line, or makes the report where there is none. Gives whether there was one.
-fn serve<R: Read, W: Write, S: StoreEnd>(
+/// Answers the next line. Gives whether there was one.
+fn serve<R: Read, W: Write, S, C: Service<S>>(
+    alloc: Global,
     reader: &mut R,
     writer: &mut W,
     end: &mut S,
     lines: &mut Lines,
     line: &mut Vec<u8>,
-    session: &mut Session<S::Receipt>,
+    service: &mut C,
     replies: &mut Vec<u8>,
 ) -> Result<bool, Ending>
     ensures served { IfOk result (λ more.
         (first : Option (List ℕ)) (before : ℕ) (settings : StoreSettings) (input : List ℕ) →
-        ServesKnown S.is_honest settings session.old input before (S.failure_count end.old) first
+        ServesKnown C.manner settings (C.settings_of service.old) (C.holds service.old) input before (C.failures end.old) first
         (with_replies (W.contents writer.old) replies.old.items) (is_ended lines.old)
         (left lines.old (R.remaining reader.old)) →
         MatchBool more
-        (ServesKnown S.is_honest settings session.new input before (S.failure_count end.new) first
+        (ServesKnown C.manner settings (C.settings_of service.new) (C.holds service.new) input before (C.failures end.new) first
         (with_replies (W.contents writer.new) replies.new.items) (is_ended lines.new)
         (left lines.new (R.remaining reader.new)))
-        (AnswersAll S.is_honest settings input before (S.failure_count end.new) first
+        (AnswersLines C.manner settings (C.holds service.new) input before (C.failures end.new) first
         (with_replies (W.contents writer.new) replies.new.items))) }
     ensures input_fault { IsErrOf result Ending.InputFault →
         (first : Option (List ℕ)) (before : ℕ) (settings : StoreSettings) (input : List ℕ) →
-        ServesKnown S.is_honest settings session.old input before (S.failure_count end.old) first
+        ServesKnown C.manner settings (C.settings_of service.old) (C.holds service.old) input before (C.failures end.old) first
         (with_replies (W.contents writer.old) replies.old.items) (is_ended lines.old)
         (left lines.old (R.remaining reader.old)) →
-        AnswersWhatWasRead S.is_honest settings input (R.remaining reader.new) before (S.failure_count end.new)
+        AnswersWhatWasRead C.manner settings input (R.remaining reader.new) before (C.failures end.new)
         first (with_replies (W.contents writer.new) replies.new.items) }
     ensures no_memory { IsErrOf result Ending.NoMemory →
         (first : Option (List ℕ)) (before : ℕ) (settings : StoreSettings) (input : List ℕ) →
-        ServesKnown S.is_honest settings session.old input before (S.failure_count end.old) first
+        ServesKnown C.manner settings (C.settings_of service.old) (C.holds service.old) input before (C.failures end.old) first
         (with_replies (W.contents writer.old) replies.old.items) (is_ended lines.old)
         (left lines.old (R.remaining reader.old)) →
-        AnswersFirstLines S.is_honest settings input before (S.failure_count end.new) first
+        AnswersFirstLines C.manner settings input before (C.failures end.new) first
         (with_replies (W.contents writer.new) replies.new.items) }
     ensures output_fault { IsErrOf result Ending.OutputFault →
         (first : Option (List ℕ)) (before : ℕ) (settings : StoreSettings) (input : List ℕ) →
         Grows first (W.contents writer.old) →
-        ServesKnown S.is_honest settings session.old input before (S.failure_count end.old) first
+        ServesKnown C.manner settings (C.settings_of service.old) (C.holds service.old) input before (C.failures end.old) first
         (with_replies (W.contents writer.old) replies.old.items) (is_ended lines.old)
         (left lines.old (R.remaining reader.old)) →
-        AnswersFront S.is_honest settings input before (S.failure_count end.new)
+        AnswersFront C.manner settings input before (C.failures end.new)
         first (W.contents writer.new) }
     ensures grown { Grows (W.contents writer.old) (W.contents writer.new) }
     ensures progress { IfOk result (λ more. more ≡ true → progress lines.old < progress lines.new) }
-    ensures end { GoesOn S.never_fails S.failure_count end.old end.new }
+    ensures end { GoesOn C.never_fails C.failures end.old end.new }
     ensures ending { IfErr result (λ e. IsTrue (is_of_run e)) }
 {
     match next_line(reader, writer, lines, line, replies)? {
         NextLine::Line => {
-            session.answer(end, line, replies)?;
+            answer(alloc, service, end, line, replies)?;
             Ok(true)
         }
         NextLine::TooLong => {
-            session.refuse_long(replies)?;
+            refuse_long(alloc, replies)?;
             Ok(true)
         }
-        NextLine::End => {
-            session.report(replies)?;
-            Ok(false)
-        }
+        NextLine::End => Ok(false),
     }
 }
 

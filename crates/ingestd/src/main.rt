@@ -1,7 +1,8 @@
 //! The program: the argument words and the standard streams, passed to a session.
 #![tactic(auto)]
 
-use ing_session::{Ending, conclude, start};
+use ing_program::start;
+use ing_session::{Ending, conclude};
 use std::io::ErrorKind;
 use std::process::ExitCode;
 use std::{env, io};

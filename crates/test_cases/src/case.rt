@@ -1,6 +1,7 @@
 //! One case: what goes in, and what has to come out.
 use anyhow::Result;
-use ing_session::{conclude, start_on};
+use ing_program::start_on;
+use ing_session::conclude;
 use std::rt::Files;
 use std::sync::Wait;
 use std::{fs, io};

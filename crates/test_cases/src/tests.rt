@@ -3,7 +3,8 @@
 mod flushes;
 
 use ing_limits::Settings;
-use ing_session::{Ending, conclude, run, start};
+use ing_program::start;
+use ing_session::{Ending, conclude, run};
 use ing_store::{Fuse, MemoryStore};
 use std::cell::Cell;
 use std::io::{Error, ErrorKind, Read, Write};

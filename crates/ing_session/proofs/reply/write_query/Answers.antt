@@ -6,7 +6,7 @@ returns-clause-tokens c =
     rw (
       c.in_ok-end_object-2.ensures.ok,
       c.in_ok-end_object.ensures.ok,
-      c.in_ok-write_front.ensures.tokens,
+      c.in_ok-write_fronts.ensures.tokens,
       c.in_ok-write_entries.ensures.tokens,
       c.in_ok-begin_object-2.ensures.ok,
       c.in_ok-key.ensures.ok,

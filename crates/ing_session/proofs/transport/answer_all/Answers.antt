@@ -1,35 +1,42 @@
-use Rattle.std.proofs.Common.{Result, Ok, Err, OnOk}
+use Rattle.std.proofs.Common.{◌≡◌, Result, Ok, Err, OnOk}
+use Rattle.std.specs.Prelude.{OnErr}
 use Rattle.ing_session.specs.Unread.{is_ended, unread}
-use Rattle.ing_session.proofs.RunsLaws.{begins}
-use Rattle.ing_session.proofs.StartingLaws.{if_some_then}
+use Rattle.ing_session.proofs.KnownLaws.{if_some_then}
+use Rattle.ing_session.proofs.RunsLaws.{begins, reported, unreported}
 use Rattle.ing_session.proofs.transport.answer_all.Goals as goal
 
 on_ok_then : {T E P Q : Type 0} (r : Result T E) → (P → Q) → OnOk r P → OnOk r Q
 on_ok_then (Ok x) f p = f p
 on_ok_then (Err e) f p = tt
 
-pub returns-clause-output : goal.returns-clause-output
-returns-clause-output g c =
-    on_ok_then c.answer_lines-ended.result
-    (λ answered. if_some_then _ _ (g.R.Read.remaining c.args.reader.now) (λ input known. answered c.args.settings input known)
-    (begins g.S.StoreEnd.is_honest c.args.settings c.in_ok-session.session (g.S.StoreEnd.failure_count c.args.end.now) (g.W.Write.contents c.args.writer.now) c.args.replies.now.items (unread c.in_ok-lines.lines) (is_ended c.in_ok-lines.lines)
-    c.requires.none c.in_ok-lines.ensures.open c.in_ok-lines.ensures.nothing_read c.in_ok-session.ensures.settings c.in_ok-session.ensures.empty (g.R.Read.remaining c.args.reader.now)))
-    c.answer_lines-ended.ensures.output
+on_err_of : {T E P : Type 0} (r : Result T E) (e : E) → r ≡ Err e → OnErr r P → P
+on_err_of (Ok x) e is p = absurd cc
+on_err_of (Err f) e is p = p
 
-pub returns-clause-input_fault : goal.returns-clause-input_fault
-returns-clause-input_fault g c = λ is.
-    if_some_then _ _ (g.R.Read.remaining c.args.reader.now) (λ input known. c.answer_lines-ended.ensures.input_fault is c.args.settings input known)
-    (begins g.S.StoreEnd.is_honest c.args.settings c.in_ok-session.session (g.S.StoreEnd.failure_count c.args.end.now) (g.W.Write.contents c.args.writer.now) c.args.replies.now.items (unread c.in_ok-lines.lines) (is_ended c.in_ok-lines.lines)
-    c.requires.none c.in_ok-lines.ensures.open c.in_ok-lines.ensures.nothing_read c.in_ok-session.ensures.settings c.in_ok-session.ensures.empty (g.R.Read.remaining c.args.reader.now))
+-- the report is made
+pub returns-in-Ok-answer_lines-clause-output : goal.returns-in-Ok-answer_lines-clause-output
+returns-in-Ok-answer_lines-clause-output g c =
+    let contents = g.W.Write.contents in
+    let failures = g.C.Service.failures in
+    let known = g.R.Read.remaining c.args.reader.now in
+    let settings = g.C.Service.settings_of c.args.service in
+    on_ok_then c.report.result
+    (λ text. if_some_then _ _ known
+    (λ input serves. reported g.C.Service.manner settings (g.C.Service.holds c.answer_lines.new.service) input (failures c.args.end.now) (failures c.answer_lines.new.end) (contents c.args.writer.now) (contents c.answer_lines.new.writer)
+    c.answer_lines.new.replies.items c.report.new.replies.items (c.in-Ok-answer_lines.ensures.output settings input serves) text)
+    (begins g.C.Service.manner settings (g.C.Service.holds c.args.service) (failures c.args.end.now) (contents c.args.writer.now) c.args.replies.now.items (unread c.in-Ok.lines) (is_ended c.in-Ok.lines)
+    c.requires.none c.in-Ok.ensures.open c.in-Ok.ensures.nothing_read c.requires.nothing known))
+    c.report.ensures.text
 
-pub returns-clause-no_memory : goal.returns-clause-no_memory
-returns-clause-no_memory g c = λ is.
-    if_some_then _ _ (g.R.Read.remaining c.args.reader.now) (λ input known. c.answer_lines-ended.ensures.no_memory is c.args.settings input known)
-    (begins g.S.StoreEnd.is_honest c.args.settings c.in_ok-session.session (g.S.StoreEnd.failure_count c.args.end.now) (g.W.Write.contents c.args.writer.now) c.args.replies.now.items (unread c.in_ok-lines.lines) (is_ended c.in_ok-lines.lines)
-    c.requires.none c.in_ok-lines.ensures.open c.in_ok-lines.ensures.nothing_read c.in_ok-session.ensures.settings c.in_ok-session.ensures.empty (g.R.Read.remaining c.args.reader.now))
-
-pub returns-clause-output_fault : goal.returns-clause-output_fault
-returns-clause-output_fault g c = λ is.
-    if_some_then _ _ (g.R.Read.remaining c.args.reader.now) (λ input known. c.answer_lines-ended.ensures.output_fault is c.args.settings input known)
-    (begins g.S.StoreEnd.is_honest c.args.settings c.in_ok-session.session (g.S.StoreEnd.failure_count c.args.end.now) (g.W.Write.contents c.args.writer.now) c.args.replies.now.items (unread c.in_ok-lines.lines) (is_ended c.in_ok-lines.lines)
-    c.requires.none c.in_ok-lines.ensures.open c.in_ok-lines.ensures.nothing_read c.in_ok-session.ensures.settings c.in_ok-session.ensures.empty (g.R.Read.remaining c.args.reader.now))
+-- memory ran out at the report
+pub returns-in-Ok-answer_lines-clause-no_memory : goal.returns-in-Ok-answer_lines-clause-no_memory
+returns-in-Ok-answer_lines-clause-no_memory g c = λ is.
+    let contents = g.W.Write.contents in
+    let failures = g.C.Service.failures in
+    let known = g.R.Read.remaining c.args.reader.now in
+    let settings = g.C.Service.settings_of c.args.service in
+    if_some_then _ _ known
+    (λ input serves. unreported g.C.Service.manner settings (g.C.Service.holds c.answer_lines.new.service) input (failures c.args.end.now) (failures c.answer_lines.new.end) (contents c.args.writer.now) (contents c.answer_lines.new.writer)
+    c.answer_lines.new.replies.items c.report.new.replies.items (c.in-Ok-answer_lines.ensures.output settings input serves) (on_err_of c.report.result _ is c.report.ensures.err))
+    (begins g.C.Service.manner settings (g.C.Service.holds c.args.service) (failures c.args.end.now) (contents c.args.writer.now) c.args.replies.now.items (unread c.in-Ok.lines) (is_ended c.in-Ok.lines)
+    c.requires.none c.in-Ok.ensures.open c.in-Ok.ensures.nothing_read c.requires.nothing known)

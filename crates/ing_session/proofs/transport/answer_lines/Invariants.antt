@@ -1,6 +1,6 @@
 use Rattle.std.proofs.Common.{◌-◌, ◌^◌, ℕ, List}
 use Rattle.ing_limits.specs.Settings.{StoreSettings}
-use Rattle.ing_session.specs.Flushing.{GoesOn}
+use Rattle.ing_session.specs.Causes.{GoesOn}
 use Rattle.ing_session.specs.Fronts.{Grows}
 use Rattle.ing_session.specs.Runs.{with_replies, ServesKnown}
 use Rattle.ing_session.specs.Unread.{left, is_ended, progress}
@@ -9,15 +9,15 @@ use Rattle.ing_session.proofs.transport.answer_lines.Given as goal
 -- where lines were answered before, those that were taken since are answered too
 abbrev pub invariant-loop-line : goal.invariant-loop-line
 invariant-loop-line g l =
-    let failures = g.S.StoreEnd.failure_count in
+    let failures = g.C.Service.failures in
     record {
       served : (settings : StoreSettings) (input : List ℕ)
-          → ServesKnown g.S.StoreEnd.is_honest settings l.fn.session input (failures l.fn.end) (failures l.fn.end) (g.W.Write.contents l.fn.writer) (with_replies (g.W.Write.contents l.fn.writer) l.fn.replies.items)
+          → ServesKnown g.C.Service.manner settings (g.C.Service.settings_of l.fn.service) (g.C.Service.holds l.fn.service) input (failures l.fn.end) (failures l.fn.end) (g.W.Write.contents l.fn.writer) (with_replies (g.W.Write.contents l.fn.writer) l.fn.replies.items)
           (is_ended l.fn.lines) (left l.fn.lines (g.R.Read.remaining l.fn.reader))
-          → ServesKnown g.S.StoreEnd.is_honest settings l.session input (failures l.fn.end) (failures l.end) (g.W.Write.contents l.fn.writer) (with_replies (g.W.Write.contents l.writer) l.replies.items)
+          → ServesKnown g.C.Service.manner settings (g.C.Service.settings_of l.service) (g.C.Service.holds l.service) input (failures l.fn.end) (failures l.end) (g.W.Write.contents l.fn.writer) (with_replies (g.W.Write.contents l.writer) l.replies.items)
           (is_ended l.lines) (left l.lines (g.R.Read.remaining l.reader));
       grown : Grows (g.W.Write.contents l.fn.writer) (g.W.Write.contents l.writer);
-      end : GoesOn g.S.StoreEnd.never_fails failures l.fn.end l.end;
+      end : GoesOn g.C.Service.never_fails failures l.fn.end l.end;
     }
 
 -- each turn takes a byte or makes a read, and reads are bounded

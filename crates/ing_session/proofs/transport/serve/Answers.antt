@@ -8,73 +8,71 @@ use Rattle.ing_session.proofs.transport.serve.Goals as goal
 
 pub returns-in_err-next_line-clause-no_memory : goal.returns-in_err-next_line-clause-no_memory
 returns-in_err-next_line-clause-no_memory g c = λ is first start settings input serves.
-    let failures = g.S.StoreEnd.failure_count in
+    let failures = g.C.Service.failures in
     let p = err_from_is_err_and c.from_residual.result c.from_residual.ensures.1 in
-    stops g.S.StoreEnd.is_honest settings c.args.session.now input start (failures c.args.end.now) (failures c.args.end.now) first _ (is_ended c.args.lines.now) (left c.args.lines.now (g.R.Read.remaining c.args.reader.now)) _ serves
+    stops g.C.Service.manner settings (g.C.Service.settings_of c.args.service.now) (g.C.Service.holds c.args.service.now) input start (failures c.args.end.now) (failures c.args.end.now) first _ (is_ended c.args.lines.now) (left c.args.lines.now (g.R.Read.remaining c.args.reader.now)) _ serves
     (c.in_err-next_line.ensures.kept (no_output _ _ _ p.1 p.2 is)) (omega arith)
 
 pub returns-in_err-answer-in-Line-clause-no_memory : goal.returns-in_err-answer-in-Line-clause-no_memory
 returns-in_err-answer-in-Line-clause-no_memory g c = λ is first start settings input serves.
     let contents = g.W.Write.contents in
-    let failures = g.S.StoreEnd.failure_count in
-    stops g.S.StoreEnd.is_honest settings c.args.session.now input start (failures c.args.end.now) (failures c.answer.new.end) first _ (is_ended c.args.lines.now) (left c.args.lines.now (g.R.Read.remaining c.args.reader.now)) _ serves
+    let failures = g.C.Service.failures in
+    stops g.C.Service.manner settings (g.C.Service.settings_of c.args.service.now) (g.C.Service.holds c.args.service.now) input start (failures c.args.end.now) (failures c.answer.new.end) first _ (is_ended c.args.lines.now) (left c.args.lines.now (g.R.Read.remaining c.args.reader.now)) _ serves
     (held_same _ (contents c.next_line.new.writer) c.next_line.new.replies.items c.answer.new.replies.items c.in_ok-next_line.ensures.held c.in_err-answer-in-Line.ensures.err) c.in_err-answer-in-Line.ensures.end.0
 
 pub returns-in_err-refuse_long-in-TooLong-clause-no_memory : goal.returns-in_err-refuse_long-in-TooLong-clause-no_memory
 returns-in_err-refuse_long-in-TooLong-clause-no_memory g c = λ is first start settings input serves.
     let contents = g.W.Write.contents in
-    let failures = g.S.StoreEnd.failure_count in
-    stops g.S.StoreEnd.is_honest settings c.args.session.now input start (failures c.args.end.now) (failures c.args.end.now) first _ (is_ended c.args.lines.now) (left c.args.lines.now (g.R.Read.remaining c.args.reader.now)) _ serves
+    let failures = g.C.Service.failures in
+    stops g.C.Service.manner settings (g.C.Service.settings_of c.args.service.now) (g.C.Service.holds c.args.service.now) input start (failures c.args.end.now) (failures c.args.end.now) first _ (is_ended c.args.lines.now) (left c.args.lines.now (g.R.Read.remaining c.args.reader.now)) _ serves
     (held_same _ (contents c.next_line.new.writer) c.next_line.new.replies.items c.refuse_long.new.replies.items c.in_ok-next_line.ensures.held c.in_err-refuse_long-in-TooLong.ensures.err) (omega arith)
-
-pub returns-in_err-report-in-End-clause-no_memory : goal.returns-in_err-report-in-End-clause-no_memory
-returns-in_err-report-in-End-clause-no_memory g c = λ is first start settings input serves.
-    let contents = g.W.Write.contents in
-    let failures = g.S.StoreEnd.failure_count in
-    stops g.S.StoreEnd.is_honest settings c.args.session.now input start (failures c.args.end.now) (failures c.args.end.now) first _ (is_ended c.args.lines.now) (left c.args.lines.now (g.R.Read.remaining c.args.reader.now)) _ serves
-    (held_same _ (contents c.next_line.new.writer) c.next_line.new.replies.items c.report.new.replies.items c.in_ok-next_line.ensures.held c.in_err-report-in-End.ensures.err) (omega arith)
 
 pub returns-in_ok-answer-in-Line-clause-served : goal.returns-in_ok-answer-in-Line-clause-served
 returns-in_ok-answer-in-Line-clause-served g c = λ first start settings input serves.
     let contents = g.W.Write.contents in
     let remaining = g.R.Read.remaining in
-    let failures = g.S.StoreEnd.failure_count in
+    let failures = g.C.Service.failures in
     let line = c.next_line.new.line.items in
     let same : c.deref.result.now ≡ line = c.deref.ensures.value in
     let before = c.next_line.new.replies.items in
     let after = c.answer.new.replies.items in
     let answered = c.in_ok-answer-in-Line.ensures in
-    let session = c.args.session.now in
-    serves_line g.S.StoreEnd.is_honest settings session c.answer.new.self input start (failures c.args.end.now) (failures c.answer.new.end) first (contents c.args.writer.now) (contents c.next_line.new.writer) c.args.replies.now.items before after line
+    let settings_of = g.C.Service.settings_of in
+    let holds = g.C.Service.holds in
+    let service = c.args.service.now in
+    serves_line g.C.Service.manner settings (settings_of service) (settings_of c.answer.new.service) (holds service) (holds c.answer.new.service) input start (failures c.args.end.now) (failures c.answer.new.end) first (contents c.args.writer.now) (contents c.next_line.new.writer) c.args.replies.now.items before after line
     (is_ended c.args.lines.now) (is_ended c.next_line.new.lines) (left c.args.lines.now (remaining c.args.reader.now)) (left c.next_line.new.lines (remaining c.next_line.new.reader)) serves
     (rw c.in-Line.is at c.in_ok-next_line.ensures.line) c.in_ok-next_line.ensures.held
-    (λ old is_held. subst (λ l. Answers g.S.StoreEnd.is_honest session.shard.settings l old c.answer.new.self (failures c.args.end.now) (failures c.answer.new.end) before after) same (answered.answered old is_held))
+    (λ old is_held. subst (λ l. Answers g.C.Service.manner (settings_of service) l old (holds c.answer.new.service) (failures c.args.end.now) (failures c.answer.new.end) before after) same (answered.answered old is_held))
     answered.settings
 
 pub returns-in_ok-refuse_long-in-TooLong-clause-served : goal.returns-in_ok-refuse_long-in-TooLong-clause-served
 returns-in_ok-refuse_long-in-TooLong-clause-served g c = λ first start settings input serves.
     let contents = g.W.Write.contents in
     let remaining = g.R.Read.remaining in
-    let failures = g.S.StoreEnd.failure_count c.args.end.now in
-    serves_long g.S.StoreEnd.is_honest settings c.args.session.now c.args.session.now input start failures failures first (contents c.args.writer.now) (contents c.next_line.new.writer) c.args.replies.now.items c.next_line.new.replies.items c.refuse_long.new.replies.items c.next_line.new.line.items
+    let failures = g.C.Service.failures c.args.end.now in
+    serves_long g.C.Service.manner settings (g.C.Service.settings_of c.args.service.now) (g.C.Service.settings_of c.args.service.now) (g.C.Service.holds c.args.service.now) (g.C.Service.holds c.args.service.now) input start failures failures first (contents c.args.writer.now) (contents c.next_line.new.writer) c.args.replies.now.items c.next_line.new.replies.items c.refuse_long.new.replies.items c.next_line.new.line.items
     (is_ended c.args.lines.now) (is_ended c.next_line.new.lines) (left c.args.lines.now (remaining c.args.reader.now)) (left c.next_line.new.lines (remaining c.next_line.new.reader)) serves
     (rw c.in-TooLong.is at c.in_ok-next_line.ensures.line) c.in_ok-next_line.ensures.held c.in_ok-refuse_long-in-TooLong.ensures.text
 
-pub returns-in_ok-report-in-End-clause-served : goal.returns-in_ok-report-in-End-clause-served
-returns-in_ok-report-in-End-clause-served g c = λ first start settings input serves.
+pub returns-in-End-clause-served : goal.returns-in-End-clause-served
+returns-in-End-clause-served g c = λ first start settings input serves.
     let contents = g.W.Write.contents in
     let remaining = g.R.Read.remaining in
-    let failures = g.S.StoreEnd.failure_count c.args.end.now in
-    serves_end g.S.StoreEnd.is_honest settings c.args.session.now c.args.session.now input start failures failures first (contents c.args.writer.now) (contents c.next_line.new.writer) c.args.replies.now.items c.next_line.new.replies.items c.report.new.replies.items c.next_line.new.line.items
+    let failures = g.C.Service.failures c.args.end.now in
+    let settings_of = g.C.Service.settings_of in
+    let holds = g.C.Service.holds in
+    let service = c.args.service.now in
+    serves_end g.C.Service.manner settings (settings_of service) (settings_of service) (holds service) (holds service) input start failures failures first (contents c.args.writer.now) (contents c.next_line.new.writer) c.args.replies.now.items c.next_line.new.replies.items c.next_line.new.replies.items c.next_line.new.line.items
     (is_ended c.args.lines.now) (is_ended c.next_line.new.lines) (left c.args.lines.now (remaining c.args.reader.now)) (left c.next_line.new.lines (remaining c.next_line.new.reader)) serves
-    (rw c.in-End.is at c.in_ok-next_line.ensures.line) c.in_ok-next_line.ensures.held c.in_ok-report-in-End.ensures.text
+    (rw c.in-End.is at c.in_ok-next_line.ensures.line) c.in_ok-next_line.ensures.held
 
 -- a write failed
 pub returns-in_err-next_line-clause-output_fault : goal.returns-in_err-next_line-clause-output_fault
 returns-in_err-next_line-clause-output_fault g c = λ is first start settings input grown serves.
     let contents = g.W.Write.contents in
     let p = err_from_is_err_and c.from_residual.result c.from_residual.ensures.1 in
-    breaks g.S.StoreEnd.is_honest settings c.args.session.now input start (g.S.StoreEnd.failure_count c.args.end.now) first (contents c.args.writer.now) (contents c.next_line.new.writer) c.args.replies.now.items
+    breaks g.C.Service.manner settings (g.C.Service.settings_of c.args.service.now) (g.C.Service.holds c.args.service.now) input start (g.C.Service.failures c.args.end.now) first (contents c.args.writer.now) (contents c.next_line.new.writer) c.args.replies.now.items
     (is_ended c.args.lines.now) (left c.args.lines.now (g.R.Read.remaining c.args.reader.now)) serves grown
     (c.in_err-next_line.ensures.output_fault (ap (λ e. Err e) (same_fault _ _ _ _ p.1 p.2 is)))
 
@@ -82,9 +80,9 @@ returns-in_err-next_line-clause-output_fault g c = λ is first start settings in
 pub returns-in_err-next_line-clause-input_fault : goal.returns-in_err-next_line-clause-input_fault
 returns-in_err-next_line-clause-input_fault g c = λ is first start settings input serves.
     let remaining = g.R.Read.remaining in
-    let failures = g.S.StoreEnd.failure_count c.args.end.now in
+    let failures = g.C.Service.failures c.args.end.now in
     let p = err_from_is_err_and c.from_residual.result c.from_residual.ensures.1 in
     let fault = same_fault _ _ _ _ p.1 p.2 is in
     let read = c.in_err-next_line.ensures.fault (ap (λ e. Err e) fault) in
-    fails g.S.StoreEnd.is_honest settings c.args.session.now input start failures failures first _ (is_ended c.args.lines.now) (left c.args.lines.now (remaining c.args.reader.now)) (remaining c.next_line.new.reader) _ read.1 serves read.0 read.2 read.3
+    fails g.C.Service.manner settings (g.C.Service.settings_of c.args.service.now) (g.C.Service.holds c.args.service.now) input start failures failures first _ (is_ended c.args.lines.now) (left c.args.lines.now (remaining c.args.reader.now)) (remaining c.next_line.new.reader) _ read.1 serves read.0 read.2 read.3
     (c.in_err-next_line.ensures.kept (no_output_read _ fault))

@@ -1,0 +1,2 @@
+pub mod LedgerLaws
+pub mod StartingLaws

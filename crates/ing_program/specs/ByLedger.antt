@@ -1,0 +1,241 @@
+-- What each command does to shards that lie behind locks. What lies there nobody knows, so this says what is known outside: what a
+-- line says, the form of its reply, and how many entries were told accepted, by the number of their shard.
+use Rattle.std.specs.Prelude.{◌≡◌, ◌≢◌, ◌⊎◌, ℕ, ◌+◌, ◌≤◌, false, List, [], ◌∷◌, None, Some, Result, Ok, Err, length, slice_get}
+use Rattle.std.specs.List.{AllPass}
+use Rattle.std.specs.List.Sorted.{IsSortedBy}
+use Rattle.serde_json.specs.Data.{Data}
+use Rattle.ing_labels.specs.Labels.{LabelMap, labels_of}
+use Rattle.ing_labels.specs.Canonical.{canonical_of}
+use Rattle.ing_labels.specs.TextFaults.{IsSelectorFault, text_fault_place, text_refusal_of}
+use Rattle.ing_labels.specs.declared.fault.LabelFault.{LabelFault}
+use Rattle.ing_labels.specs.declared.text_fault.TextFault.{TextFault}
+use Rattle.ing_rows.specs.declared.entry.Entry.{Entry}
+use Rattle.ing_rows.specs.declared.gauges.Gauges.{Gauges}
+use Rattle.ing_rows.specs.declared.verdict.Verdict.{Verdict}
+use Rattle.ing_rows.specs.Placement.{shard_of}
+use Rattle.ing_rows.specs.Turns.{accepted_among}
+use Rattle.ing_limits.specs.Settings.{StoreSettings}
+use Rattle.ing_limits.specs.Ranges.{rules_for}
+use Rattle.ing_parts.specs.declared.found.Found.{Found}
+use Rattle.ing_parts.specs.Answers.{precedes}
+use Rattle.ing_parts.specs.Parts.{is_within}
+use Rattle.ing_query.specs.declared.fault.QueryFault.TheVariants as queries
+use Rattle.ing_shard.specs.Contents.{stream_of}
+use Rattle.ing_tally.specs.Books.{ShareState}
+use Rattle.ing_flush.specs.Tallies.{amount_at}
+use Rattle.ing_node.specs.declared.fault.NodeFault.{NodeFault}
+use Rattle.ing_node.specs.declared.fault.NodeFault.TheVariants as node
+use Rattle.ing_node.specs.declared.query.AnswerFault.{AnswerFault}
+use Rattle.ing_node.specs.declared.query.AnswerFault.TheVariants.{Node, Query}
+use Rattle.ing_node.specs.declared.report.CloseRefusal.{CloseRefusal}
+use Rattle.ing_node.specs.declared.report.ShardReport.{ShardReport}
+use Rattle.ing_node.specs.AnswerFaults.{answer_refusal_of}
+use Rattle.ing_node.specs.Faults.{refusal_of}
+use Rattle.ing_node.specs.Pushes.{AreJudged, IsPushRefusal}
+use Rattle.ing_node.specs.Queries.{AreSelected}
+use Rattle.ing_node.specs.Reports.{HasReason, close_refusal_of}
+use Rattle.ing_commands.specs.Commands as commands
+use Rattle.ing_commands.specs.Commands.{Command}
+use Rattle.ing_commands.specs.PushCommands.{PushCommand, StreamEntries}
+use Rattle.ing_commands.specs.QueryCommands.{QueryCommand}
+use Rattle.ing_session.specs.ByRows.{label_fault, limits_of}
+use Rattle.ing_session.specs.Causes.{HaveCause}
+use Rattle.ing_session.specs.Manners.{Manner}
+use Rattle.ing_session.specs.Queries.{Reads}
+use Rattle.ing_session.specs.Replies.{fault_data, judged_data, push_data, sweep_data, flush_data, gauges_data, query_data, report_data}
+
+-- how many entries were told accepted, by the number of their shard
+abbrev pub Told : Type 0
+Told = ℕ → ℕ
+
+-- what a pusher was told, by its shares
+abbrev pub told_by : List ShareState → Told
+told_by pusher = λ i. amount_at i pusher
+
+-- of no shard more or fewer
+abbrev pub Stays : Told → Told → Type 0
+Stays old new = (i : ℕ) → new i ≡ old i
+
+-- of one shard so many more, and of the others as many
+pub record Raises (shard count : ℕ) (old new : Told) : Type 0 where
+  pub here : new shard ≡ old shard + count
+  pub others : (i : ℕ) → i ≢ shard → new i ≡ old i
+
+-- ---- one stream of a push
+
+-- the shard of a stream
+abbrev pub place_of : StoreSettings → List ℕ → LabelMap → ℕ
+place_of settings tenant labels = shard_of tenant (canonical_of labels) settings.shards
+
+-- Its entries are judged: the verdicts are the model's, in whatever state the shard was, and of that shard so many more are told as
+-- they accept.
+pub record JudgesStream (settings : StoreSettings) (tenant : List ℕ) (now : ℕ) (labels : LabelMap) (entries : List Entry) (old new : Told) (reply : Data) : Type 0 where
+  pub verdicts : List Verdict
+  pub judged : AreJudged (rules_for settings tenant) (stream_of tenant labels) now entries verdicts
+  pub few : length entries ≤ (rules_for settings tenant).max_entries_per_push
+  pub told : reply ≡ judged_data (canonical_of labels) false verdicts
+  pub raised : Raises (place_of settings tenant labels) (length (accepted_among entries verdicts)) old new
+
+-- It is refused, and nothing changes.
+pub record RefusesStream (settings : StoreSettings) (tenant : List ℕ) (labels : LabelMap) (entries : List Entry) (old new : Told) (reply : Data) : Type 0 where
+  pub why : NodeFault
+  pub may_be : IsPushRefusal (rules_for settings tenant) (length entries) (place_of settings tenant labels) why
+  pub no_memory : why ≢ node.NoMemory
+  pub told : reply ≡ fault_data (refusal_of why) None
+  pub left : Stays old new
+
+-- by what its labels are found to be
+abbrev pub PushesAs : StoreSettings → List ℕ → ℕ → List Entry → Told → Told → Data → Result LabelMap LabelFault → Type 0
+PushesAs settings tenant now entries old new reply (Err fault) = (reply ≡ label_fault fault) × Stays old new
+PushesAs settings tenant now entries old new reply (Ok labels) =
+    JudgesStream settings tenant now labels entries old new reply ⊎ RefusesStream settings tenant labels entries old new reply
+
+abbrev pub PushesStream : StoreSettings → List ℕ → ℕ → StreamEntries → Told → Told → Data → Type 0
+PushesStream settings tenant now s old new reply =
+    PushesAs settings tenant now s.entries old new reply (labels_of (limits_of (rules_for settings tenant)) s.labels)
+
+-- the streams of a push, one after another
+abbrev pub PushesStreams : StoreSettings → List ℕ → ℕ → List StreamEntries → List Data → Told → Told → Type 0
+PushesStreams settings tenant now [] [] old new = Stays old new
+PushesStreams settings tenant now (s ∷ ss) (reply ∷ replies) old new =
+    (mid : Told) × PushesStream settings tenant now s old mid reply × PushesStreams settings tenant now ss replies mid new
+PushesStreams settings tenant now [] (reply ∷ replies) old new = ⊥
+PushesStreams settings tenant now (s ∷ ss) [] old new = ⊥
+
+-- a push is obeyed
+pub record ObeysPush (settings : StoreSettings) (push : PushCommand) (old new : Told) (failed : ℕ) (reply : Data) : Type 0 where
+  pub replies : List Data
+  pub streams : PushesStreams settings push.tenant push.now push.streams replies old new
+  pub told : reply ≡ push_data replies
+  pub failures : failed ≡ 0
+
+-- ---- what is not known outside the locks
+
+-- a lock was not passed
+pub record IsRefused (reply : Data) : Type 0 where
+  pub why : NodeFault
+  pub told : reply ≡ fault_data (refusal_of why) None
+
+pub record IsSweepReply (reply : Data) : Type 0 where
+  pub queued : ℕ
+  pub sealed : ℕ
+  pub told : reply ≡ sweep_data queued sealed
+
+pub record IsFlushReply (reply : Data) : Type 0 where
+  pub failed : ℕ
+  pub sealed : ℕ
+  pub stored : ℕ
+  pub told : reply ≡ flush_data failed sealed stored
+
+-- of each shard
+pub record IsGaugesReply (settings : StoreSettings) (reply : Data) : Type 0 where
+  pub shards : List Gauges
+  pub all : length shards ≡ settings.shards
+  pub told : reply ≡ gauges_data shards
+
+-- a reply of this form, or that a lock was not passed
+abbrev pub IsForm : (Data → Type 0) → Data → Type 0
+IsForm form reply = form reply ⊎ IsRefused reply
+
+-- a command is obeyed by a reply of this form; nothing more is told
+pub record ObeysBy (form : Data → Type 0) (old new : Told) (failed : ℕ) (reply : Data) : Type 0 where
+  pub may_be : IsForm form reply
+  pub left : Stays old new
+  pub failures : failed ≡ 0
+
+-- ---- a query
+
+-- These entries are given: each is of a stream of the tenant that the text selects and in the range, they stand in their order, each
+-- once, and they are not more than the limit. Each shard had accepted at least as many entries as were told of it.
+pub record IsGiven (settings : StoreSettings) (query : QueryCommand) (known : Told) (found : List Found) (fronts : List ℕ) : Type 0 where
+  pub reads : Reads query.text
+  pub selected : AreSelected query.tenant reads.ms found
+  pub within : AllPass (is_within query.start query.end) found
+  pub in_order : IsSortedBy (precedes query.order) found
+  pub most : length found ≤ query.limit
+  pub all : length fronts ≡ settings.shards
+  pub no_less : (i : ℕ) (front : ℕ) → slice_get fronts i ≡ Some front → known i ≤ front
+
+-- what a query comes to: its text is refused; these entries are given, where the shards had accepted so many; or it is not answered
+pub data Answer : Type 0 where
+  Refused : TextFault → Answer
+  Given : List Found → List ℕ → Answer
+  Failed : AnswerFault → Answer
+
+abbrev pub QueryMayBe : StoreSettings → QueryCommand → Told → Answer → Type 0
+QueryMayBe settings query told (Refused fault) = IsSelectorFault query.text fault
+QueryMayBe settings query told (Given found fronts) = IsGiven settings query told found fronts
+QueryMayBe settings query told (Failed fault) = Reads query.text
+
+abbrev pub query_reply : Answer → Data
+query_reply (Refused fault) = fault_data (text_refusal_of fault) (text_fault_place fault)
+query_reply (Given found fronts) = query_data found fronts
+query_reply (Failed fault) = fault_data (answer_refusal_of fault) None
+
+-- how many queries the store failed
+abbrev pub failed_of : Answer → ℕ
+failed_of (Refused fault) = 0
+failed_of (Given found fronts) = 0
+failed_of (Failed (Node fault)) = 0
+failed_of (Failed (Query queries.NoMemory)) = 0
+failed_of (Failed (Query (queries.StoreFault key))) = 1
+failed_of (Failed (Query (queries.BadObject key))) = 0
+
+-- over an end of the store that counts its failures from before to after
+pub record CameTo (settings : StoreSettings) (query : QueryCommand) (known : Told) (before after : ℕ) (reply : Data) : Type 0 where
+  pub answer : Answer
+  pub may_be : QueryMayBe settings query known answer
+  pub told : reply ≡ query_reply answer
+  pub causes : HaveCause before after (failed_of answer)
+
+-- a query is obeyed
+pub record ObeysQuery (settings : StoreSettings) (query : QueryCommand) (old new : Told) (failed : ℕ) (reply : Data) : Type 0 where
+  pub answer : Answer
+  pub may_be : QueryMayBe settings query old answer
+  pub told : reply ≡ query_reply answer
+  pub left : Stays old new
+  pub failures : failed ≡ failed_of answer
+
+-- ---- one command
+
+-- From old, a command may be obeyed, with this reply and so many failed queries, and leave new.
+abbrev pub ObeysCommand : StoreSettings → Told → Told → ℕ → Data → Command → Type 0
+ObeysCommand settings old new failed reply (commands.Push push) = ObeysPush settings push old new failed reply
+ObeysCommand settings old new failed reply (commands.Sweep sweep) = ObeysBy IsSweepReply old new failed reply
+ObeysCommand settings old new failed reply (commands.Flush flush) = ObeysBy IsFlushReply old new failed reply
+ObeysCommand settings old new failed reply (commands.Gauges gauges) = ObeysBy (IsGaugesReply settings) old new failed reply
+ObeysCommand settings old new failed reply (commands.Query query) = ObeysQuery settings query old new failed reply
+
+-- ---- the report
+
+-- Of each shard as many entries are reported accepted as were told, and each of them is stored or kept.
+pub record IsReport (shards : ℕ) (known : Told) (reports : List ShardReport) : Type 0 where
+  pub all : length reports ≡ shards
+  pub accepted : (i : ℕ) (r : ShardReport) → slice_get reports i ≡ Some r → r.accepted ≡ known i
+  pub recovered : (i : ℕ) (r : ShardReport) → slice_get reports i ≡ Some r → r.recovered ≡ 0
+  pub whole : (i : ℕ) (r : ShardReport) → slice_get reports i ≡ Some r → r.accepted + r.recovered ≡ r.stored + r.kept
+
+-- what is reported
+pub record ReportsAll (shards : ℕ) (known : Told) (report : Data) : Type 0 where
+  pub reports : List ShardReport
+  pub are : IsReport shards known reports
+  pub told : report ≡ report_data reports
+
+-- in place of a report a refusal stands where a share of a shard's books is missing, or a shard is misplaced
+pub record RefusesReport (report : Data) : Type 0 where
+  pub why : CloseRefusal
+  pub reason : HasReason why
+  pub told : report ≡ fault_data (close_refusal_of why) None
+
+abbrev pub Reports : ℕ → Told → Data → Type 0
+Reports shards told report = ReportsAll shards told report ⊎ RefusesReport report
+
+-- ---- so many shards behind locks
+
+abbrev pub by_ledger : ℕ → Manner
+by_ledger shards = record {
+  Held = Told;
+  nothing = λ _. 0;
+  obeys = ObeysCommand;
+  reports = Reports shards;
+}

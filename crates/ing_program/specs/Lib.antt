@@ -1,0 +1,2 @@
+pub mod ByLedger
+pub mod Starting

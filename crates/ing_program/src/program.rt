@@ -1,0 +1,142 @@
+//! From argument words and a settings file to a run.
+ghost use Rattle.std.specs.Prelude.{◌≡◌, ◌≢◌, ◌↔◌, ◌<◌, ◌⊎◌, List, ℕ, IfOk, IfErr, OnOk, OnErr, IsErrOf, IfSome, Ok, Err, None, map, length, ⊤};
+ghost use Rattle.std.specs.String.{string_bytes};
+ghost use Rattle.ing_limits.specs.Settings.{StoreSettings};
+ghost use Rattle.ing_session.specs.Endings.{IsNotOpened, ending_status, refusal_of};
+ghost use Rattle.ing_session.specs.Runs.{AnswersAll, AnswersWhatWasRead, AnswersFirstLines, AnswersFront};
+ghost use Rattle.ing_program.specs.Starting.{GiveSettings, NamesFile, manner_of, started_by};
+
+use crate::shards::run_shards;
+use ing_limits::Settings;
+use ing_session::{Ending, run};
+use ing_store::{Fuse, MemoryStore};
+use std::alloc::Global;
+use std::fs;
+use std::io::{ErrorKind, Read, Write};
+use std::rt::Files;
+use std::sync::Wait;
+
+/// Reads the argument words, `[SETTINGS]`, and runs: with the settings of the TOML file at that path, or without a word
+/// with all defaults.
+///
+/// `BadArguments` where there are more words, then `NoSettings` where the file cannot be read; the others as `start_on`
+/// says. `NoMemory` may stand in place of any. (Own.)
+pub fn start<F: Files + AllocGlobal + Wait, R: Read, W: Write>(
+    rt: &F,
+    words: &[String],
+    reader: &mut R,
+    writer: &mut W,
+) -> Result<(), Ending>
+    ensures output { OnOk result (IfSome (R.remaining reader.old) (λ input.
+        GiveSettings (map string_bytes words.now) (λ settings.
+        AnswersAll (manner_of settings) settings input 0 0 (W.contents writer.old) (W.contents writer.new)))) }
+    ensures input_fault { IsErrOf result Ending.InputFault →
+        IfSome (R.remaining reader.old) (λ input.
+        GiveSettings (map string_bytes words.now) (λ settings.
+        AnswersWhatWasRead (manner_of settings) settings input (R.remaining reader.new) 0 0
+        (W.contents writer.old) (W.contents writer.new))) }
+    ensures no_memory { IsErrOf result Ending.NoMemory → (writer.new ≡ writer.old)
+        ⊎ IfSome (R.remaining reader.old) (λ input.
+        GiveSettings (map string_bytes words.now) (λ settings.
+        AnswersFirstLines (manner_of settings) settings input 0 0 (W.contents writer.old) (W.contents writer.new))) }
+    ensures output_fault { IsErrOf result Ending.OutputFault →
+        IfSome (R.remaining reader.old) (λ input.
+        GiveSettings (map string_bytes words.now) (λ settings.
+        AnswersFront (manner_of settings) settings input 0 0 (W.contents writer.old) (W.contents writer.new))) }
+    ensures begun { IsErrOf result Ending.OutputFault →
+        GiveSettings (map string_bytes words.now) (λ settings. ⊤) }
+    ensures refused { IfErr result (λ e. IfSome (refusal_of e) (λ refusal.
+        (file : List ℕ) × NamesFile (map string_bytes words.now) file × (started_by file ≡ Err refusal))) }
+    ensures words { IsErrOf result Ending.BadArguments ↔ (1 < length words.now) }
+    ensures named { IsErrOf result Ending.NoSettings → length words.now ≡ 1 }
+    ensures silent { IfErr result (λ e. ending_status e ≡ 1 → writer.new ≡ writer.old) }
+    ensures not_opened { IfErr result (λ e. IsNotOpened e → writer.new ≡ writer.old) }
+{
+    let file = settings_file(rt, words)?;
+    start_on(rt, &file, reader, writer)
+}
+
+/// The bytes of the settings file that the argument words name; none without a word.
+fn settings_file<F: Files + AllocGlobal>(rt: &F, words: &[String]) -> Result<Vec<u8>, Ending>
+    ensures file { IfOk result (λ file. NamesFile (map string_bytes words.now) file.items) }
+    ensures words { IsErrOf result Ending.BadArguments ↔ (1 < length words.now) }
+    ensures named { IsErrOf result Ending.NoSettings → length words.now ≡ 1 }
+    ensures refused { IfErr result (λ e. refusal_of e ≡ None) }
+    ensures ending { IfErr result (λ e. (e ≡ Ending.NoMemory) ⊎ (e ≡ Ending.NoSettings)
+        ⊎ (e ≡ Ending.BadArguments)) }
+{
+    match words {
+        [] => Ok(Vec::new(rt.alloc())),
+        [path] => read_file(rt, path.as_str()),
+        _ => Err(Ending::BadArguments),
+    }
+}
+
+/// The bytes of a file.
+fn read_file<F: Files + AllocGlobal>(rt: &F, path: &str) -> Result<Vec<u8>, Ending>
+    ensures ending { IfErr result (λ e. (e ≡ Ending.NoMemory) ⊎ (e ≡ Ending.NoSettings)) }
+{
+    match fs::read(rt, path) {
+        Ok(bytes) => Ok(bytes),
+        Err(error) if error.kind() == ErrorKind::OutOfMemory => Err(Ending::NoMemory),
+        Err(_) => Err(Ending::NoSettings),
+    }
+}
+
+/// Runs by the settings that the bytes of a settings file give, over a store in memory, which ends with the run: as `run` where
+/// there is one shard, and as `run_shards` where there are more.
+///
+/// `NotToml` where they are not UTF-8 or no TOML, `UnknownSetting` and `BadSetting` as `Settings::from_toml` says; these in
+/// this order, and nothing is written. The others as `run` and `run_shards` say. `NoMemory` may stand in place of any. (Own.)
+pub fn start_on<T: AllocGlobal + Wait, R: Read, W: Write>(
+    rt: &T,
+    file: &[u8],
+    reader: &mut R,
+    writer: &mut W,
+) -> Result<(), Ending>
+    ensures output { OnOk result (IfSome (R.remaining reader.old) (λ input.
+        (settings : StoreSettings) × (started_by file.now ≡ Ok settings)
+        × AnswersAll (manner_of settings) settings input 0 0 (W.contents writer.old) (W.contents writer.new))) }
+    ensures refused { IfErr result (λ e. IfSome (refusal_of e) (λ refusal.
+        started_by file.now ≡ Err refusal)) }
+    ensures input_fault { IsErrOf result Ending.InputFault → IfSome (R.remaining reader.old) (λ input.
+        (settings : StoreSettings) × (started_by file.now ≡ Ok settings)
+        × AnswersWhatWasRead (manner_of settings) settings input (R.remaining reader.new) 0 0
+        (W.contents writer.old) (W.contents writer.new)) }
+    ensures no_memory { IsErrOf result Ending.NoMemory → (writer.new ≡ writer.old)
+        ⊎ IfSome (R.remaining reader.old) (λ input.
+        (settings : StoreSettings) × (started_by file.now ≡ Ok settings)
+        × AnswersFirstLines (manner_of settings) settings input 0 0 (W.contents writer.old) (W.contents writer.new)) }
+    ensures output_fault { IsErrOf result Ending.OutputFault →
+        IfSome (R.remaining reader.old) (λ input.
+        (settings : StoreSettings) × (started_by file.now ≡ Ok settings)
+        × AnswersFront (manner_of settings) settings input 0 0 (W.contents writer.old) (W.contents writer.new)) }
+    ensures begun { IsErrOf result Ending.OutputFault →
+        (settings : StoreSettings) × (started_by file.now ≡ Ok settings) }
+    ensures file_read { IfErr result (λ e. (e ≢ Ending.BadArguments) × (e ≢ Ending.NoSettings)) }
+    ensures silent { IfErr result (λ e. ending_status e ≡ 1 → writer.new ≡ writer.old) }
+    ensures not_opened { IfErr result (λ e. IsNotOpened e → writer.new ≡ writer.old) }
+{
+    let settings = settings_of_file(rt.alloc(), file)?;
+    let store = MemoryStore::new(rt.alloc())?;
+    let mut end = store.end(rt, Fuse::None);
+    if settings.shards() == 1 {
+        return run(rt.alloc(), reader, writer, &mut end, settings);
+    }
+    let flushing = store.end(rt, Fuse::None);
+    run_shards(rt, rt.alloc(), reader, writer, &mut end, flushing, settings)
+}
+
+/// The settings that the bytes of a file give.
+fn settings_of_file(alloc: Global, file: &[u8]) -> Result<Settings, Ending>
+    ensures settings { IfOk result (λ settings. started_by file.now ≡ Ok settings) }
+    ensures refused { IfErr result (λ e. IfSome (refusal_of e) (λ refusal.
+        started_by file.now ≡ Err refusal)) }
+    ensures memory { IfErr result (λ e. refusal_of e ≡ None → e ≡ Ending.NoMemory) }
+{
+    let Ok(text) = str::from_utf8(file) else {
+        return Err(Ending::NotToml);
+    };
+    let settings = Settings::from_toml(alloc, text)?;
+    Ok(settings)
+}

@@ -1,0 +1,102 @@
+//! A run over shards behind locks.
+ghost use Rattle.std.specs.Prelude.{◌≡◌, ◌⊎◌, IfErr, IfSome, IsErrOf, IsTrue, OnOk};
+ghost use Rattle.ing_node.specs.Names.{AreNamed};
+ghost use Rattle.ing_session.specs.Endings.{IsNotOpened, is_of_run};
+ghost use Rattle.ing_session.specs.Causes.{GoesOn};
+ghost use Rattle.ing_session.specs.Runs.{AnswersAll, AnswersWhatWasRead, AnswersFirstLines, AnswersFront};
+ghost use Rattle.ing_program.specs.ByLedger.{by_ledger};
+
+use crate::locked::Locked;
+use ing_limits::Settings;
+use ing_node::{NodeName, Shards};
+use ing_session::{Ending, serve_all};
+use ing_store::{Receipt, StoreEnd};
+use std::alloc::Global;
+use std::io::{Read, Write};
+use std::marker::Brand;
+use std::sync::Wait;
+
+/// Runs over new shards with these settings, each behind a lock: as `serve_all`. A flush puts into the store by `flushing`, and a
+/// query reads by `end`. What is accepted is reported of each shard as many times as it was told, and accepted plus recovered are
+/// stored plus kept. As `serve_all`; besides `NotOpened` as `Locked::open`. (Own.)
+pub fn run_shards<
+    I: Read,
+    O: Write,
+    R: Receipt,
+    F: StoreEnd<Receipt = R> + Drop,
+    W: Wait,
+    S: StoreEnd<Receipt = R>,
+>(
+    rt: &W,
+    alloc: Global,
+    reader: &mut I,
+    writer: &mut O,
+    end: &mut S,
+    flushing: F,
+    settings: Settings,
+) -> Result<(), Ending>
+    ensures output { OnOk result (IfSome (I.remaining reader.old) (λ input.
+        AnswersAll (by_ledger settings.shards) settings input (S.failure_count end.old) (S.failure_count end.new)
+        (O.contents writer.old) (O.contents writer.new))) }
+    ensures input_fault { IsErrOf result Ending.InputFault → IfSome (I.remaining reader.old) (λ input.
+        AnswersWhatWasRead (by_ledger settings.shards) settings input (I.remaining reader.new)
+        (S.failure_count end.old) (S.failure_count end.new)
+        (O.contents writer.old) (O.contents writer.new)) }
+    ensures no_memory { IsErrOf result Ending.NoMemory → (writer.new ≡ writer.old)
+        ⊎ IfSome (I.remaining reader.old) (λ input.
+        AnswersFirstLines (by_ledger settings.shards) settings input (S.failure_count end.old) (S.failure_count end.new)
+        (O.contents writer.old) (O.contents writer.new)) }
+    ensures output_fault { IsErrOf result Ending.OutputFault →
+        IfSome (I.remaining reader.old) (λ input.
+        AnswersFront (by_ledger settings.shards) settings input (S.failure_count end.old) (S.failure_count end.new)
+        (O.contents writer.old) (O.contents writer.new)) }
+    ensures end { GoesOn S.never_fails S.failure_count end.old end.new }
+    ensures not_opened { IfErr result (λ e. IsNotOpened e → writer.new ≡ writer.old) }
+    ensures ending { IfErr result (λ e. IsTrue (is_of_run e) ⊎ IsNotOpened e) }
+{
+    let shards: Shards<R> = Shards::fresh(alloc, settings)?;
+    run_locked::<Brand, I, O, R, F, W, S>(rt, alloc, reader, writer, end, flushing, shards)
+}
+
+/// Runs over an ingester of these shards, which N has to name: its whole life. As `run_shards`. (Own.)
+pub fn run_locked<
+    N: NodeName,
+    I: Read,
+    O: Write,
+    R: Receipt,
+    F: StoreEnd<Receipt = R> + Drop,
+    W: Wait,
+    S: StoreEnd<Receipt = R>,
+>(
+    rt: &W,
+    alloc: Global,
+    reader: &mut I,
+    writer: &mut O,
+    end: &mut S,
+    flushing: F,
+    shards: Shards<R>,
+) -> Result<(), Ending>
+    requires settings { shards.settings ≡ N.settings }
+    requires named { AreNamed N.books shards.shards.items }
+    ensures output { OnOk result (IfSome (I.remaining reader.old) (λ input.
+        AnswersAll (by_ledger N.settings.shards) N.settings input (S.failure_count end.old) (S.failure_count end.new)
+        (O.contents writer.old) (O.contents writer.new))) }
+    ensures input_fault { IsErrOf result Ending.InputFault → IfSome (I.remaining reader.old) (λ input.
+        AnswersWhatWasRead (by_ledger N.settings.shards) N.settings input (I.remaining reader.new)
+        (S.failure_count end.old) (S.failure_count end.new)
+        (O.contents writer.old) (O.contents writer.new)) }
+    ensures no_memory { IsErrOf result Ending.NoMemory → (writer.new ≡ writer.old)
+        ⊎ IfSome (I.remaining reader.old) (λ input.
+        AnswersFirstLines (by_ledger N.settings.shards) N.settings input (S.failure_count end.old) (S.failure_count end.new)
+        (O.contents writer.old) (O.contents writer.new)) }
+    ensures output_fault { IsErrOf result Ending.OutputFault →
+        IfSome (I.remaining reader.old) (λ input.
+        AnswersFront (by_ledger N.settings.shards) N.settings input (S.failure_count end.old) (S.failure_count end.new)
+        (O.contents writer.old) (O.contents writer.new)) }
+    ensures end { GoesOn S.never_fails S.failure_count end.old end.new }
+    ensures not_opened { IfErr result (λ e. IsNotOpened e → writer.new ≡ writer.old) }
+    ensures ending { IfErr result (λ e. IsTrue (is_of_run e) ⊎ IsNotOpened e) }
+{
+    let locked: Locked<'_, N, R, F, W> = Locked::open(rt, alloc, flushing, shards)?;
+    serve_all(alloc, reader, writer, end, locked)
+}

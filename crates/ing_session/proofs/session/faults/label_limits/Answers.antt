@@ -1,5 +1,0 @@
-use Rattle.std.proofs.Common.{refl}
-use Rattle.ing_session.proofs.session.faults.label_limits.Goals as goal
-
-pub returns : goal.returns
-returns c = refl

@@ -1,0 +1,49 @@
+//! What a run stands on.
+
+use crate::reply::Reply;
+use ing_commands::Command;
+use std::alloc::AllocError;
+
+/// What obeys the commands of a run: shards, whoever has them. S is an end of the store, which is passed to each command. A
+/// service cannot be dropped: it makes its report, or it is put away.
+pub trait Service<S> {
+    ghost use Rattle.std.specs.Prelude.{◌≡◌, ℕ, IfOk, Ok};
+    ghost use Rattle.ing_limits.specs.Settings.{StoreSettings};
+    ghost use Rattle.ing_commands.specs.Views.{command_view};
+    ghost use Rattle.ing_session.specs.Causes.{GoesOn};
+    ghost use Rattle.ing_session.specs.Manners.{Manner};
+    ghost use Rattle.ing_session.specs.Runs.{IsObeyed};
+    ghost use Rattle.ing_session.specs.Views.{reply_data};
+
+    /// What it may do at a command, and report at the end.
+    ghost manner: { Manner };
+
+    /// What is held, as far as it can be known.
+    ghost holds: { Self → manner.Held → Type 0 };
+
+    /// The settings.
+    ghost settings_of: { Self → StoreSettings };
+
+    /// How often an end of the store has failed.
+    ghost failures: { S → ℕ };
+
+    /// An end of the store never fails.
+    ghost never_fails: { S → Type 0 };
+
+    /// Does what a command says, and gives the reply. It fails only where memory runs out; then a part of what the command says
+    /// may be done.
+    fn obey(&mut self, end: &mut S, command: Command<'_>) -> Result<Reply, AllocError>
+        ensures obeyed { IfOk result (λ reply. (old : manner.Held) → holds self.old old →
+            IsObeyed manner (settings_of self.old) (Ok (command_view command.entry)) old (holds self.new)
+            (failures end.old) (failures end.new) (reply_data reply)) }
+        ensures settings { settings_of self.new ≡ settings_of self.old }
+        ensures end { GoesOn never_fails failures end.old end.new };
+
+    /// Makes the report, and lets go what is in memory.
+    fn report(self) -> Result<Reply, AllocError>
+        ensures { IfOk result (λ reply. (held : manner.Held) → holds self held →
+            manner.reports held (reply_data reply)) };
+
+    /// Lets go what is in memory. Takes no memory.
+    fn put_away(self);
+}
