@@ -1,1 +1,2 @@
 pub mod Risen
+pub mod LineLaws

@@ -1,4 +1,4 @@
-//! How a claimed chunk is flushed, through whatever way a shard is reached.
+//! How a claimed chunk is flushed, through whatever way a shard is reached, and the queue of what is to be flushed.
 #![tactic(auto)]
 
 mod door;
@@ -6,10 +6,13 @@ mod flush;
 mod flusher;
 mod gate;
 mod gated_end;
+mod line;
+mod queue;
 mod tally;
 
 pub use door::{Door, Unfinished};
 pub use flush::{Flushed, flush_one};
 pub use flusher::Flusher;
 pub use gate::{FreeGate, Gate};
+pub use queue::{FlushQueue, QueueFull, QueuePass};
 pub use tally::FlusherTally;

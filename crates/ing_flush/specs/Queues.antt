@@ -1,0 +1,26 @@
+-- What contracts see of a flush queue and of its passes (own).
+use Rattle.std.specs.Prelude.{ℕ, Bool, List, drop, length}
+use Rattle.atomic_table.specs.Seated.{TableId}
+use Rattle.crossbeam_queue.specs.Passes.{Pass, view}
+use Rattle.ing_shard.specs.declared.due.Op.{Op}
+use Rattle.ing_flush.specs.declared.line.Moved.{Moved}
+
+-- a queue: its name, and how many operations it has room for
+pub record QueueState : Type 0 where
+  pub name : TableId
+  pub capacity : ℕ
+
+-- a pass: the name of its queue, what was put and taken by it, in order, and whether it is the queue's only one
+pub record PassState : Type 0 where
+  pub queue : TableId
+  pub put : List Op
+  pub taken : List Op
+  pub alone : Bool
+
+-- what contracts see of a pass
+abbrev pub pass_of : Pass Op Moved → PassState
+pass_of pass = record { queue = pass.table_id; put = (view pass).put; taken = (view pass).taken; alone = (view pass).alone }
+
+-- what stands in the queue of an only pass, oldest first: what was put and not taken yet
+abbrev pub standing : PassState → List Op
+standing pass = drop (length pass.taken) pass.put
