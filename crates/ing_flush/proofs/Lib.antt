@@ -1,2 +1,3 @@
 pub mod Risen
 pub mod LineLaws
+pub mod RoundLaws

@@ -8,11 +8,15 @@ mod gate;
 mod gated_end;
 mod line;
 mod queue;
+mod round;
 mod tally;
+mod worker;
 
 pub use door::{Door, Unfinished};
 pub use flush::{Flushed, flush_one};
 pub use flusher::Flusher;
 pub use gate::{FreeGate, Gate};
 pub use queue::{FlushQueue, QueueFull, QueuePass};
+pub use round::Round;
 pub use tally::FlusherTally;
+pub use worker::{Worker, flush_queued};

@@ -1,5 +1,5 @@
 //! What a flusher has stored, shard by shard.
-ghost use Rattle.std.specs.Prelude.{◌≡◌};
+ghost use Rattle.std.specs.Prelude.{◌≡◌, length};
 
 use ing_tally::{Share, strand_each};
 use std::marker::Model;
@@ -25,6 +25,13 @@ impl FlusherTally {
         ensures { result ≡ shares.items }
     {
         FlusherTally { shares }
+    }
+
+    /// How many shards it counts for.
+    pub fn shards(&self) -> usize
+        ensures { result ≡ length self.now }
+    {
+        self.shares.len()
     }
 
     /// Its shares.
