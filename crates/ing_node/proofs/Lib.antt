@@ -5,3 +5,4 @@ pub mod PusherLaws
 pub mod Sealed
 pub mod Selected
 pub mod VerdictLaws
+pub mod RoundLaws

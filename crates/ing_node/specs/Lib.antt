@@ -6,3 +6,4 @@ pub mod Queries
 pub mod Reports
 pub mod Closing
 pub mod AnswerFaults
+pub mod Sweeps

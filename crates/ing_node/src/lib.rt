@@ -4,6 +4,7 @@
 mod closing;
 mod door;
 mod fault;
+mod flushing;
 mod gathering;
 mod held;
 mod ingester;
@@ -12,11 +13,14 @@ mod names;
 mod pusher;
 mod query;
 mod report;
+mod rounds;
 mod shards;
+mod swept;
 mod told;
 
 pub use closing::CloseFault;
 pub use fault::NodeFault;
+pub use flushing::{FlusherFault, Flushing, Sweeper};
 pub use ingester::Ingester;
 pub use laws::push;
 pub use names::NodeName;
@@ -24,3 +28,4 @@ pub use pusher::Pusher;
 pub use query::{Answer, AnswerFault};
 pub use report::{CloseRefusal, Report, ShardReport};
 pub use shards::Shards;
+pub use swept::Swept;
