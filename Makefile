@@ -1,9 +1,10 @@
 # `make help` lists what there is.
-.PHONY: help try run build check test mutants bench worlds documents
+.PHONY: help try run build check test mutants bench worlds stress documents
 program = crates/ingestd/out/ingestd
 postings_figures = crates/bench_postings/out/bench_postings
 codec_figures = crates/bench_codec/out/bench_codec
 worlds_by_lot = crates/test_worlds/out/test_worlds
+nodes_by_lot = crates/test_nodes/out/test_nodes
 sources = crates.txt $(shell find crates -name out -prune -o \( -name '*.rt' -o -name '*.antt' \) -print)
 
 help:
@@ -15,6 +16,7 @@ help:
 	@echo 'make mutants  tries the other wrong bodies, each of which the prover has to refuse; CRATE=NAME for those of one crate'
 	@echo 'make bench    figures of time, to be read (bench/README.md)'
 	@echo 'make worlds   10,000 lists of events by lot, beside a slow program'
+	@echo 'make stress   10,000 lives of an ingester by lot, each of several threads'
 
 # The toolchain's own lines go to standard error, so that standard output has the replies alone.
 try:
@@ -55,9 +57,10 @@ documents:
 	  done; \
 	done
 
-bench: $(postings_figures) $(codec_figures) $(program)
+bench: $(postings_figures) $(codec_figures) $(nodes_by_lot) $(program)
 	@$(postings_figures) times 10000 30000 100000
 	@$(codec_figures) times 120 4096
+	@$(nodes_by_lot) times 1000000
 	@bench/pushes.sh $(program)
 
 $(postings_figures): $(sources)
@@ -73,4 +76,11 @@ worlds: $(worlds_by_lot)
 
 $(worlds_by_lot): $(sources)
 	@scripts/build.sh test_worlds 1
+	@touch $@
+
+stress: $(nodes_by_lot)
+	@$(nodes_by_lot) lots 10000
+
+$(nodes_by_lot): $(sources)
+	@scripts/build.sh test_nodes counts 20
 	@touch $@

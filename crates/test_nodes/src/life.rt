@@ -1,0 +1,317 @@
+//! The whole life of an ingester.
+ghost use Rattle.std.specs.Prelude.{◌≡◌, ◌<◌, ◌≤◌, ◌+◌, All, IfOk, vec_len, vec_capacity};
+ghost use Rattle.ing_node.specs.Names.{AreNamed, IsTallyOf};
+
+use crate::done::Done;
+use crate::fault::LifeFault;
+use crate::hand::Hand;
+use crate::kept_end::Object;
+use crate::plan::Plan;
+use ing_flush::FlusherTally;
+use ing_limits::Settings;
+use ing_node::{Answer, CloseFault, CloseRefusal, Ingester, NodeName, Pusher, Report, Shards};
+use std::alloc::{AllocError, Global};
+use std::marker::Brand;
+use std::sync::Wait;
+use std::thread::{Threads, for_each_mut};
+
+/// What a life of an ingester left.
+#[derive(Drop)]
+pub struct Life {
+    /// The answer to a query for all entries, once the hands were done.
+    pub answer: Answer,
+    /// What the hands were told of each shard, by number.
+    pub told: Vec<u64>,
+    /// What the hands have done.
+    pub done: Done,
+    /// What the close reports.
+    pub report: Report,
+}
+
+impl Life {
+    /// Whether each hand came to its end, the report is what was counted, of each shard and in all, and each entry that was accepted
+    /// was found.
+    pub fn check(&self) -> Result<(), LifeFault> {
+        if let Some(fault) = self.done.fault {
+            return Err(fault);
+        }
+        if self.report.shards.len() != self.told.len() {
+            return Err(LifeFault::Report);
+        }
+        let (mut accepted, mut stored) = (0u64, 0u64);
+        for (shard, told) in self.report.shards.iter().zip(&self.told) {
+            if shard.accepted != *told
+                || shard.accepted != shard.stored.saturating_add(shard.kept)
+            {
+                return Err(LifeFault::Report);
+            }
+            accepted = accepted.saturating_add(shard.accepted);
+            stored = stored.saturating_add(shard.stored);
+        }
+        if accepted != self.done.accepted || stored != self.done.stored {
+            return Err(LifeFault::Report);
+        }
+        if self.answer.entries.len() as u64 != accepted {
+            return Err(LifeFault::NotFound);
+        }
+        Ok(())
+    }
+}
+
+/// The parts of an ingester's hands.
+struct Parts<N: NodeName> {
+    pushers: Vec<Pusher<N>>,
+    tallies: Vec<FlusherTally>,
+    ghost own: { All (IsTallyOf N.settings.shards N.books) tallies.items },
+}
+
+/// A life of an ingester with these settings: each hand works in a thread of its own, of at most so many, then one asks for all
+/// entries, and the ingester is closed. Of each call that memory is refused to it tries a second.
+pub fn live<W: Threads + Wait + Sync>(
+    rt: &W,
+    alloc: Global,
+    settings: &str,
+    plans: &[Plan],
+    threads: usize,
+) -> Result<Life, LifeFault>
+    requires { 0 < threads }
+{
+    let shards = match fresh(alloc, settings) {
+        Err(LifeFault::NoMemory) => fresh(alloc, settings)?,
+        shards => shards?,
+    };
+    whole_life::<Brand, W>(rt, alloc, shards, plans, threads)
+}
+
+/// Shards with these settings.
+pub fn fresh(alloc: Global, settings: &str) -> Result<Shards<Object>, LifeFault> {
+    Ok(Shards::fresh(alloc, Settings::from_toml(alloc, settings)?)?)
+}
+
+fn whole_life<N: NodeName + Send + Sync, W: Threads + Wait + Sync>(
+    rt: &W,
+    alloc: Global,
+    shards: Shards<Object>,
+    plans: &[Plan],
+    threads: usize,
+) -> Result<Life, LifeFault>
+    requires settings { shards.settings ≡ N.settings }
+    requires named { AreNamed N.books shards.shards.items }
+    requires threads { 0 < threads }
+{
+    let count = shards.settings().shards();
+    let node: Ingester<N, Object> = opened(alloc, shards)?;
+    let mut hands = hands_of(rt, alloc, &node, count, plans)?;
+    work(rt, alloc, &node, hands.as_mut_slice(), threads);
+    let found = found(rt, alloc, &node, &mut hands);
+    let told = told(alloc, count, &hands);
+    let done = all_done(&hands);
+    let report = closed(alloc, node, hands)?;
+    Ok(Life {
+        answer: found?,
+        told: told?,
+        done,
+        report,
+    })
+}
+
+/// The ingester of these shards.
+pub fn opened<N: NodeName>(
+    alloc: Global,
+    shards: Shards<Object>,
+) -> Result<Ingester<N, Object>, LifeFault>
+    requires settings { shards.settings ≡ N.settings }
+    requires named { AreNamed N.books shards.shards.items }
+{
+    let shards = match Ingester::open(alloc, shards) {
+        Ok(node) => return Ok(node),
+        Err(shards) => shards,
+    };
+    match Ingester::open(alloc, shards) {
+        Ok(node) => Ok(node),
+        Err(shards) => {
+            shards.abandon();
+            Err(LifeFault::NoMemory)
+        }
+    }
+}
+
+/// Room for so many.
+fn room<T>(alloc: Global, count: usize) -> Result<Vec<T>, AllocError>
+    ensures empty { IfOk result (λ list. vec_len list ≡ 0) }
+    ensures room { IfOk result (λ list. count ≤ vec_capacity list) }
+{
+    match Vec::with_capacity(alloc, count) {
+        Ok(list) => Ok(list),
+        Err(AllocError) => Vec::with_capacity(alloc, count),
+    }
+}
+
+/// The hands of an ingester, one for each plan.
+pub fn hands_of<N: NodeName, W: Wait>(
+    rt: &W,
+    alloc: Global,
+    node: &Ingester<N, Object>,
+    shards: u32,
+    plans: &[Plan],
+) -> Result<Vec<Hand<N>>, LifeFault>
+    requires { shards ≡ N.settings.shards }
+{
+    let mut hands = room(alloc, plans.len())?;
+    while hands.len() < plans.len() {
+        let plan = plans[hands.len()];
+        let hand = match Hand::new(rt, alloc, node, shards, plan) {
+            Err(LifeFault::NoMemory) => Hand::new(rt, alloc, node, shards, plan),
+            hand => hand,
+        };
+        match hand {
+            Ok(hand) => hands.push_reserved(hand),
+            Err(fault) => {
+                strand_all(hands);
+                return Err(fault);
+            }
+        }
+    }
+    Ok(hands)
+}
+
+/// Gives the shares of all hands up.
+fn strand_all<N: NodeName>(mut hands: Vec<Hand<N>>) {
+    while let Some(hand) = hands.pop() {
+        hand.strand();
+    }
+    hands.destroy_empty();
+}
+
+/// Each hand works, in at most so many threads.
+pub fn work<N: NodeName + Send + Sync, W: Threads + Wait + Sync>(
+    rt: &W,
+    alloc: Global,
+    node: &Ingester<N, Object>,
+    hands: &mut [Hand<N>],
+    threads: usize,
+)
+    requires { 0 < threads }
+{
+    let work = |_: usize, hand: &mut Hand<N>| hand.work(rt, alloc, node);
+    for_each_mut(rt, hands, threads, &work);
+}
+
+/// What one of the hands finds.
+fn found<N: NodeName, W: Wait>(
+    rt: &W,
+    alloc: Global,
+    node: &Ingester<N, Object>,
+    hands: &mut Vec<Hand<N>>,
+) -> Result<Answer, LifeFault> {
+    let hand = hands.first_mut().ok_or(LifeFault::Text)?;
+    match hand.found(rt, alloc, node) {
+        Err(LifeFault::NoMemory) => hand.found(rt, alloc, node),
+        answer => answer,
+    }
+}
+
+/// What the hands were told of each shard.
+fn told<N: NodeName>(alloc: Global, shards: u32, hands: &[Hand<N>]) -> Result<Vec<u64>, LifeFault> {
+    let mut told = match Vec::from_elem(alloc, 0, shards as usize) {
+        Ok(told) => told,
+        Err(AllocError) => Vec::from_elem(alloc, 0, shards as usize)?,
+    };
+    for hand in hands {
+        hand.add_told(&mut told);
+    }
+    Ok(told)
+}
+
+/// What the hands have done.
+pub fn all_done<N: NodeName>(hands: &[Hand<N>]) -> Done {
+    let mut done = Done::default();
+    for hand in hands {
+        done.add(hand.done());
+    }
+    done
+}
+
+/// Closes the ingester with all of its hands.
+pub fn closed<N: NodeName>(
+    alloc: Global,
+    node: Ingester<N, Object>,
+    hands: Vec<Hand<N>>,
+) -> Result<Report, LifeFault> {
+    let Parts { pushers, tallies } = parted(alloc, hands)?;
+    match node.close(alloc, pushers, tallies) {
+        Ok(report) => Ok(report),
+        Err(fault) => closed_again(alloc, fault),
+    }
+}
+
+/// Closes what a close gave back once more, where memory was refused.
+fn closed_again<N: NodeName>(
+    alloc: Global,
+    fault: CloseFault<N, Object>,
+) -> Result<Report, LifeFault>
+    requires { All (IsTallyOf N.settings.shards N.books) fault.tallies.items }
+{
+    let CloseFault {
+        why,
+        ingester,
+        pushers,
+        tallies,
+    } = fault;
+    if why != CloseRefusal::NoMemory {
+        strand_pushers(pushers);
+        strand_tallies(tallies);
+        return Err(why.into());
+    }
+    match ingester.close(alloc, pushers, tallies) {
+        Ok(report) => Ok(report),
+        Err(fault) => Err(given_up(fault)),
+    }
+}
+
+/// Gives up what a close gave back, and says why it was refused.
+fn given_up<N: NodeName>(fault: CloseFault<N, Object>) -> LifeFault {
+    let CloseFault {
+        why,
+        ingester: _,
+        pushers,
+        tallies,
+    } = fault;
+    strand_pushers(pushers);
+    strand_tallies(tallies);
+    why.into()
+}
+
+fn strand_pushers<N: NodeName>(mut pushers: Vec<Pusher<N>>) {
+    while let Some(pusher) = pushers.pop() {
+        pusher.strand();
+    }
+    pushers.destroy_empty();
+}
+
+fn strand_tallies(mut tallies: Vec<FlusherTally>) {
+    while let Some(tally) = tallies.pop() {
+        tally.strand();
+    }
+    tallies.destroy_empty();
+}
+
+/// The parts of all hands.
+fn parted<N: NodeName>(alloc: Global, mut hands: Vec<Hand<N>>) -> Result<Parts<N>, LifeFault> {
+    let Ok(mut pushers) = room(alloc, hands.len()) else {
+        strand_all(hands);
+        return Err(LifeFault::NoMemory);
+    };
+    let Ok(mut tallies) = room(alloc, hands.len()) else {
+        strand_all(hands);
+        pushers.destroy_empty();
+        return Err(LifeFault::NoMemory);
+    };
+    while let Some(hand) = hands.pop() {
+        let (pusher, tally) = hand.into_parts();
+        pushers.push_reserved(pusher);
+        tallies.push_reserved(tally);
+    }
+    hands.destroy_empty();
+    Ok(Parts { pushers, tallies })
+}

@@ -1,0 +1,89 @@
+//! Lives by lot.
+use crate::done::Done;
+use crate::fault::LifeFault;
+use crate::life::live;
+use crate::lots::Lots;
+use crate::plan::{Plan, Task};
+use anyhow::{Context, Result};
+use std::alloc::{AllocError, Global};
+use std::io::Print;
+use std::rt::Clock;
+use std::sync::Wait;
+use std::thread::Threads;
+use std::time::Instant;
+
+/// Three shards, small blocks and chunks, short times, and at most two entries a push.
+const SETTINGS: &str =
+    "shards = 3\nchunk_block_size = 40\nchunk_target_size = 100\nchunk_idle_period = \"12ns\"\nmax_chunk_age = \"40ns\"\nmax_line_size = 5\n";
+
+/// What is printed.
+#[derive(Clone, Copy, Debug, PartialEq, Eq)]
+pub enum Show {
+    /// What does not vary from run to run.
+    Counts,
+    /// All.
+    All,
+}
+
+/// Lives so many lives by lot, and prints what was done in them.
+pub fn stress<R: AllocGlobal + Threads + Wait + Sync + Clock + Print>(
+    rt: &R,
+    show: Show,
+    rounds: u64,
+) -> Result<()> {
+    let start = Instant::now(rt)?;
+    let mut all = Done::default();
+    let mut hands = 0u64;
+    for round in 0..rounds {
+        let plans = drawn(rt.alloc(), round)?;
+        let done = lived(rt, rt.alloc(), &plans).context("a life")?;
+        hands = hands.saturating_add(plans.len() as u64);
+        all.add(&done);
+    }
+    let Done {
+        pushed,
+        accepted,
+        chunks,
+        stored,
+        failed,
+        queries,
+        fault: _,
+    } = all;
+    println!(rt; "{rounds} lives of {hands} hands, {pushed} entries pushed, every life closed")?;
+    if show == Show::All {
+        let seconds = start.elapsed(rt)?.as_secs();
+        println!(rt;
+            "accepted {accepted}, stored {stored} in {chunks} chunks, flushes failed {failed}, queries {queries}, seconds {seconds}"
+        )?;
+    }
+    Ok(())
+}
+
+/// What was done in a life, which closed with what was counted.
+fn lived<R: Threads + Wait + Sync>(
+    rt: &R,
+    alloc: Global,
+    plans: &[Plan],
+) -> Result<Done, LifeFault> {
+    let life = live(rt, alloc, SETTINGS, plans, 8)?;
+    life.check()?;
+    Ok(life.done)
+}
+
+/// The plans of the hands of a life: up to three that push, up to two that flush, and one that queries or none.
+fn drawn(alloc: Global, round: u64) -> Result<Vec<Plan>, AllocError> {
+    let mut lots = Lots::of(round);
+    let mut plans = Vec::new(alloc);
+    let odds = lots.below(6);
+    for (task, most) in [(Task::Push, 3), (Task::FlushOne, 2), (Task::Query, 1)] {
+        for _ in 0..=lots.below(most) {
+            plans.push(Plan {
+                task,
+                turns: lots.below(24),
+                lots: lots.below(1 << 40),
+                odds,
+            })?;
+        }
+    }
+    Ok(plans)
+}
