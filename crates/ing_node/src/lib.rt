@@ -29,3 +29,6 @@ pub use query::{Answer, AnswerFault};
 pub use report::{CloseRefusal, Report, ShardReport};
 pub use shards::Shards;
 pub use swept::Swept;
+
+#[cfg(test)]
+mod tests;
