@@ -15,6 +15,8 @@ pub struct Done {
     pub stored: u64,
     /// How many flushes failed.
     pub failed: u64,
+    /// How many found that another hand had the chunk.
+    pub nothing: u64,
     /// How many queries were answered.
     pub queries: u64,
     /// Why a hand stopped early.
@@ -39,6 +41,7 @@ impl Done {
         self.chunks = self.chunks.saturating_add(other.chunks);
         self.stored = self.stored.saturating_add(other.stored);
         self.failed = self.failed.saturating_add(other.failed);
+        self.nothing = self.nothing.saturating_add(other.nothing);
         self.queries = self.queries.saturating_add(other.queries);
         if self.fault.is_none() {
             self.fault = other.fault;

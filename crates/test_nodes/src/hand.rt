@@ -72,7 +72,7 @@ impl<N: NodeName> Hand<N> {
         let streams = streams_of(alloc, plan.task)?;
         let all = Selector::parse(alloc, "{all=\"1\"}")?;
         let pusher = node.pusher(rt, alloc)?;
-        let tally = match node.tally(rt, alloc) {
+        let tally = match tally_of(rt, alloc, node) {
             Ok(tally) => tally,
             Err(fault) => {
                 pusher.strand();
@@ -273,7 +273,10 @@ impl<N: NodeName> Hand<N> {
                 self.done.stored = self.done.stored.saturating_add(entries);
                 Ok(())
             }
-            Flushed::Nothing => Ok(()),
+            Flushed::Nothing => {
+                self.done.nothing = self.done.nothing.saturating_add(1);
+                Ok(())
+            }
             Flushed::GaveBack(StoreFault::NoMemory) => Err(LifeFault::NoMemory),
             Flushed::GaveBack(_) => {
                 self.done.failed = self.done.failed.saturating_add(1);
@@ -355,6 +358,20 @@ impl<N: NodeName> Hand<N> {
         pusher.strand();
         tally.strand();
     }
+}
+
+/// A tally, which is asked for once more where it is refused: the shares of a pusher that was made before would stay out.
+fn tally_of<N: NodeName, W: Wait>(
+    rt: &W,
+    alloc: Global,
+    node: &Ingester<N, Object>,
+) -> Result<FlusherTally, NodeFault>
+    ensures { IfOk result (IsTallyOf N.settings.shards N.books) }
+{
+    if let Ok(tally) = node.tally(rt, alloc) {
+        return Ok(tally);
+    }
+    node.tally(rt, alloc)
 }
 
 /// The streams that a task pushes to.

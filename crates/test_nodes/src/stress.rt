@@ -46,6 +46,7 @@ pub fn stress<R: AllocGlobal + Threads + Wait + Sync + Clock + Print>(
         chunks,
         stored,
         failed,
+        nothing,
         queries,
         fault: _,
     } = all;
@@ -53,7 +54,7 @@ pub fn stress<R: AllocGlobal + Threads + Wait + Sync + Clock + Print>(
     if show == Show::All {
         let seconds = start.elapsed(rt)?.as_secs();
         println!(rt;
-            "accepted {accepted}, stored {stored} in {chunks} chunks, flushes failed {failed}, queries {queries}, seconds {seconds}"
+            "accepted {accepted}, stored {stored} in {chunks} chunks, flushes failed {failed}, came late {nothing}, queries {queries}, seconds {seconds}"
         )?;
     }
     Ok(())
@@ -70,7 +71,7 @@ fn lived<R: Threads + Wait + Sync>(
     Ok(life.done)
 }
 
-/// The plans of the hands of a life: up to three that push, up to two that flush, and one that queries or none.
+/// The plans of the hands of a life: one to three that push, one or two that flush, and one that queries.
 fn drawn(alloc: Global, round: u64) -> Result<Vec<Plan>, AllocError> {
     let mut lots = Lots::of(round);
     let mut plans = Vec::new(alloc);
@@ -79,7 +80,7 @@ fn drawn(alloc: Global, round: u64) -> Result<Vec<Plan>, AllocError> {
         for _ in 0..=lots.below(most) {
             plans.push(Plan {
                 task,
-                turns: lots.below(24),
+                turns: lots.below(100),
                 lots: lots.below(1 << 40),
                 odds,
             })?;
