@@ -1,6 +1,6 @@
 -- How a flush leaves a flusher's shares, and what it tells of the store (own).
 use Rattle.std.specs.Prelude.{◌≡◌, ◌≢◌, ◌<◌, ◌≤◌, ℕ, ◌+◌, List, slice_get}
-use Rattle.ing_store.specs.StoreFaults.{HasFailed}
+use Rattle.ing_refusals.specs.Failures.{HasFailed}
 use Rattle.ing_store.specs.declared.fault.StoreFault.{StoreFault}
 use Rattle.ing_store.specs.declared.fault.StoreFault.TheVariants.{NoMemory, Failed, Damaged}
 use Rattle.ing_tally.specs.Books.{ShareState}

@@ -4,6 +4,7 @@ ghost use Rattle.ing_flush.specs.Queues.{standing};
 
 use crate::line::{Another, Line, Moved, Puts, Takes};
 use crossbeam_queue::{Pass, RuledArrayQueue};
+use ing_refusals::Refusal;
 use ing_shard::Op;
 use std::alloc::{AllocError, Global};
 use std::marker::Model;
@@ -52,6 +53,15 @@ impl Model for QueuePass {
 pub struct QueueFull {
     /// The operation.
     pub op: Op,
+}
+
+impl QueueFull {
+    /// Which refusal it is. Takes no memory.
+    pub fn refusal(&self) -> Refusal
+        ensures { result ≡ Refusal.QueueFull }
+    {
+        Refusal::QueueFull
+    }
 }
 
 impl FlushQueue {

@@ -5,10 +5,10 @@ use Rattle.std.specs.Global.{Vec}
 use Rattle.std.proofs.lemmas.List.Sorted.{IsPermutation-refl}
 use Rattle.ing_rows.specs.Rows.{IsSame, State}
 use Rattle.ing_tally.specs.Books.{ShareState}
-use Rattle.ing_shard.specs.Contents.{Contents}
+use Rattle.ing_shard.specs.Contents.{Contents, flying_count, stored_count}
 use Rattle.ing_node.specs.declared.report.ShardReport.{ShardReport}
 use Rattle.ing_node.specs.Closing.{IsComplete, shares_at, shares_in}
-use Rattle.ing_node.specs.Reports.{IsClosed}
+use Rattle.ing_node.specs.Reports.{CountRowsFrom, CountsRows, IsClosed}
 
 -- ---- lists
 
@@ -66,6 +66,16 @@ closed_by accepted stored told counted is_told is_counted within = record {
   all = omega (arith, within);
 }
 
+pub counted_by : (shard : Contents) (accepted stored : ℕ) → accepted ≡ length shard.state.rows → stored ≡ stored_count shard.state.rows → flying_count shard.state.rows ≡ 0
+    → CountsRows shard (record { accepted = accepted; recovered = 0; stored = stored; kept = accepted - stored })
+counted_by shard accepted stored all some none = record { accepted = all; stored = some; landed = none }
+
+-- an item at a place
+pub there : {X : Type 0} (xs : List X) (i : ℕ) → i < length xs → (x : X) × (slice_get xs i ≡ Some x)
+there [] i below = absurd (omega (arith, below))
+there (y ∷ xs) zero below = (y, refl)
+there (y ∷ xs) (suc i) below = there xs i (omega (arith, below))
+
 -- with equal counts
 pub closed_as : (told counted more less : ℕ) (r : ShardReport) → told ≡ more → counted ≡ less → IsClosed told counted r → IsClosed more less r
 closed_as told counted more less r t c is = subst (λ n. IsClosed n less r) t (subst (λ n. IsClosed told n r) c is)
@@ -92,6 +102,21 @@ module _ {X : Type 0} (all rest : List X) (x : X) (is : all ≡ rest ++ x ∷ []
 
   pub left_get : (i : ℕ) (y : X) → slice_get rest i ≡ Some y → slice_get all i ≡ Some y
   left_get i y at = ap (λ l. slice_get l i) is ∙ front_get rest x i (get_below rest i y at) ∙ at
+
+  pub left_same : (i : ℕ) → i < length rest → slice_get rest i ≡ slice_get all i
+  left_same i below = sym (front_get rest x i below) ∙ ap (λ l. slice_get l i) (sym is)
+
+-- the reports from a place on count the rows of their shards, once the one at the place does
+pub rows_set : {H : Type 0} (shard_in : H → Contents) (helds : List H) (reports : List ShardReport) (place : ℕ) (r : ShardReport) (held : H) → slice_get helds place ≡ Some held → CountsRows (shard_in held) r
+    → ((i : ℕ) (h : H) (report : ShardReport) → place < i → slice_get helds i ≡ Some h → slice_get reports i ≡ Some report → CountsRows (shard_in h) report)
+    → CountRowsFrom place shard_in helds (slice_set reports place r)
+rows_set {H} shard_in helds reports place r held at_held counts beyond i h report past at_h at = by (set_get reports place r i report at) where
+  by : ((i ≡ place) × (report ≡ r)) ⊎ ((i ≢ place) × (slice_get reports i ≡ Some report)) → CountsRows (shard_in h) report
+  by (inl there) =
+      let same : Some h ≡ Some held = sym at_h ∙ ap (slice_get helds) there.0 ∙ at_held in
+      let is : h ≡ held = cc in
+      subst (λ (x : H). CountsRows (shard_in x) report) (sym is) (subst (λ x. CountsRows (shard_in held) x) (sym there.1) counts)
+  by (inr other) = beyond i h report (omega (arith, past, other.0)) at_h other.1
 
 -- the reports from a place on are closed, once the one at the place is
 pub closed_set : (told counted : ℕ → ℕ) (reports : List ShardReport) (place : ℕ) (r : ShardReport) → IsClosed (told place) (counted place) r

@@ -96,8 +96,10 @@ module _ (i : ℕ) (new old ss : List ShareState) (is : new ≡ old ++ one_at i 
       subst (AreOf name) (sym is) (All-append (λ (s : ShareState). s.book ≡ name) old (one_at i ss) own one)
 
   -- what stands in a list and what is to come is as much as before
-  pub gathered_sum : (rest all : List (List ShareState)) → all ≡ rest ++ ss ∷ [] → (n : ℕ) → amount_of old + sum_by (amount_at i) all ≡ n
-      → amount_of new + sum_by (amount_at i) rest ≡ n
-  gathered_sum rest all last n sum =
-      let ended : sum_by (amount_at i) all ≡ sum_by (amount_at i) rest + (0 + amount_at i ss) = ap (sum_by (amount_at i)) last ∙ sum_by-append (amount_at i) rest (ss ∷ []) in
-      omega (arith, gathered_amount, ended, sum)
+  pub gathered_sum : {P : Type 0} (shares_of : P → List ShareState) (p : P) → shares_of p ≡ ss → (rest all : List P) → all ≡ rest ++ p ∷ [] → (n : ℕ)
+      → amount_of old + sum_by (λ q. amount_at i (shares_of q)) all ≡ n → amount_of new + sum_by (λ q. amount_at i (shares_of q)) rest ≡ n
+  gathered_sum {P} shares_of p mine rest all last n sum =
+      let f : P → ℕ = λ q. amount_at i (shares_of q) in
+      let one : f p ≡ amount_at i ss = ap (amount_at i) mine in
+      let ended : sum_by f all ≡ sum_by f rest + (0 + f p) = ap (sum_by f) last ∙ sum_by-append f rest (p ∷ []) in
+      omega (arith, gathered_amount, ended, one, sum)

@@ -1,6 +1,8 @@
 pub mod ClosingLaws
 pub mod Handing
-pub mod PlaceLaws
+mod Keeping
+pub mod Once
+mod PlaceLaws
 pub mod PusherLaws
 pub mod Sealed
 pub mod Selected

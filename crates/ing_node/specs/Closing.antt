@@ -40,3 +40,7 @@ pub record IsComplete (place pushing tallies : ℕ) (shard : Contents) : Type 0 
 abbrev pub AreComplete : {H : Type 0} → (H → Contents) → (ℕ → ℕ) → (ℕ → ℕ) → List H → Type 0
 AreComplete {H = H} shard_in pushing tallies helds =
     (i : ℕ) (held : H) → slice_get helds i ≡ Some held → IsComplete i (pushing i) (tallies i) (shard_in held)
+
+-- each stands at its place
+abbrev pub AreInPlaces : {H : Type 0} → (H → Contents) → List H → Type 0
+AreInPlaces {H = H} shard_in helds = (i : ℕ) (held : H) → slice_get helds i ≡ Some held → (shard_in held).number ≡ i

@@ -7,3 +7,4 @@ pub mod Reports
 pub mod Closing
 pub mod AnswerFaults
 pub mod Sweeps
+pub mod Diaries

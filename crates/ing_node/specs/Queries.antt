@@ -1,11 +1,14 @@
 -- What a query through the locks gives (Loki documentation: HTTP API, query range; own).
-use Rattle.std.specs.Prelude.{◌≡◌, ◌≤◌, ℕ, Bool, true, List, All, Some, slice_get}
+use Rattle.std.specs.Prelude.{◌≡◌, ◌<◌, ◌≤◌, ℕ, Bool, true, List, All, Some, slice_get}
 use Rattle.ing_labels.specs.Selectors.{Match}
 use Rattle.ing_parts.specs.declared.found.Found.{Found}
 use Rattle.ing_parts.specs.declared.order.Question.{Question}
 use Rattle.ing_parts.specs.declared.snapshot.Snapshot.{Snapshot}
 use Rattle.ing_parts.specs.Parts.{KeepsInRange, standing}
-use Rattle.ing_rows.specs.Rows.{StreamKey}
+use Rattle.ing_rows.specs.Gauges.{gauges_of}
+use Rattle.ing_rows.specs.Placement.{shard_of}
+use Rattle.ing_rows.specs.Rows.{Row, StreamKey}
+use Rattle.ing_rows.specs.declared.gauges.Gauges.{Gauges}
 use Rattle.ing_shard.specs.Picked.{Picks}
 use Rattle.ing_tally.specs.Books.{ShareState}
 use Rattle.ing_flush.specs.Tallies.{amount_at}
@@ -25,6 +28,14 @@ pub record IsAskedOf {R : Type 0} (tenant : List ℕ) (ms : List Match) (q : Que
   pub end : s.end ≡ q.end
   pub kept : KeepsInRange s
   pub selected : AreSelected tenant ms (standing s)
+
+-- of no shard from this one on something stands there
+abbrev pub AreBelow : ℕ → List ℕ → ℕ → List Found → Type 0
+AreBelow shards tenant place found = All (λ f. shard_of tenant f.name shards < place) found
+
+-- gauges of the tenant's rows in some state
+abbrev pub AreGauges : List ℕ → Gauges → Type 0
+AreGauges tenant gauges = (rows : List Row) × (gauges ≡ gauges_of rows tenant)
 
 -- each shard had at least as many entries as a pusher was told of
 abbrev pub AreNoLess : List ShareState → List ℕ → Type 0

@@ -1,10 +1,12 @@
 -- What a closing tells of a shard (own).
-use Rattle.std.specs.Prelude.{◌≡◌, ◌+◌, ◌<◌, ℕ, List, Some, slice_get}
+use Rattle.std.specs.Prelude.{◌≡◌, ◌+◌, ◌<◌, ◌≤◌, ℕ, List, Some, Err, length, slice_get}
 use Rattle.ing_refusals.specs.declared.refusal.Refusal.{Refusal}
 use Rattle.ing_refusals.specs.declared.refusal.Refusal.TheVariants as refusal
+use Rattle.ing_shard.specs.Contents.{Contents, flying_count, stored_count}
+use Rattle.ing_diary.specs.Faults.{AreCounted, IsNoBadObject, unsettled_refusal_of}
 use Rattle.ing_node.specs.declared.report.ShardReport.{ShardReport}
 use Rattle.ing_node.specs.declared.report.CloseRefusal.{CloseRefusal}
-use Rattle.ing_node.specs.declared.report.CloseRefusal.TheVariants.{NoMemory, StillOut, Misplaced}
+use Rattle.ing_node.specs.declared.report.CloseRefusal.TheVariants.{NoMemory, StillOut, Misplaced, Unsettled}
 
 -- As many entries were accepted as the pushers were told, as many are stored as the flushers counted, and each of them is stored
 -- or kept; none had been there before.
@@ -19,6 +21,38 @@ abbrev pub HasReason : CloseRefusal → Type 0
 HasReason NoMemory = Unit {0}
 HasReason (StillOut missing) = 0 < missing.accepted + missing.flight + missing.stored
 HasReason (Misplaced shard) = Unit {0}
+HasReason (Unsettled shard why) = Unit {0}
+
+-- the entries of a shard are said not to be settled
+abbrev pub IsUnsettled : CloseRefusal → Type 0
+IsUnsettled (Unsettled shard why) = Unit {0}
+IsUnsettled _ = ⊥
+
+-- no object is said to be bad
+abbrev pub IsNoBadClose : CloseRefusal → Type 0
+IsNoBadClose (Unsettled shard why) = IsNoBadObject why
+IsNoBadClose _ = Unit {0}
+
+-- the end's count of failures before and after: a fault of the store comes only where the end has failed, and else it stays
+abbrev pub IsCausedClose : ℕ → ℕ → CloseRefusal → Type 0
+IsCausedClose before after (Unsettled shard why) = AreCounted before after (Err why)
+IsCausedClose before after _ = after ≡ before
+
+-- It has as many entries as a shard has rows, as many of them stored, and none in flight.
+pub record CountsRows (shard : Contents) (r : ShardReport) : Type 0 where
+  pub accepted : r.accepted ≡ length shard.state.rows
+  pub stored : r.stored ≡ stored_count shard.state.rows
+  pub landed : flying_count shard.state.rows ≡ 0
+
+-- each from a place on has, with the shard at its place; a shard is read off what lies under a lock
+abbrev pub CountRowsFrom : {H : Type 0} → ℕ → (H → Contents) → List H → List ShardReport → Type 0
+CountRowsFrom {H = H} from shard_in helds reports =
+    (i : ℕ) (held : H) (report : ShardReport) → from ≤ i → slice_get helds i ≡ Some held → slice_get reports i ≡ Some report → CountsRows (shard_in held) report
+
+-- each has
+abbrev pub CountRows : {H : Type 0} → (H → Contents) → List H → List ShardReport → Type 0
+CountRows {H = H} shard_in helds reports =
+    (i : ℕ) (held : H) (report : ShardReport) → slice_get helds i ≡ Some held → slice_get reports i ≡ Some report → CountsRows (shard_in held) report
 
 -- each shard is, with what its pushers were told and what its flushers counted
 abbrev pub AreClosed : (ℕ → ℕ) → (ℕ → ℕ) → List ShardReport → Type 0
@@ -30,3 +64,4 @@ abbrev pub close_refusal_of : CloseRefusal → Refusal
 close_refusal_of NoMemory = refusal.NoMemory
 close_refusal_of (StillOut missing) = refusal.StillOut
 close_refusal_of (Misplaced shard) = refusal.Misplaced
+close_refusal_of (Unsettled shard why) = unsettled_refusal_of why

@@ -3,8 +3,9 @@ ghost use Rattle.std.specs.Prelude.{◌≡◌, [], ℕ, ◌<◌, ◌≤◌, ◌^
 ghost use Rattle.ing_tally.specs.Books.{AreOf, amount_of};
 ghost use Rattle.ing_flush.specs.Tallies.{amount_at};
 ghost use Rattle.ing_node.specs.Closing.{AreComplete, HaveRoom, IsComplete, shares_at};
+ghost use Rattle.ing_node.specs.Diaries.{AreSettled, HaveNoted, KeepsDiary, notes_at};
 ghost use Rattle.ing_node.specs.Names.{IsTallyOf};
-ghost use Rattle.ing_node.specs.Reports.{AreClosed, HasReason, IsClosed};
+ghost use Rattle.ing_node.specs.Reports.{AreClosed, CountRows, CountsRows, HasReason, IsClosed, IsCausedClose, IsNoBadClose, IsUnsettled};
 
 use crate::gathering::{empty_lists, hand_out_pushers, hand_out_tallies, let_go};
 use crate::held::Held;
@@ -12,9 +13,10 @@ use crate::ingester::Ingester;
 use crate::names::NodeName;
 use crate::pusher::Pusher;
 use crate::report::{CloseRefusal, Report, ShardReport};
+use crate::settling::{keep_diaries, settle_all};
 use ing_flush::FlusherTally;
 use ing_shard::{Gathered, Missing};
-use ing_store::Receipt;
+use ing_store::{Receipt, StoreEnd};
 use ing_tally::{Share, strand_each};
 use std::alloc::{AllocError, Global};
 use std::sync::Mutex;
@@ -82,23 +84,35 @@ impl<N: NodeName, R: Receipt> Room<N, R> {
 impl<N: NodeName, R: Receipt> Ingester<N, R> {
     /// Closes the ingester with all of its pushers and with the tallies of all of its flushers. Of each shard as many entries were
     /// accepted as the pushers were told, as many are stored as the flushers counted, and each that was accepted is stored or kept:
-    /// none is lost, and none counts twice.
+    /// none is lost, and none counts twice. Where every pusher kept a diary, all entries are read back, by `end`, and the entries of
+    /// each shard are exactly those that the pushers noted, each once.
     ///
-    /// `StillOut` where a share is missing, so that a pusher, a flusher or a ticket is still out somewhere or was given up; `Misplaced`,
-    /// and `NoMemory`. Then everything comes back as it was.
-    pub fn close(
+    /// `StillOut` where a share is missing, so that a pusher, a flusher or a ticket is still out somewhere or was given up; `Misplaced`;
+    /// `Unsettled` as `laws::settle`, and only where every pusher kept a diary; and `NoMemory`. Then everything comes back as it was.
+    pub fn close<S: StoreEnd<Receipt = R>>(
         self,
         alloc: Global,
+        end: &mut S,
         pushers: Vec<Pusher<N>>,
         tallies: Vec<FlusherTally>,
     ) -> Result<Report, CloseFault<N, R>>
         requires { All (IsTallyOf N.settings.shards N.books) tallies.items }
         ensures all { IfOk result (λ report. vec_len report.shards ≡ N.settings.shards) }
-        ensures closed { IfOk result (λ report. AreClosed (λ i. sum_by (amount_at i) pushers.items)
+        ensures closed { IfOk result (λ report. AreClosed (λ i. sum_by (λ p. amount_at i p.told) pushers.items)
             (λ i. sum_by (amount_at i) tallies.items) report.shards.items) }
         ensures pushers { IfErr result (λ fault. fault.pushers ≡ pushers) }
         ensures tallies { IfErr result (λ fault. fault.tallies ≡ tallies) }
+        // Where diaries were kept, the shards have exactly the entries that were noted.
+        ensures settled { S.is_honest → IfOk result (λ report. All KeepsDiary pushers.items →
+            AreSettled (λ i. notes_at N.settings.shards i pushers.items) report.shards.items) }
         ensures why { IfErr result (λ fault. HasReason fault.why) }
+        ensures asked { IfErr result (λ fault. IsUnsettled fault.why → All KeepsDiary pushers.items) }
+        ensures honest { S.is_honest → IfErr result (λ fault. IsNoBadClose fault.why) }
+        // A fault of the store has a cause, and an end that never fails stays such an end.
+        ensures count { OnOk result (S.failure_count end.new ≡ S.failure_count end.old) }
+        ensures cause { IfErr result (λ fault. IsCausedClose (S.failure_count end.old) (S.failure_count end.new) fault.why) }
+        ensures sure { S.never_fails end.old → (S.never_fails end.new)
+            × (S.failure_count end.new ≡ S.failure_count end.old) }
     {
         let Ok(room) = Room::new(alloc, self.shards.len(), pushers.len(), tallies.len()) else {
             return Err(CloseFault {
@@ -116,7 +130,7 @@ impl<N: NodeName, R: Receipt> Ingester<N, R> {
             reports,
         } = room;
         let helds = self.into_shards(helds);
-        if let Err(why) = are_complete(&helds, pushers.len() as u64, tallies.len() as u64) {
+        if let Err(why) = is_closable(alloc, end, &helds, &pushers, tallies.len() as u64) {
             let_go(pushing);
             let_go(stored);
             return Err(CloseFault {
@@ -161,6 +175,35 @@ impl<N: NodeName, R: Receipt> Ingester<N, R> {
     }
 }
 
+/// Whether shards can be closed with these pushers and so many tallies: all shares are there, and where every pusher kept a diary, the
+/// entries are those that were noted.
+fn is_closable<N: NodeName, S: StoreEnd>(
+    alloc: Global,
+    end: &mut S,
+    helds: &[Held<N, S::Receipt>],
+    pushers: &[Pusher<N>],
+    tallies: u64,
+) -> Result<(), CloseRefusal>
+    requires few { length helds.now < 2 ^ 32 }
+    requires all { length helds.now ≡ N.settings.shards }
+    ensures complete { OnOk result (AreComplete (λ held. held.shard) (λ _. length pushers.now) (λ _. tallies) helds.now) }
+    ensures settled { S.is_honest → OnOk result (All KeepsDiary pushers.now →
+        HaveNoted (λ held. held.shard) (λ i. notes_at N.settings.shards i pushers.now) helds.now) }
+    ensures why { IfErr result HasReason }
+    ensures asked { IfErr result (λ why. IsUnsettled why → All KeepsDiary pushers.now) }
+    ensures honest { S.is_honest → IfErr result IsNoBadClose }
+    ensures count { OnOk result (S.failure_count end.new ≡ S.failure_count end.old) }
+    ensures cause { IfErr result (IsCausedClose (S.failure_count end.old) (S.failure_count end.new)) }
+    ensures sure { S.never_fails end.old → (S.never_fails end.new)
+        × (S.failure_count end.new ≡ S.failure_count end.old) }
+{
+    are_complete(helds, pushers.len() as u64, tallies)?;
+    if keep_diaries(pushers) {
+        settle_all(alloc, end, helds, pushers)?;
+    }
+    Ok(())
+}
+
 /// Whether each shard stands at its place, has no chunk in flight, and no more shares of its books out than these.
 fn are_complete<N: NodeName, R: Receipt>(
     helds: &[Held<N, R>],
@@ -170,7 +213,7 @@ fn are_complete<N: NodeName, R: Receipt>(
     requires { length helds.now < 2 ^ 32 }
     ensures complete { OnOk result
         (AreComplete (λ held. held.shard) (λ _. pushers) (λ _. tallies) helds.now) }
-    ensures why { IfErr result HasReason }
+    ensures why { IfErr result (λ why. HasReason why × (IsUnsettled why → ⊥)) }
 {
     let mut all = Missing {
         accepted: 0,
@@ -212,11 +255,12 @@ fn gather_all<N: NodeName, R: Receipt>(
     ensures all { vec_len result ≡ vec_len reports }
     ensures closed { AreClosed (λ i. amount_of (shares_at i pushing.items))
         (λ i. amount_of (shares_at i stored.items)) result.items }
+    ensures rows { CountRows (λ held. held.shard) helds.items result.items }
 {
     while let Some(held) = helds.pop() {
         let place = helds.len();
         match (pushing.pop(), stored.pop()) {
-            (Some(pushers), Some(tallies)) => reports[place] = settle(held, pushers, tallies),
+            (Some(pushers), Some(tallies)) => reports[place] = gather(held, pushers, tallies),
             _ => unreachable!(),
         }
     }
@@ -226,7 +270,7 @@ fn gather_all<N: NodeName, R: Receipt>(
 }
 
 /// Gathers the books of a shard, which are complete with these shares.
-fn settle<N: NodeName, R: Receipt>(
+fn gather<N: NodeName, R: Receipt>(
     held: Held<N, R>,
     pushing: Vec<Share>,
     tallies: Vec<Share>,
@@ -234,7 +278,8 @@ fn settle<N: NodeName, R: Receipt>(
     requires own_pushing { AreOf (N.books held.shard.number).accepted pushing.items }
     requires own_tallies { AreOf (N.books held.shard.number).stored tallies.items }
     requires complete { IsComplete held.shard.number (vec_len pushing) (vec_len tallies) held.shard }
-    ensures { IsClosed (amount_of pushing.items) (amount_of tallies.items) result }
+    ensures closed { IsClosed (amount_of pushing.items) (amount_of tallies.items) result }
+    ensures rows { CountsRows held.shard result }
 {
     match held.into_shard().gather_books(pushing, tallies) {
         Ok(Gathered { accepted, stored }) => ShardReport {

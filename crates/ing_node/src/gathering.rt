@@ -89,10 +89,14 @@ pub(crate) fn hand_out_pushers<N: NodeName>(
     ensures all { vec_len lists.new ≡ N.settings.shards }
     ensures own { (i : ℕ) → AreOf (N.books i).accepted (shares_at i lists.new.items) }
     ensures count { (i : ℕ) → i < N.settings.shards → length (shares_at i lists.new.items) ≡ vec_len pushers }
-    ensures sum { (i : ℕ) → amount_of (shares_at i lists.new.items) ≡ sum_by (amount_at i) pushers.items }
+    ensures sum { (i : ℕ) → amount_of (shares_at i lists.new.items) ≡ sum_by (λ p. amount_at i p.told) pushers.items }
 {
     while let Some(pusher) = pushers.pop() {
-        let Pusher { told, of: _ } = pusher;
+        let Pusher {
+            told,
+            diary: _,
+            of: _,
+        } = pusher;
         hand_out_told(lists, told);
     }
     pushers.destroy_empty();

@@ -1,8 +1,11 @@
 //! The shards behind their locks.
-ghost use Rattle.std.specs.Prelude.{◌≡◌, ◌+◌, ◌<◌, ◌≤◌, ◌^◌, All, IfOk, IfErr, OnOk, length, vec_len};
+ghost use Rattle.std.specs.Prelude.{◌≡◌, ◌+◌, ◌<◌, ◌≤◌, ◌^◌, [], All, IfOk, IfErr, OnOk, is_some, length, vec_len};
 ghost use Rattle.ing_flush.specs.Tallies.{AreStoredIn};
+ghost use Rattle.ing_node.specs.Diaries.{notes_kept};
+ghost use Rattle.ing_node.specs.Queries.{AreGauges};
 ghost use Rattle.ing_node.specs.Names.{AreAcceptedIn, AreNamed};
 
+use crate::diaries::new_diary;
 use crate::fault::NodeFault;
 use crate::held::Held;
 use crate::names::NodeName;
@@ -49,10 +52,17 @@ impl<N: NodeName, R: Receipt> Ingester<N, R> {
         Ok(Ingester { shards: locks })
     }
 
-    /// A new pusher, which was told nothing yet. `CounterFull` where 2^62 shares of a shard are out, `Misplaced`, and `NoMemory`;
-    /// then no share more is out.
-    pub fn pusher<W: Wait>(&self, rt: &W, alloc: Global) -> Result<Pusher<N>, NodeFault>
-        ensures { IfOk result (All (λ share. share.amount ≡ 0)) }
+    /// A new pusher, which was told nothing yet, and which keeps a diary where that is asked for: then a closing can compare each
+    /// entry. `CounterFull` where 2^62 shares of a shard are out, `Misplaced`, and `NoMemory`; then no share more is out.
+    pub fn pusher<W: Wait>(
+        &self,
+        rt: &W,
+        alloc: Global,
+        diary: bool,
+    ) -> Result<Pusher<N>, NodeFault>
+        ensures zero { IfOk result (λ pusher. All (λ share. share.amount ≡ 0) pusher.told) }
+        ensures diary { IfOk result (λ pusher. is_some pusher.diary ≡ diary) }
+        ensures empty { IfOk result (λ pusher. notes_kept pusher.diary ≡ []) }
     {
         let mut told = Vec::with_capacity(alloc, self.shards.len())?;
         for place in 0..self.shards.len() {
@@ -66,6 +76,7 @@ impl<N: NodeName, R: Receipt> Ingester<N, R> {
         }
         Ok(Pusher {
             told,
+            diary: new_diary(alloc, diary),
             of: PhantomData,
         })
     }
@@ -147,9 +158,12 @@ impl<N: NodeName, R: Receipt> Ingester<N, R> {
         self.shards[shard as usize].lock(rt).seal_all(shard, alloc)
     }
 
-    /// The gauges of a tenant in a shard, at some moment. `Misplaced`.
+    /// The gauges of a tenant in a shard, at some moment, as `Shard::gauges`: those of the rows that the lock's holder found there.
+    /// `Misplaced`, and for no other reason.
     pub fn gauges<W: Wait>(&self, rt: &W, shard: u32, tenant: &Tenant) -> Result<Gauges, NodeFault>
         requires { shard < N.settings.shards }
+        ensures gauges { IfOk result (AreGauges tenant.now) }
+        ensures fault { IfErr result (λ fault. fault ≡ NodeFault.Misplaced shard) }
     {
         self.shards[shard as usize].lock(rt).gauges(shard, tenant)
     }

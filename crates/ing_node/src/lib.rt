@@ -1,7 +1,9 @@
 //! One ingester: shards behind locks, those who push and flush through them, and the close that finds every entry.
 #![tactic(auto)]
 
+mod abandon;
 mod closing;
+mod diaries;
 mod door;
 mod fault;
 mod flushing;
@@ -10,20 +12,24 @@ mod held;
 mod ingester;
 mod laws;
 mod names;
+mod no_store;
 mod pusher;
 mod query;
 mod report;
 mod rounds;
+mod settling;
 mod shards;
 mod swept;
 mod told;
 
+pub use abandon::{strand_pushers, strand_tallies};
 pub use closing::CloseFault;
 pub use fault::NodeFault;
 pub use flushing::{FlusherFault, Flushing, Sweeper};
 pub use ingester::Ingester;
-pub use laws::push;
+pub use laws::{push, settle};
 pub use names::NodeName;
+pub use no_store::NoStore;
 pub use pusher::Pusher;
 pub use query::{Answer, AnswerFault};
 pub use report::{CloseRefusal, Report, ShardReport};

@@ -1,41 +1,50 @@
 //! Who pushes.
-ghost use Rattle.std.specs.Prelude.{◌≡◌, ◌≢◌, ◌+◌, ◌<◌, ◌≤◌, ◌^◌, ℕ, IfOk, IfErr, OnOk, OnErr, false, length, slice_get, vec_len};
+ghost use Rattle.std.specs.Prelude.{◌≡◌, ◌≢◌, ◌+◌, ◌++◌, ◌<◌, ◌≤◌, ◌^◌, ℕ, IfOk, IfErr, OnOk, OnErr, false, filter, is_some, length, slice_get, vec_len};
+ghost use Rattle.ing_diary.specs.Notes.{is_in_shard, noted};
+ghost use Rattle.ing_node.specs.Diaries.{notes_kept, with_notes};
 ghost use Rattle.ing_labels.specs.Canonical.{canonical_of};
 ghost use Rattle.ing_limits.specs.Ranges.{rules_for};
 ghost use Rattle.ing_rows.specs.Placement.{shard_of};
 ghost use Rattle.ing_rows.specs.Turns.{accepted_among};
 ghost use Rattle.ing_shard.specs.Contents.{stream_of};
 ghost use Rattle.ing_flush.specs.Tallies.{amount_at};
+ghost use Rattle.ing_node.specs.Names.{AreAcceptedIn};
 ghost use Rattle.ing_node.specs.Pushes.{AreJudged, AreTold, IsPushRefusal, accepted_in};
 
+use crate::diaries::{begin_note, end_note};
 use crate::fault::NodeFault;
 use crate::ingester::Ingester;
 use crate::laws::verdicts_tell;
 use crate::names::NodeName;
 use crate::told::{Told, strand_told};
+use ing_diary::{Diary, NoteRef};
 use ing_labels::Labels;
 use ing_rows::{Entry, Stamp, Tenant, Verdict, shard_of};
 use ing_shard::Pushed;
 use ing_store::Receipt;
-use std::alloc::Global;
+use std::alloc::{AllocError, Global};
 use std::marker::{Model, PhantomData};
 use std::sync::Wait;
 
-/// Who pushes to one ingester, with a share of what each shard accepted: as many as it was told were accepted there. It cannot be
-/// dropped. Contracts see the shares.
+/// Who pushes to one ingester, with a share of what each shard accepted: as many as it was told were accepted there. One that keeps
+/// a diary notes each of these entries. It cannot be dropped. Contracts see the shares, shard by shard, and the notes.
 pub struct Pusher<N: NodeName> {
     pub(crate) told: Vec<Told>,
+    pub(crate) diary: Option<Diary>,
     pub(crate) of: PhantomData<N>,
 }
 
 impl<N: NodeName> Model for Pusher<N> {
-    ghost use Rattle.std.specs.Prelude.{◌≡◌, List, vec_len};
-    ghost use Rattle.ing_tally.specs.Books.{ShareState};
+    ghost use Rattle.std.specs.Prelude.{◌≡◌, vec_len};
+    ghost use Rattle.ing_node.specs.Diaries.{PusherState, notes_in};
     ghost use Rattle.ing_node.specs.Names.{AreAcceptedIn};
 
-    ghost Value = { List ShareState };
+    ghost Value = { PusherState };
 
-    ghost view = { λ pusher. pusher.told.items };
+    ghost view = { λ pusher. record {
+      told = pusher.told.items;
+      diary = notes_in pusher.diary;
+    } };
 
     ghost invariant = { λ pusher. (vec_len pusher.told ≡ N.settings.shards)
         × AreAcceptedIn N.books pusher.told.items };
@@ -45,13 +54,13 @@ impl<N: NodeName> Pusher<N> {
     /// How many entries it was told that a shard accepted. Takes no memory.
     pub fn told(&self, shard: u32) -> u64
         requires { shard < N.settings.shards }
-        ensures { result ≡ amount_at shard self.now }
+        ensures { result ≡ amount_at shard self.now.told }
     {
         self.told[shard as usize].amount
     }
 
     /// Pushes entries of one stream to its shard, under that shard's lock: each is judged in order by the tenant's rules, and kept
-    /// where it is accepted. What it was told of the shard rises by the accepted entries. The canonical name of the stream must
+    /// where it is accepted. What it was told of the shard rises by the accepted entries, which its diary notes. The canonical name of the stream must
     /// have fewer than 2^32 bytes. (Loki documentation: push API.)
     ///
     /// `TooManyEntries` where there are more than the tenant's rules allow; `CounterFull` where a count would pass its last value,
@@ -76,41 +85,112 @@ impl<N: NodeName> Pusher<N> {
         ensures durable { IfOk result (λ pushed. pushed.durable ≡ false) }
         // It was told of as many more of the stream's shard as were accepted, and of no more of the others.
         ensures told { let shard = shard_of tenant.now (canonical_of labels.now) N.settings.shards in
-            IfOk result (λ pushed. amount_at shard self.new
-            ≡ amount_at shard self.old + length (accepted_among entries.items pushed.verdicts.items)) }
+            IfOk result (λ pushed. amount_at shard self.new.told
+            ≡ amount_at shard self.old.told + length (accepted_among entries.items pushed.verdicts.items)) }
         ensures others { let shard = shard_of tenant.now (canonical_of labels.now) N.settings.shards in
-            (i : ℕ) → i ≢ shard → slice_get self.new i ≡ slice_get self.old i }
+            (i : ℕ) → i ≢ shard → slice_get self.new.told i ≡ slice_get self.old.told i }
+        // Where it keeps a diary, it notes exactly the accepted entries, under the numbers that they were given.
+        ensures noted { let s = stream_of tenant.now labels.now in
+            IfOk result (λ pushed. self.new.diary
+            ≡ with_notes (noted s entries.items pushed.verdicts.items) self.old.diary) }
         ensures refused { let shard = shard_of tenant.now (canonical_of labels.now) N.settings.shards in
             IfErr result (IsPushRefusal (rules_for N.settings tenant.now) (vec_len entries) shard) }
         ensures few { OnOk result (vec_len entries ≤ (rules_for N.settings tenant.now).max_entries_per_push) }
         ensures err { OnErr result (self.new ≡ self.old) }
     {
-        verdicts_tell();
         let shard = shard_of(tenant, labels.name(), node.shards.len() as u32);
-        let place = shard as usize;
-        let told = &mut self.told[place];
-        let pushed = node.shards[place].lock(rt).push(
-            shard,
-            alloc,
-            &mut told.share,
-            tenant,
-            labels,
-            entries,
-            now,
-        );
-        match pushed {
-            Ok(pushed) => {
-                told.amount += accepted_in(&pushed.verdicts);
-                Ok(pushed)
-            }
-            Err(fault) => Err(fault),
+        begin_note(&mut self.diary, alloc, tenant, labels, &entries)?;
+        let told = &mut self.told;
+        let pushed = push_told(told, rt, alloc, node, shard, tenant, labels, entries, now)?;
+        end_note(&mut self.diary, &pushed.verdicts);
+        Ok(pushed)
+    }
+
+    /// Whether it keeps a diary. Takes no memory.
+    pub fn keeps_diary(&self) -> bool
+        ensures { result ≡ is_some self.now.diary }
+    {
+        self.diary.is_some()
+    }
+
+    /// Adds a reference to each note of a shard, of so many, to a list.
+    pub(crate) fn spread_into<'a>(
+        &'a self,
+        notes: &mut Vec<NoteRef<'a>>,
+        shards: u32,
+        shard: u32,
+    ) -> Result<(), AllocError>
+        requires { 0 < shards }
+        ensures { OnOk result (notes.new.items
+            ≡ notes.old.items ++ filter (is_in_shard shards shard) (notes_kept self.now.diary)) }
+    {
+        match &self.diary {
+            Some(diary) => diary.spread_into(notes, shards, shard),
+            None => Ok(()),
         }
     }
 
     /// Gives its shares up, which stay out. Takes no memory.
     pub fn strand(self) {
-        let Pusher { told, of: _ } = self;
+        let Pusher {
+            told,
+            diary: _,
+            of: _,
+        } = self;
         strand_told(told);
+    }
+}
+
+/// A push, as `Pusher::push`, with the shares of a pusher: what it was told of the stream's shard rises by the accepted entries.
+fn push_told<N: NodeName, R: Receipt, W: Wait>(
+    told: &mut Vec<Told>,
+    rt: &W,
+    alloc: Global,
+    node: &Ingester<N, R>,
+    shard: u32,
+    tenant: &Tenant,
+    labels: &Labels,
+    entries: Vec<Entry>,
+    now: Stamp,
+) -> Result<Pushed, NodeFault>
+    requires all { vec_len told.old ≡ N.settings.shards }
+    requires own { AreAcceptedIn N.books told.old.items }
+    requires name { length (canonical_of labels.now) < 2 ^ 32 }
+    requires shard { shard ≡ shard_of tenant.now (canonical_of labels.now) N.settings.shards }
+    requires below { shard < N.settings.shards }
+    ensures all { vec_len told.new ≡ N.settings.shards }
+    ensures own { AreAcceptedIn N.books told.new.items }
+    ensures judged { let s = stream_of tenant.now labels.now in
+        IfOk result (λ pushed. AreJudged (rules_for N.settings tenant.now) s now
+        entries.items pushed.verdicts.items) }
+    ensures verdicts { IfOk result (λ pushed. AreTold (rules_for N.settings tenant.now)
+        entries.items pushed.verdicts.items) }
+    ensures durable { IfOk result (λ pushed. pushed.durable ≡ false) }
+    ensures told { IfOk result (λ pushed. amount_at shard told.new.items
+        ≡ amount_at shard told.old.items + length (accepted_among entries.items pushed.verdicts.items)) }
+    ensures others { (i : ℕ) → i ≢ shard → slice_get told.new.items i ≡ slice_get told.old.items i }
+    ensures refused { IfErr result (IsPushRefusal (rules_for N.settings tenant.now) (vec_len entries) shard) }
+    ensures few { OnOk result (vec_len entries ≤ (rules_for N.settings tenant.now).max_entries_per_push) }
+    ensures err { OnErr result (told.new.items ≡ told.old.items) }
+{
+    verdicts_tell();
+    let place = shard as usize;
+    let told = &mut told[place];
+    let pushed = node.shards[place].lock(rt).push(
+        shard,
+        alloc,
+        &mut told.share,
+        tenant,
+        labels,
+        entries,
+        now,
+    );
+    match pushed {
+        Ok(pushed) => {
+            told.amount += accepted_in(&pushed.verdicts);
+            Ok(pushed)
+        }
+        Err(fault) => Err(fault),
     }
 }
 

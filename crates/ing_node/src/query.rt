@@ -2,8 +2,9 @@
 ghost use Rattle.std.specs.Prelude.{◌≡◌, ◌≤◌, All, IfOk, IfErr, length, vec_len};
 ghost use Rattle.std.specs.List.{AllPass};
 ghost use Rattle.std.specs.List.Sorted.{IsSortedBy};
-ghost use Rattle.ing_parts.specs.Answers.{precedes};
+ghost use Rattle.ing_parts.specs.Answers.{StandApart, precedes};
 ghost use Rattle.ing_parts.specs.Parts.{is_within};
+ghost use Rattle.ing_query.specs.Answers.{standing_in};
 ghost use Rattle.ing_node.specs.AnswerFaults.{IsCaused, answer_refusal_of};
 ghost use Rattle.ing_node.specs.Queries.{AreNoLess, AreSelected, IsAskedOf};
 
@@ -92,7 +93,7 @@ impl<N: NodeName, R: Receipt> Ingester<N, R> {
         question: Question,
     ) -> Result<Answer, AnswerFault>
         ensures fronts { IfOk result (λ answer. (vec_len answer.fronts ≡ N.settings.shards)
-            × AreNoLess pusher.old answer.fronts.items) }
+            × AreNoLess pusher.old.told answer.fronts.items) }
         // Whatever the end gives.
         ensures selected { IfOk result (λ answer. AreSelected tenant.now selector.now answer.entries.items) }
         ensures within { IfOk result (λ answer.
@@ -100,6 +101,8 @@ impl<N: NodeName, R: Receipt> Ingester<N, R> {
         ensures in_order { IfOk result (λ answer.
             IsSortedBy (precedes question.order) answer.entries.items) }
         ensures most { IfOk result (λ answer. length answer.entries.items ≤ question.limit) }
+        // No entry is given twice.
+        ensures once { IfOk result (λ answer. StandApart answer.entries.items) }
         ensures same { pusher.new ≡ pusher.old }
         // A fault of the store has a cause, and an end that never fails stays such an end.
         ensures count { IsCaused (S.failure_count end.old) (S.failure_count end.new) result }
@@ -125,7 +128,8 @@ impl<N: NodeName, R: Receipt> Ingester<N, R> {
         ensures snapshots { IfOk result (λ looked.
             All (IsAskedOf tenant.now selector.now question) looked.0.items) }
         ensures fronts { IfOk result (λ looked. (vec_len looked.1 ≡ N.settings.shards)
-            × AreNoLess pusher.old looked.1.items) }
+            × AreNoLess pusher.old.told looked.1.items) }
+        ensures once { IfOk result (λ looked. StandApart (standing_in looked.0.items)) }
         ensures same { pusher.new ≡ pusher.old }
     {
         let mut snapshots = Vec::with_capacity(alloc, self.shards.len())?;

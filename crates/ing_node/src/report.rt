@@ -2,6 +2,7 @@
 ghost use Rattle.std.specs.Prelude.{◌≡◌};
 ghost use Rattle.ing_node.specs.Reports.{close_refusal_of};
 
+use ing_diary::Unsettled;
 use ing_refusals::Refusal;
 use ing_shard::Missing;
 
@@ -26,7 +27,7 @@ pub struct Report {
 }
 
 /// Why an ingester was not closed.
-#[derive(Clone, Copy, Debug, PartialEq, Eq)]
+#[derive(Debug, PartialEq, Eq, Drop)]
 pub enum CloseRefusal {
     /// Memory ran out.
     NoMemory,
@@ -36,6 +37,13 @@ pub enum CloseRefusal {
     Misplaced {
         /// The place.
         shard: u32,
+    },
+    /// The entries of a shard could not be read back, or are not those that the pushers noted.
+    Unsettled {
+        /// Its number.
+        shard: u32,
+        /// Why.
+        why: Unsettled,
     },
 }
 
@@ -48,6 +56,7 @@ impl CloseRefusal {
             CloseRefusal::NoMemory => Refusal::NoMemory,
             CloseRefusal::StillOut(_) => Refusal::StillOut,
             CloseRefusal::Misplaced { .. } => Refusal::Misplaced,
+            CloseRefusal::Unsettled { why, .. } => why.refusal(),
         }
     }
 }

@@ -66,7 +66,7 @@ fn opened<N: NodeName, W: Wait>(
             return Err("memory".into());
         }
     };
-    let pushers = match alone(alloc, node.pusher(rt, alloc)?) {
+    let pushers = match alone(alloc, node.pusher(rt, alloc, false)?) {
         Ok(pushers) => pushers,
         Err(pusher) => {
             pusher.strand();
@@ -80,7 +80,7 @@ fn opened<N: NodeName, W: Wait>(
             tallies,
         }),
         Err(fault) => {
-            strand(pushers);
+            strand_pushers(pushers);
             Err(fault)
         }
     }
@@ -103,22 +103,6 @@ fn tallies<N: NodeName, W: Wait>(
     }
 }
 
-/// Gives the shares of pushers up.
-fn strand<N: NodeName>(mut pushers: Vec<Pusher<N>>) {
-    while let Some(pusher) = pushers.pop() {
-        pusher.strand();
-    }
-    pushers.destroy_empty();
-}
-
-/// Gives the shares of tallies up.
-fn strand_tallies(mut tallies: Vec<FlusherTally>) {
-    while let Some(tally) = tallies.pop() {
-        tally.strand();
-    }
-    tallies.destroy_empty();
-}
-
 impl<N: NodeName> Whole<N> {
     /// Closes it.
     fn close(self, alloc: Global) -> Closing<N> {
@@ -127,7 +111,7 @@ impl<N: NodeName> Whole<N> {
             pushers,
             tallies,
         } = self;
-        match node.close(alloc, pushers, tallies) {
+        match node.close(alloc, &mut NoStore::new(), pushers, tallies) {
             Ok(report) => Closing::Closed(report.shards.len()),
             Err(fault) => {
                 let CloseFault {
@@ -167,12 +151,11 @@ impl<N: NodeName> Whole<N> {
     /// Lets it go.
     fn abandon(self) {
         let Whole {
-            node: _,
+            node,
             pushers,
             tallies,
         } = self;
-        strand(pushers);
-        strand_tallies(tallies);
+        node.abandon(pushers, tallies);
     }
 }
 
@@ -213,7 +196,7 @@ fn swapped<N: NodeName, W: Wait>(
 {
     let whole: Whole<N> = opened(rt, alloc, shards)?;
     let whole = whole.swapped();
-    let pusher = refused(whole.node.pusher(rt, alloc));
+    let pusher = refused(whole.node.pusher(rt, alloc, false));
     match whole.close(alloc) {
         Closing::Closed(_) => Err("a misplaced shard is closed".into()),
         Closing::Refused(why, whole) => Ok((pusher, why, whole.swapped().close(alloc).ended())),

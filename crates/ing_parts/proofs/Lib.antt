@@ -4,6 +4,7 @@ mod Insertion
 mod KeptLaws
 mod ListingLaws
 mod OfferLaws
+mod PartLaws
 pub mod RangeLaws
 mod Reordered
 mod SomeLaws

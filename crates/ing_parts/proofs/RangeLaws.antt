@@ -30,7 +30,7 @@ pub missed : (start end : ℕ) (name : List ℕ) (es : List Numbered) → filter
 missed start end name es none = within_of start end name es ∙ ap (map (found_of name)) none
 
 -- one more part
-found_more : {R : Type 0} (ps : List (Part R)) (p : Part R) → found_among (ps ++ p ∷ []) ≡ found_among ps ++ found_in p
+pub found_more : {R : Type 0} (ps : List (Part R)) (p : Part R) → found_among (ps ++ p ∷ []) ≡ found_among ps ++ found_in p
 found_more ps p = sym (flat_map_more found_in [] ps p)
 
 pub within_more : {R : Type 0} (start end : ℕ) (ps : List (Part R)) (p : Part R) → within start end (found_among (ps ++ p ∷ [])) ≡ within start end (found_among ps) ++ within start end (found_in p)

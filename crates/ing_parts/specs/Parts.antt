@@ -80,6 +80,18 @@ pub record Adds {R : Type 0} (all : List Found) (old new : Snapshot R) : Type 0 
 abbrev pub AddsRows : {R : Type 0} → List Row → Snapshot R → Snapshot R → Type 0
 AddsRows rows old new = Adds (map found_at rows) old new
 
+-- ---- all entries of a stream
+
+-- beside what stood in parts these entries stand there now: each of them as often as here, and no other
+pub record AddsParts {R : Type 0} (all : List Found) (old new : List (Part R)) : Type 0 where
+  pub same : IsPermutation (found_among new) (found_among old ++ all)
+
+-- the same of these rows
+abbrev pub ListsRows : {R : Type 0} → List Row → List (Part R) → List (Part R) → Type 0
+ListsRows rows old new = AddsParts (map found_at rows) old new
+
+-- ---- rows of a snapshot
+
 -- what stands in a snapshot is of these rows, none invented and none twice; what it keeps is of those in its
 -- range; and what is wanted of it stands for all of those in its range
 pub record HasRows {R : Type 0} (rows : List Row) (s : Snapshot R) : Type 0 where

@@ -5,11 +5,12 @@ ghost use Rattle.std.specs.List.Sorted.{IsSortedBy};
 ghost use Rattle.ing_rows.specs.Rows.{Row};
 ghost use Rattle.ing_parts.specs.declared.found.Found.{Found};
 ghost use Rattle.ing_parts.specs.declared.order.Order.{Order};
+ghost use Rattle.ing_parts.specs.declared.part.Part.{Part};
 ghost use Rattle.ing_parts.specs.declared.snapshot.Snapshot.{Snapshot};
 ghost use Rattle.ing_parts.specs.Answers.{BestState, IsAnswer, IsFrom, Offers, PassesOver, StandFor, precedes};
 ghost use Rattle.ing_chunk.specs.Chunks.{AreInOrder};
 ghost use Rattle.ing_chunk.specs.declared.numbered.Numbered.{Numbered};
-ghost use Rattle.ing_parts.specs.Parts.{Adds, AddsRows, AreFrom, HasRows, KeepsInRange, RowsAreFound, found_at, found_between, found_of, standing};
+ghost use Rattle.ing_parts.specs.Parts.{Adds, AddsParts, AddsRows, AreFrom, HasRows, KeepsInRange, ListsRows, RowsAreFound, found_at, found_between, found_of, standing};
 
 use ing_chunk::stamps_rise;
 use ing_store::Receipt;
@@ -102,6 +103,24 @@ pub fn rows_join<R: Receipt>()
         AddsRows a old mid → AddsRows b mid new → AddsRows (a ++ b) old new }
     ensures of { (all : List Found) (rows : List Row) (old new : Snapshot R) →
         IsPermutation (map found_at rows) all → Adds all old new → AddsRows rows old new }
+{}
+
+/// What is added to parts after something else is added together with it; and where nothing was added, nothing has changed.
+pub fn parts_join<R: Receipt>()
+    ensures none { (ps : List (Part R)) → AddsParts [] ps ps }
+    ensures both { (a b : List Found) (old mid new : List (Part R)) →
+        AddsParts a old mid → AddsParts b mid new → AddsParts (a ++ b) old new }
+    ensures alike { (a b : List Found) (old new : List (Part R)) →
+        IsPermutation a b → AddsParts a old new → AddsParts b old new }
+{}
+
+/// The same of rows; and entries are added as rows where they are what a query finds of them, in whatever order.
+pub fn listed_rows_join<R: Receipt>()
+    ensures none { (ps : List (Part R)) → ListsRows [] ps ps }
+    ensures both { (a b : List Row) (old mid new : List (Part R)) →
+        ListsRows a old mid → ListsRows b mid new → ListsRows (a ++ b) old new }
+    ensures of { (all : List Found) (rows : List Row) (old new : List (Part R)) →
+        IsPermutation (map found_at rows) all → AddsParts all old new → ListsRows rows old new }
 {}
 
 /// What stands in a snapshot of rows is what a query finds of them, and what it keeps of them is in its range.

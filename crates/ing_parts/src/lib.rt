@@ -11,12 +11,13 @@ mod order;
 mod part;
 mod snapshot;
 mod stream_name;
+mod whole;
 
 pub use best::Best;
 pub use found::Found;
 pub use laws::{
-    additions_join, answers_are_first, found_rows_have_no_order, offers_join, offers_of_streams,
-    rows_are_found, rows_join, rows_stand, standing_joins,
+    additions_join, answers_are_first, found_rows_have_no_order, listed_rows_join, offers_join,
+    offers_of_streams, parts_join, rows_are_found, rows_join, rows_stand, standing_joins,
 };
 pub use listing::Listing;
 pub use offers::offer_block;
@@ -24,3 +25,4 @@ pub use order::{Order, Question};
 pub use part::{Part, Source};
 pub use snapshot::Snapshot;
 pub use stream_name::StreamName;
+pub use whole::{list_chunk, list_chunks, list_stored};

@@ -114,5 +114,5 @@ failed_causes T before after (Query (queries.BadObject key)) counted = same_coun
 
 -- ---- what the only pusher was told
 
-pub one_sum : (f : List ShareState → ℕ) (x : List ShareState) → sum_by f (x ∷ []) ≡ f x
+pub one_sum : {X : Type 0} (f : X → ℕ) (x : X) → sum_by f (x ∷ []) ≡ f x
 one_sum f x = omega arith

@@ -17,11 +17,10 @@ use Rattle.ing_rows.specs.Turns.{accepted_among}
 use Rattle.ing_limits.specs.Settings.{StoreSettings}
 use Rattle.ing_limits.specs.Ranges.{rules_for}
 use Rattle.ing_parts.specs.declared.found.Found.{Found}
-use Rattle.ing_parts.specs.Answers.{precedes}
+use Rattle.ing_parts.specs.Answers.{StandApart, precedes}
 use Rattle.ing_parts.specs.Parts.{is_within}
 use Rattle.ing_query.specs.declared.fault.QueryFault.TheVariants as queries
 use Rattle.ing_shard.specs.Contents.{stream_of}
-use Rattle.ing_tally.specs.Books.{ShareState}
 use Rattle.ing_flush.specs.Tallies.{amount_at}
 use Rattle.ing_node.specs.declared.fault.NodeFault.{NodeFault}
 use Rattle.ing_node.specs.declared.fault.NodeFault.TheVariants as node
@@ -33,7 +32,8 @@ use Rattle.ing_node.specs.AnswerFaults.{answer_refusal_of}
 use Rattle.ing_node.specs.Faults.{refusal_of}
 use Rattle.ing_node.specs.Pushes.{AreJudged, IsPushRefusal}
 use Rattle.ing_node.specs.Queries.{AreSelected}
-use Rattle.ing_node.specs.Reports.{HasReason, close_refusal_of}
+use Rattle.ing_node.specs.Diaries.{PusherState}
+use Rattle.ing_node.specs.Reports.{HasReason, close_refusal_of, IsUnsettled}
 use Rattle.ing_commands.specs.Commands as commands
 use Rattle.ing_commands.specs.Commands.{Command}
 use Rattle.ing_commands.specs.PushCommands.{PushCommand, StreamEntries}
@@ -49,8 +49,8 @@ abbrev pub Told : Type 0
 Told = ℕ → ℕ
 
 -- what a pusher was told, by its shares
-abbrev pub told_by : List ShareState → Told
-told_by pusher = λ i. amount_at i pusher
+abbrev pub told_by : PusherState → Told
+told_by pusher = λ i. amount_at i pusher.told
 
 -- of no shard more or fewer
 abbrev pub Stays : Told → Told → Type 0
@@ -153,6 +153,7 @@ pub record IsGiven (settings : StoreSettings) (query : QueryCommand) (known : To
   pub within : AllPass (is_within query.start query.end) found
   pub in_order : IsSortedBy (precedes query.order) found
   pub most : length found ≤ query.limit
+  pub once : StandApart found
   pub all : length fronts ≡ settings.shards
   pub no_less : (i : ℕ) (front : ℕ) → slice_get fronts i ≡ Some front → known i ≤ front
 
@@ -221,10 +222,12 @@ pub record ReportsAll (shards : ℕ) (known : Told) (report : Data) : Type 0 whe
   pub are : IsReport shards known reports
   pub told : report ≡ report_data reports
 
--- in place of a report a refusal stands where a share of a shard's books is missing, or a shard is misplaced
+-- In place of a report a refusal stands where a share of a shard's books is missing, or a shard is misplaced; no diary is kept, so
+-- none is compared.
 pub record RefusesReport (report : Data) : Type 0 where
   pub why : CloseRefusal
   pub reason : HasReason why
+  pub counted : IsUnsettled why → ⊥
   pub told : report ≡ fault_data (close_refusal_of why) None
 
 abbrev pub Reports : ℕ → Told → Data → Type 0

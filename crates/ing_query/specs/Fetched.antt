@@ -6,7 +6,7 @@ use Rattle.ing_chunk.specs.Chunks.{in_blocks}
 use Rattle.ing_codec.specs.ChunkObjects.{ChunkObject, IsObject}
 use Rattle.ing_codec.specs.ChunkReading.{read_chunk}
 use Rattle.ing_parts.specs.Listings.{Listed, IsLike}
-use Rattle.ing_store.specs.StoreFaults.{HasFailed}
+use Rattle.ing_refusals.specs.Failures.{HasFailed}
 use Rattle.ing_query.specs.declared.fault.QueryFault.{QueryFault}
 use Rattle.ing_query.specs.declared.fault.QueryFault.TheVariants.{NoMemory, StoreFault, BadObject}
 

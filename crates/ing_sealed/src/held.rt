@@ -1,6 +1,6 @@
 //! One sealed chunk, where it stands.
 ghost use Rattle.std.specs.Prelude.{◌≡◌, ℕ, true, false, IfOk, IfErr, OnOk};
-ghost use Rattle.ing_parts.specs.Parts.{Adds};
+ghost use Rattle.ing_parts.specs.Parts.{Adds, AddsParts};
 ghost use Rattle.ing_sealed.specs.Slots.{found_at_slot};
 ghost use Rattle.ing_rows.specs.declared.place.Place.TheVariants.{Block, Flight};
 ghost use Rattle.ing_rows.specs.Rows.{is_block, is_stored};
@@ -11,7 +11,7 @@ ghost use Rattle.ing_sealed.specs.KeptSlots.{slot_of, waits, HoldsWhole};
 
 use crate::same::is_same;
 use ing_chunk::Chunk;
-use ing_parts::{Listing, Snapshot, StreamName};
+use ing_parts::{Listing, Part, Snapshot, StreamName, list_chunk, list_stored};
 use ing_store::Receipt;
 use std::alloc::{AllocError, Global};
 use std::sync::Arc;
@@ -69,6 +69,24 @@ pub(crate) fn add_held<R: Receipt>(
         Held::Waiting(chunk) => snapshot.add_chunk(alloc, name, chunk),
         Held::Shared(chunk) | Held::Flying(_, chunk) => snapshot.add_chunk(alloc, name, chunk),
         Held::Stored(listing) => snapshot.add_stored(name, listing),
+    }
+}
+
+/// Adds all entries of one to parts.
+pub(crate) fn list_held<R: Receipt>(
+    alloc: Global,
+    parts: &mut Vec<Part<R>>,
+    name: &StreamName,
+    held: &Held<R>,
+) -> Result<(), AllocError>
+    requires { HoldsWhole held.now }
+    ensures { OnOk result (AddsParts (found_at_slot name.now (slot_of held.now))
+        parts.old.items parts.new.items) }
+{
+    match held {
+        Held::Waiting(chunk) => list_chunk(parts, alloc, name, chunk),
+        Held::Shared(chunk) | Held::Flying(_, chunk) => list_chunk(parts, alloc, name, chunk),
+        Held::Stored(listing) => list_stored(parts, name, listing),
     }
 }
 

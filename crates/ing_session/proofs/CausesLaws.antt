@@ -1,6 +1,6 @@
 -- Failures that were answered, and the failures that a store end has counted.
 use Rattle.std.proofs.Common.{◌≡◌, ◌∙◌, ℕ, ◌+◌, ◌≤◌, arith, inl, inr}
-use Rattle.ing_store.specs.StoreFaults.{HasFailed}
+use Rattle.ing_refusals.specs.Failures.{HasFailed}
 use Rattle.ing_session.specs.Causes.{GoesOn, HaveCause}
 
 pub no_failure : (n : ℕ) → HaveCause n n 0

@@ -18,6 +18,7 @@ mod PickLaws
 mod PositionLaws
 mod PushLaws
 mod ReadLaws
+mod RowLaws
 mod SealLaws
 mod ShardLaws
 mod SnapshotLaws

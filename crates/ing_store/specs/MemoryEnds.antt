@@ -1,5 +1,6 @@
 -- How an end of a store in memory counts its calls, and which of them fail (own).
-use Rattle.std.specs.Prelude.{ℕ, ◌+◌, ◌-◌, ◌^◌, Bool, false, ◌==◌, nat_le, if◌then◌else◌}
+use Rattle.std.specs.Prelude.{ℕ, Bool, false, ◌==◌, nat_le, if◌then◌else◌}
+use Rattle.ing_refusals.specs.Failures.{one_more}
 use Rattle.ing_store.specs.declared.fuse.Fuse.{Fuse}
 use Rattle.ing_store.specs.declared.fuse.Fuse.TheVariants as fuse
 
@@ -15,10 +16,6 @@ fails_at fuse.None n = false
 fails_at (fuse.Failed k) n = n == k
 fails_at (fuse.StoredYetFailed k) n = n == k
 fails_at (fuse.FailedFrom k) n = nat_le k n
-
--- one more, up to 2^64-1
-abbrev pub one_more : ℕ → ℕ
-one_more n = if n == 2 ^ 64 - 1 then n else n + 1
 
 -- the next call fails
 abbrev pub is_failing : EndState → Bool

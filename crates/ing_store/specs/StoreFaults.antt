@@ -1,5 +1,6 @@
 -- Which refusal a fault of a store end is, and what a fault tells of the end (own).
-use Rattle.std.specs.Prelude.{◌≡◌, ◌⊎◌, ℕ, ◌+◌, ◌<◌, ◌≤◌, ◌^◌, Result, Ok, Err}
+use Rattle.std.specs.Prelude.{◌≡◌, ℕ, ◌≤◌, Result, Ok, Err}
+use Rattle.ing_refusals.specs.Failures.{HasFailed}
 use Rattle.ing_refusals.specs.declared.refusal.Refusal.{Refusal}
 use Rattle.ing_refusals.specs.declared.refusal.Refusal.TheVariants as refusal
 use Rattle.ing_store.specs.declared.fault.StoreFault.{StoreFault}
@@ -10,11 +11,6 @@ abbrev pub store_refusal_of : StoreFault → Refusal
 store_refusal_of NoMemory = refusal.NoMemory
 store_refusal_of Failed = refusal.Failed
 store_refusal_of Damaged = refusal.Damaged
-
--- the end has failed between two readings of its count of failures: it rose, and one that stood at its last
--- value, 2^64-1, counts as risen
-abbrev pub HasFailed : ℕ → ℕ → Type 0
-HasFailed before after = (before < after) ⊎ (before + 1 ≡ 2 ^ 64)
 
 -- what an answer tells of the count of failures before and after the call: it does not fall, it stays where
 -- the answer is Ok, and a fault that is not want of memory is answered only where the end has failed

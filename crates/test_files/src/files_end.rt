@@ -1,6 +1,7 @@
 //! An end of a store over files.
 ghost use Rattle.std.specs.Prelude.{◌≡◌, ◌≤◌};
-ghost use Rattle.ing_store.specs.StoreFaults.{IsCounted, HasFailed};
+ghost use Rattle.ing_refusals.specs.Failures.{HasFailed};
+ghost use Rattle.ing_store.specs.StoreFaults.{IsCounted};
 
 use crate::files::{FileFault, Files};
 use ing_store::{DigestReceipt, StoreEnd, StoreFault};

@@ -3,6 +3,7 @@ use ing_labels::{LabelFault, TextFault};
 use ing_limits::SettingsFault;
 use ing_node::{AnswerFault, CloseRefusal, NodeFault};
 use ing_query::QueryFault;
+use ing_refusals::Refusal;
 use ing_rows::RowFault;
 use std::alloc::{AllocError, AllocFailed};
 use thiserror::Error;
@@ -30,7 +31,7 @@ pub enum LifeFault {
     NotFound,
     /// The ingester was not closed.
     #[error("the ingester is not closed: {0:?}")]
-    Close(CloseRefusal),
+    Close(Refusal),
     /// The report of the closing is not what was counted.
     #[error("the report is not what was counted")]
     Report,
@@ -70,9 +71,9 @@ impl From<AnswerFault> for LifeFault {
 
 impl From<CloseRefusal> for LifeFault {
     fn from(why: CloseRefusal) -> LifeFault {
-        match why {
-            CloseRefusal::NoMemory => LifeFault::NoMemory,
-            why => LifeFault::Close(why),
+        match why.refusal() {
+            Refusal::NoMemory => LifeFault::NoMemory,
+            refusal => LifeFault::Close(refusal),
         }
     }
 }

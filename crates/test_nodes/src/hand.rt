@@ -71,7 +71,7 @@ impl<N: NodeName> Hand<N> {
         let tenant = Tenant::of_text(alloc, "t")?;
         let streams = streams_of(alloc, plan.task)?;
         let all = Selector::parse(alloc, "{all=\"1\"}")?;
-        let pusher = node.pusher(rt, alloc)?;
+        let pusher = node.pusher(rt, alloc, plan.diary)?;
         let tally = match tally_of(rt, alloc, node) {
             Ok(tally) => tally,
             Err(fault) => {

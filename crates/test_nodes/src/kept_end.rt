@@ -21,11 +21,12 @@ impl Receipt for Object {
 }
 
 /// An end of a store whose receipts own what was put, so that it may go to any thread. Of its puts one in so many fails, by lot,
-/// or none where that is 0.
+/// or none where that is 0; one that is dead gives no bytes.
 #[derive(Drop)]
 pub struct KeptEnd {
     lots: Lots,
     odds: u64,
+    is_dead: bool,
     failures: u64,
 }
 
@@ -35,6 +36,17 @@ impl KeptEnd {
         KeptEnd {
             lots,
             odds,
+            is_dead: false,
+            failures: 0,
+        }
+    }
+
+    /// An end that gives no bytes.
+    pub fn dead() -> KeptEnd {
+        KeptEnd {
+            lots: Lots::of(0),
+            odds: 0,
+            is_dead: true,
             failures: 0,
         }
     }
@@ -71,6 +83,10 @@ impl StoreEnd for KeptEnd {
         alloc: Global,
         receipt: &'r Object,
     ) -> Result<CowSlice<'r, u8, Global>, StoreFault> {
+        if self.is_dead {
+            self.failures = self.failures.saturating_add(1);
+            return Err(StoreFault::Failed);
+        }
         Ok(CowSlice::Borrowed(receipt.bytes.as_slice()))
     }
 

@@ -1,15 +1,17 @@
 //! The whole life of an ingester.
-ghost use Rattle.std.specs.Prelude.{◌≡◌, ◌<◌, ◌≤◌, ◌+◌, All, IfOk, vec_len, vec_capacity};
+ghost use Rattle.std.specs.Prelude.{◌≡◌, ◌<◌, ◌≤◌, ◌+◌, All, IfErr, IfOk, vec_len, vec_capacity};
 ghost use Rattle.ing_node.specs.Names.{AreNamed, IsTallyOf};
 
 use crate::done::Done;
 use crate::fault::LifeFault;
 use crate::hand::Hand;
-use crate::kept_end::Object;
+use crate::kept_end::{KeptEnd, Object};
+use crate::lots::Lots;
 use crate::plan::Plan;
 use ing_flush::FlusherTally;
 use ing_limits::Settings;
-use ing_node::{Answer, CloseFault, CloseRefusal, Ingester, NodeName, Pusher, Report, Shards};
+use ing_node::{Answer, CloseFault, Ingester, NodeName, Pusher, Report, Shards};
+use ing_refusals::Refusal;
 use std::alloc::{AllocError, Global};
 use std::marker::Brand;
 use std::sync::Wait;
@@ -26,11 +28,15 @@ pub struct Life {
     pub done: Done,
     /// What the close reports.
     pub report: Report,
+    /// Why the close before it was refused, over an end of the store that gives no bytes.
+    pub refused: Option<Refusal>,
+    /// Whether each hand kept a diary.
+    pub diaries: bool,
 }
 
 impl Life {
-    /// Whether each hand came to its end, the report is what was counted, of each shard and in all, and each entry that was accepted
-    /// was found.
+    /// Whether each hand came to its end, the report is what was counted, of each shard and in all, each entry that was accepted was
+    /// found, and the first close was refused where it had to be.
     pub fn check(&self) -> Result<(), LifeFault> {
         if let Some(fault) = self.done.fault {
             return Err(fault);
@@ -54,7 +60,17 @@ impl Life {
         if self.answer.entries.len() as u64 != accepted {
             return Err(LifeFault::NotFound);
         }
-        Ok(())
+        self.check_refused()
+    }
+
+    /// Whether the close over an end that gives no bytes was refused exactly where a stored entry had to be read for the diaries.
+    fn check_refused(&self) -> Result<(), LifeFault> {
+        let reads = self.diaries && self.done.stored > 0;
+        match self.refused {
+            Some(Refusal::StoreFault) if reads => Ok(()),
+            None if !reads => Ok(()),
+            _ => Err(LifeFault::Report),
+        }
     }
 }
 
@@ -106,12 +122,14 @@ fn whole_life<N: NodeName + Send + Sync, W: Threads + Wait + Sync>(
     let found = found(rt, alloc, &node, &mut hands);
     let told = told(alloc, count, &hands);
     let done = all_done(&hands);
-    let report = closed(alloc, node, hands)?;
+    let (report, refused) = closed(alloc, node, hands)?;
     Ok(Life {
         answer: found?,
         told: told?,
         done,
         report,
+        refused,
+        diaries: plans.iter().all(|plan| plan.diary),
     })
 }
 
@@ -232,24 +250,25 @@ pub fn all_done<N: NodeName>(hands: &[Hand<N>]) -> Done {
     done
 }
 
-/// Closes the ingester with all of its hands.
+/// Closes the ingester with all of its hands: first over an end of the store that gives no bytes, and where that is refused, over a
+/// good one. Why the first was refused stands beside the report.
 pub fn closed<N: NodeName>(
     alloc: Global,
     node: Ingester<N, Object>,
     hands: Vec<Hand<N>>,
-) -> Result<Report, LifeFault> {
+) -> Result<(Report, Option<Refusal>), LifeFault> {
     let Parts { pushers, tallies } = parted(alloc, hands)?;
-    match node.close(alloc, pushers, tallies) {
-        Ok(report) => Ok(report),
+    match closed_over(alloc, &mut KeptEnd::dead(), node, pushers, tallies) {
+        Ok(report) => Ok((report, None)),
         Err(fault) => closed_again(alloc, fault),
     }
 }
 
-/// Closes what a close gave back once more, where memory was refused.
+/// Closes over a good end what a close gave back.
 fn closed_again<N: NodeName>(
     alloc: Global,
     fault: CloseFault<N, Object>,
-) -> Result<Report, LifeFault>
+) -> Result<(Report, Option<Refusal>), LifeFault>
     requires { All (IsTallyOf N.settings.shards N.books) fault.tallies.items }
 {
     let CloseFault {
@@ -258,42 +277,50 @@ fn closed_again<N: NodeName>(
         pushers,
         tallies,
     } = fault;
-    if why != CloseRefusal::NoMemory {
-        strand_pushers(pushers);
-        strand_tallies(tallies);
-        return Err(why.into());
-    }
-    match ingester.close(alloc, pushers, tallies) {
-        Ok(report) => Ok(report),
+    let mut end = KeptEnd::new(Lots::of(0), 0);
+    match closed_over(alloc, &mut end, ingester, pushers, tallies) {
+        Ok(report) => Ok((report, Some(why.refusal()))),
         Err(fault) => Err(given_up(fault)),
     }
+}
+
+/// Closes over an end; once more where memory was refused.
+fn closed_over<N: NodeName>(
+    alloc: Global,
+    end: &mut KeptEnd,
+    node: Ingester<N, Object>,
+    pushers: Vec<Pusher<N>>,
+    tallies: Vec<FlusherTally>,
+) -> Result<Report, CloseFault<N, Object>>
+    requires { All (IsTallyOf N.settings.shards N.books) tallies.items }
+    ensures { IfErr result (λ fault. fault.tallies ≡ tallies) }
+{
+    let fault = match node.close(alloc, end, pushers, tallies) {
+        Ok(report) => return Ok(report),
+        Err(fault) => fault,
+    };
+    if fault.why.refusal() != Refusal::NoMemory {
+        return Err(fault);
+    }
+    let CloseFault {
+        why: _,
+        ingester,
+        pushers,
+        tallies,
+    } = fault;
+    ingester.close(alloc, end, pushers, tallies)
 }
 
 /// Gives up what a close gave back, and says why it was refused.
 fn given_up<N: NodeName>(fault: CloseFault<N, Object>) -> LifeFault {
     let CloseFault {
         why,
-        ingester: _,
+        ingester,
         pushers,
         tallies,
     } = fault;
-    strand_pushers(pushers);
-    strand_tallies(tallies);
+    ingester.abandon(pushers, tallies);
     why.into()
-}
-
-fn strand_pushers<N: NodeName>(mut pushers: Vec<Pusher<N>>) {
-    while let Some(pusher) = pushers.pop() {
-        pusher.strand();
-    }
-    pushers.destroy_empty();
-}
-
-fn strand_tallies(mut tallies: Vec<FlusherTally>) {
-    while let Some(tally) = tallies.pop() {
-        tally.strand();
-    }
-    tallies.destroy_empty();
 }
 
 /// The parts of all hands.

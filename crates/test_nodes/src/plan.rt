@@ -36,6 +36,8 @@ pub struct Plan {
     pub lots: u64,
     /// Of so many puts one fails, by lot; none where it is 0.
     pub odds: u64,
+    /// Whether it keeps a diary.
+    pub diary: bool,
 }
 
 /// The label value of each stream, which its counted lines begin with.

@@ -65,6 +65,7 @@ fn loads(alloc: Global, threads: usize, entries: u64) -> Result<Vec<Plan>, Alloc
             turns,
             lots: 0,
             odds: 0,
+            diary: false,
         })?;
     }
     Ok(plans)
@@ -87,7 +88,7 @@ fn load<N: NodeName + Send + Sync, R: Threads + Wait + Sync + Clock>(
     work(rt, alloc, &node, hands.as_mut_slice(), plans.len().max(1));
     let end = Instant::now(rt);
     let done = all_done(&hands);
-    let report = closed(alloc, node, hands)?;
+    let (report, _) = closed(alloc, node, hands)?;
     if let Some(fault) = done.fault {
         return Err(fault.into());
     }

@@ -76,6 +76,7 @@ fn drawn(alloc: Global, round: u64) -> Result<Vec<Plan>, AllocError> {
     let mut lots = Lots::of(round);
     let mut plans = Vec::new(alloc);
     let odds = lots.below(6);
+    let diary = lots.below(2) == 0;
     for (task, most) in [(Task::Push, 3), (Task::FlushOne, 2), (Task::Query, 1)] {
         for _ in 0..=lots.below(most) {
             plans.push(Plan {
@@ -83,6 +84,7 @@ fn drawn(alloc: Global, round: u64) -> Result<Vec<Plan>, AllocError> {
                 turns: lots.below(100),
                 lots: lots.below(1 << 40),
                 odds,
+                diary,
             })?;
         }
     }

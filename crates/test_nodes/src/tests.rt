@@ -13,6 +13,7 @@ fn plan(task: Task, turns: u64) -> Plan {
         turns,
         lots: 0,
         odds: 0,
+        diary: true,
     }
 }
 

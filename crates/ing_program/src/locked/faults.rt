@@ -5,8 +5,7 @@ ghost use Rattle.ing_node.specs.AnswerFaults.{answer_refusal_of};
 ghost use Rattle.ing_session.specs.Replies.{fault_data};
 ghost use Rattle.ing_session.specs.Views.{reply_data, stream_data};
 
-use ing_flush::FlusherTally;
-use ing_node::{AnswerFault, NodeFault, NodeName, Pusher};
+use ing_node::{AnswerFault, NodeFault};
 use ing_session::{Reply, StreamReply, query_fault};
 use std::alloc::AllocError;
 
@@ -42,20 +41,4 @@ pub(super) fn stream_fault(fault: NodeFault) -> Result<StreamReply, AllocError>
         refusal: fault.refusal(),
         at: None,
     })
-}
-
-/// Gives pushers up, whose shares stay out. Takes no memory.
-pub(super) fn strand_pushers<N: NodeName>(mut pushers: Vec<Pusher<N>>) {
-    while let Some(pusher) = pushers.pop() {
-        pusher.strand();
-    }
-    pushers.destroy_empty();
-}
-
-/// Gives tallies up, whose shares stay out. Takes no memory.
-pub(super) fn strand_tallies(mut tallies: Vec<FlusherTally>) {
-    while let Some(tally) = tallies.pop() {
-        tally.strand();
-    }
-    tallies.destroy_empty();
 }

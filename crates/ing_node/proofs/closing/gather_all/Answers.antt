@@ -2,11 +2,11 @@ use Rattle.std.proofs.Common.{◌≡◌, ◌<◌, ◌+◌, ℕ, List, length, So
 use Rattle.ing_tally.specs.Books.{AreOf, ShareState, amount_of}
 use Rattle.ing_node.specs.Closing.{shares_at}
 use Rattle.ing_node.specs.Reports.{IsClosed}
-use Rattle.ing_node.proofs.ClosingLaws.{closed_as, complete_as, left_get, left_shares, none_left, popped_get, popped_shares, closed_set}
+use Rattle.ing_node.proofs.ClosingLaws.{closed_as, complete_as, left_get, left_same, left_shares, none_left, popped_get, popped_shares, closed_set, rows_set}
 use Rattle.ing_node.proofs.closing.gather_all.Goals as goal
 
-pub settle-requires-clause-own_pushing : goal.settle-requires-clause-own_pushing
-settle-requires-clause-own_pushing g c =
+pub gather-requires-clause-own_pushing : goal.gather-requires-clause-own_pushing
+gather-requires-clause-own_pushing g c =
     let at = c.loop-held.invariant in
     let rest = c.pop.new.self in
     let place = vec_len rest in
@@ -22,8 +22,8 @@ settle-requires-clause-own_pushing g c =
     subst (λ n. AreOf (g.N.NodeName.books n).accepted c.in-Some-Some.pushers.items) (sym whole.number)
     (subst (λ (ss : List ShareState). AreOf (g.N.NodeName.books place).accepted ss) (sym mine) (c.requires.own_pushing place))
 
-pub settle-requires-clause-own_tallies : goal.settle-requires-clause-own_tallies
-settle-requires-clause-own_tallies g c =
+pub gather-requires-clause-own_tallies : goal.gather-requires-clause-own_tallies
+gather-requires-clause-own_tallies g c =
     let at = c.loop-held.invariant in
     let rest = c.pop.new.self in
     let place = vec_len rest in
@@ -39,8 +39,8 @@ settle-requires-clause-own_tallies g c =
     subst (λ n. AreOf (g.N.NodeName.books n).stored c.in-Some-Some.tallies.items) (sym whole.number)
     (subst (λ (ss : List ShareState). AreOf (g.N.NodeName.books place).stored ss) (sym told) (c.requires.own_stored place))
 
-pub settle-requires-clause-complete : goal.settle-requires-clause-complete
-settle-requires-clause-complete g c =
+pub gather-requires-clause-complete : goal.gather-requires-clause-complete
+gather-requires-clause-complete g c =
     let at = c.loop-held.invariant in
     let rest = c.pop.new.self in
     let place = vec_len rest in
@@ -72,8 +72,8 @@ loop-held-preserved g c =
     let told = popped_shares c.loop-held.stored.items c.pop-in-Some-2.new.self.items c.in-Some-Some.tallies c.in-Some-Some.ensures'.items place len_t c.args.stored.items same_t in
     let whole = at.complete place c.in-Some.held (popped_get c.loop-held.helds.items rest.items c.in-Some.held c.in-Some.ensures.items place len_h) in
     let placed : c.len-place.result ≡ place = c.len-place.ensures in
-    let done : IsClosed (amount_of (shares_at place c.args.pushing.items)) (amount_of (shares_at place c.args.stored.items)) c.settle.result =
-    closed_as (amount_of c.in-Some-Some.pushers.items) (amount_of c.in-Some-Some.tallies.items) _ _ c.settle.result (ap amount_of mine) (ap amount_of told) c.settle.ensures in
+    let done : IsClosed (amount_of (shares_at place c.args.pushing.items)) (amount_of (shares_at place c.args.stored.items)) c.gather.result =
+    closed_as (amount_of c.in-Some-Some.pushers.items) (amount_of c.in-Some-Some.tallies.items) _ _ c.gather.result (ap amount_of mine) (ap amount_of told) c.gather.ensures.closed in
     record {
       pushing = omega (arith, len_p, c.pop-in-Some.new.self.ok.0);
       stored = omega (arith, len_t, c.pop-in-Some-2.new.self.ok.0);
@@ -83,12 +83,25 @@ loop-held-preserved g c =
       same_stored = left_shares c.loop-held.stored.items c.pop-in-Some-2.new.self.items c.in-Some-Some.tallies c.in-Some-Some.ensures'.items place len_t c.args.stored.items same_t;
       complete = λ i held there. at.complete i held (left_get c.loop-held.helds.items rest.items c.in-Some.held c.in-Some.ensures.items i held there);
       closed = λ i report past there.
-          closed_set (λ n. amount_of (shares_at n c.args.pushing.items)) (λ n. amount_of (shares_at n c.args.stored.items)) c.loop-held.reports.items place c.settle.result done
+          closed_set (λ n. amount_of (shares_at n c.args.pushing.items)) (λ n. amount_of (shares_at n c.args.stored.items)) c.loop-held.reports.items place c.gather.result done
           (λ j r beyond. at.closed j r (omega (arith, beyond, longer))) i report past
-          (subst (λ n. slice_get (slice_set c.loop-held.reports.items n c.settle.result) i ≡ Some report) placed there);
+          (subst (λ n. slice_get (slice_set c.loop-held.reports.items n c.gather.result) i ≡ Some report) placed there);
+      same_helds = λ i below.
+          left_same c.loop-held.helds.items rest.items c.in-Some.held c.in-Some.ensures.items i (omega (arith, below, len_h)) ∙ at.same_helds i (omega (arith, below, longer));
+      rows = λ i held report past there counted.
+          rows_set (λ h. h.shard) c.args.helds.items c.loop-held.reports.items place c.gather.result c.in-Some.held
+          (sym (at.same_helds place (omega (arith, longer))) ∙ popped_get c.loop-held.helds.items rest.items c.in-Some.held c.in-Some.ensures.items place len_h)
+          c.gather.ensures.rows
+          (λ j h r beyond. at.rows j h r (omega (arith, beyond, longer))) i held report past there
+          (subst (λ n. slice_get (slice_set c.loop-held.reports.items n c.gather.result) i ≡ Some report) placed counted);
     }
 
 pub returns-clause-closed : goal.returns-clause-closed
 returns-clause-closed g c i report there =
     let none = none_left (vec_len c.loop-held.helds) c.in_default.ensures.variant.1 in
     c.loop-held.invariant.closed i report (omega (arith, none)) there
+
+pub returns-clause-rows : goal.returns-clause-rows
+returns-clause-rows g c i held report there counted =
+    let none = none_left (vec_len c.loop-held.helds) c.in_default.ensures.variant.1 in
+    c.loop-held.invariant.rows i held report (omega (arith, none)) there counted

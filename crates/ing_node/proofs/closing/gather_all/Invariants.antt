@@ -2,6 +2,7 @@ use Rattle.std.proofs.Common.{◌≡◌, ◌≤◌, ◌<◌, ℕ, Some, length, 
 use Rattle.ing_tally.specs.Books.{amount_of}
 use Rattle.ing_node.specs.declared.report.ShardReport.{ShardReport}
 use Rattle.ing_node.specs.Closing.{AreComplete, shares_at}
+use Rattle.ing_node.specs.Reports.{CountRowsFrom}
 use Rattle.ing_node.specs.Reports.{IsClosed}
 use Rattle.ing_node.proofs.closing.gather_all.Given as goal
 
@@ -18,6 +19,8 @@ invariant-loop-held g l = record {
       (λ i. length (shares_at i l.initial.stored.items)) l.helds.items;
   closed : (i : ℕ) (report : ShardReport) → vec_len l.helds ≤ i → slice_get l.reports.items i ≡ Some report
       → IsClosed (amount_of (shares_at i l.initial.pushing.items)) (amount_of (shares_at i l.initial.stored.items)) report;
+  same_helds : (i : ℕ) → i < vec_len l.helds → slice_get l.helds.items i ≡ slice_get l.initial.helds.items i;
+  rows : CountRowsFrom (vec_len l.helds) (λ held. held.shard) l.initial.helds.items l.reports.items;
 }
 
 abbrev pub decreases-loop-held : goal.decreases-loop-held

@@ -1,6 +1,7 @@
-use Rattle.std.proofs.Common.{◌≡◌, ◌+◌, ◌++◌, ℕ, List, arith, length, subst, sym, ap, ◌∙◌, vec_len}
+use Rattle.std.proofs.Common.{◌≡◌, ◌+◌, ◌++◌, ℕ, List, arith, length, refl, subst, sym, ap, ◌∙◌, vec_len}
 use Rattle.ing_tally.specs.Books.{ShareState}
 use Rattle.ing_node.specs.Closing.{HaveRoom, one_at, shares_at}
+use Rattle.ing_node.specs.Diaries.{PusherState}
 use Rattle.ing_node.specs.Names.{AreAcceptedIn}
 use Rattle.ing_node.proofs.Handing.{accepted_one, gathered_count, gathered_own, gathered_sum}
 use Rattle.ing_node.proofs.gathering.hand_out_pushers.Goals as goal
@@ -11,11 +12,12 @@ loop-pusher-preserved g c =
     let books = g.N.NodeName.books in
     let old = c.loop-pusher.lists.items in
     let new = c.hand_out_told.new.lists.items in
-    let pusher = c.in-Some.pusher in
-    let length_is : length pusher ≡ g.N.NodeName.settings.shards = ap length (sym c.pusher.view_is) ∙ sym c.pusher.inside.told.ok.0 ∙ c.pusher.invariant.0 in
-    let own : AreAcceptedIn books pusher = subst (AreAcceptedIn books) c.pusher.view_is c.pusher.invariant.1 in
+    let pusher = c.in-Some.pusher.told in
+    let told_is : c.pusher.inside.told.items ≡ pusher = ap (λ (p : PusherState). p.told) c.pusher.view_is in
+    let length_is : length pusher ≡ g.N.NodeName.settings.shards = ap length (sym told_is) ∙ sym c.pusher.inside.told.ok.0 ∙ c.pusher.invariant.0 in
+    let own : AreAcceptedIn books pusher = subst (AreAcceptedIn books) told_is c.pusher.invariant.1 in
     let len : vec_len c.loop-pusher.pushers ≡ vec_len c.pop.new.self + 1 = omega (arith, c.in-Some.ensures.len) in
-    let is : (i : ℕ) → shares_at i new ≡ shares_at i old ++ one_at i pusher = λ i. c.hand_out_told.ensures.handed i ∙ ap (λ (ss : List ShareState). shares_at i old ++ one_at i ss) c.pusher.view_is in
+    let is : (i : ℕ) → shares_at i new ≡ shares_at i old ++ one_at i pusher = λ i. c.hand_out_told.ensures.handed i ∙ ap (λ (ss : List ShareState). shares_at i old ++ one_at i ss) told_is in
     record {
       all = c.hand_out_told.ensures.count ∙ at.all;
       room = c.hand_out_told.ensures.room (vec_len c.pop.new.self) (subst (λ n. HaveRoom n old) len at.room);
@@ -23,5 +25,5 @@ loop-pusher-preserved g c =
       count = λ i below.
           let one = gathered_count i (shares_at i new) (shares_at i old) pusher (is i) (omega (arith, below, length_is)) in
           omega (arith, one, at.count i below, len);
-      sum = λ i. gathered_sum i (shares_at i new) (shares_at i old) pusher (is i) c.pop.new.self.items c.loop-pusher.pushers.items c.in-Some.ensures.items _ (at.sum i);
+      sum = λ i. gathered_sum i (shares_at i new) (shares_at i old) pusher (is i) (λ (p : PusherState). p.told) c.in-Some.pusher refl c.pop.new.self.items c.loop-pusher.pushers.items c.in-Some.ensures.items _ (at.sum i);
     }

@@ -12,7 +12,7 @@ invariant-loop-pusher g l = record {
   room : HaveRoom (vec_len l.pushers) l.lists.items;
   own : (i : ℕ) → AreOf (g.N.NodeName.books i).accepted (shares_at i l.lists.items);
   count : (i : ℕ) → i < g.N.NodeName.settings.shards → length (shares_at i l.lists.items) + vec_len l.pushers ≡ vec_len l.initial.pushers;
-  sum : (i : ℕ) → amount_of (shares_at i l.lists.items) + sum_by (amount_at i) l.pushers.items ≡ sum_by (amount_at i) l.initial.pushers.items;
+  sum : (i : ℕ) → amount_of (shares_at i l.lists.items) + sum_by (λ p. amount_at i p.told) l.pushers.items ≡ sum_by (λ p. amount_at i p.told) l.initial.pushers.items;
 }
 
 abbrev pub decreases-loop-pusher : goal.decreases-loop-pusher

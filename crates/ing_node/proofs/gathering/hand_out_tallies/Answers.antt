@@ -1,4 +1,4 @@
-use Rattle.std.proofs.Common.{◌≡◌, ◌+◌, ◌++◌, ℕ, List, Some, arith, subst, ap, ◌∙◌, vec_len}
+use Rattle.std.proofs.Common.{◌≡◌, ◌+◌, ◌++◌, ℕ, List, Some, arith, refl, subst, ap, ◌∙◌, vec_len}
 use Rattle.std.proofs.lemmas.List.Elements.{All-pop}
 use Rattle.ing_tally.specs.Books.{ShareState}
 use Rattle.ing_node.specs.Closing.{HaveRoom, one_at, shares_at}
@@ -25,5 +25,5 @@ loop-tally-preserved g c =
       count = λ i below.
           let one = gathered_count i (shares_at i new) (shares_at i old) tally (is i) (omega (arith, below, given.1.0)) in
           omega (arith, one, at.count i below, len);
-      sum = λ i. gathered_sum i (shares_at i new) (shares_at i old) tally (is i) c.pop.new.self.items c.loop-tally.tallies.items c.in-Some.ensures.items _ (at.sum i);
+      sum = λ i. gathered_sum i (shares_at i new) (shares_at i old) tally (is i) (λ (ss : List ShareState). ss) tally refl c.pop.new.self.items c.loop-tally.tallies.items c.in-Some.ensures.items _ (at.sum i);
     }

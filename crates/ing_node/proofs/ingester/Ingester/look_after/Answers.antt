@@ -1,11 +1,15 @@
-use Rattle.std.proofs.Common.{rules, ◌≡◌, ◌≤◌, ◌<◌, ◌∙◌, ℕ, List, [], ◌∷◌, ap, arith, length, slice_set, subst, sym}
+use Rattle.std.proofs.Common.{rules, ◌≡◌, ◌≤◌, ◌<◌, ◌∙◌, ◌+◌, ◌++◌, ℕ, List, [], ◌∷◌, ap, arith, length, slice_set, subst, sym}
 use Rattle.std.specs.Prelude.{All}
 use Rattle.std.proofs.lemmas.List.Elements.{All-append, All-cons, All-nil}
 use Rattle.ing_parts.specs.declared.snapshot.Snapshot.{Snapshot}
 use Rattle.ing_tally.specs.Books.{ShareState}
 use Rattle.ing_flush.specs.Tallies.{amount_at}
 use Rattle.ing_node.specs.Names.{AreAcceptedIn}
-use Rattle.ing_node.specs.Queries.{AreNoLess, IsAskedOf}
+use Rattle.ing_node.specs.Queries.{AreBelow, AreNoLess, IsAskedOf}
+use Rattle.ing_parts.specs.Answers.{StandApart}
+use Rattle.ing_parts.specs.Parts.{standing}
+use Rattle.ing_query.specs.Answers.{standing_in}
+use Rattle.ing_node.proofs.Once.{once_more, standing_push}
 use Rattle.ing_node.proofs.PusherLaws.{amount_there, no_less_push, same_set}
 use Rattle.ing_node.proofs.ingester.Ingester.look_after.Goals as goal
 
@@ -14,7 +18,7 @@ loop-place-preserved g c =
     let at = c.loop-place.invariant in
     let ss = c.loop-place.pusher-inside.told.items in
     let place = c.loop-place.place in
-    let told = c.args.pusher.now in
+    let told = c.args.pusher.now.told in
     let s = c.behind-pusher.inside.share in
     let d = c.index_mut.result.now in
     let new = c.in_ok-snapshot.snapshot in
@@ -28,8 +32,15 @@ loop-place-preserved g c =
     let here : amount_at (length c.loop-place.fronts.items) told ≤ new.front =
     subst (λ i. amount_at i told ≤ new.front) count (subst (λ (ts : List ShareState). amount_at place ts ≤ new.front) at.same less) in
     let P = λ (x : Snapshot g.row.R.Denot). IsAskedOf c.args.tenant.now c.args.selector.now c.args.question x in
+    let shards = g.N.NodeName.settings.shards in
+    let tenant = c.args.tenant.now in
+    let more : standing_in (c.loop-place.snapshots.items ++ new ∷ []) ≡ standing_in c.loop-place.snapshots.items ++ standing new = standing_push c.loop-place.snapshots.items new in
+    let both = once_more shards tenant place (standing_in c.loop-place.snapshots.items) (standing new) at.once at.below c.in_ok-snapshot.ensures.once c.in_ok-snapshot.ensures.own in
     record {
       same = kept ∙ at.same;
+      diary = at.diary;
+      once = subst (λ (ss : List (Snapshot g.row.R.Denot)). StandApart (standing_in ss)) (sym c.push_reserved-in-loop-place.ensures.items) (subst StandApart (sym more) both.0);
+      below = subst (λ (ss : List (Snapshot g.row.R.Denot)). AreBelow shards tenant (place + 1) (standing_in ss)) (sym c.push_reserved-in-loop-place.ensures.items) (subst (AreBelow shards tenant (place + 1)) (sym more) both.1);
       all = at.all;
       own = subst (AreAcceptedIn g.N.NodeName.books) (sym kept) at.own;
       snapshots = subst (All P) (sym c.push_reserved-in-loop-place.ensures.items)

@@ -19,6 +19,7 @@ returns-in-Ok-clause-came g c = λ spelt usable told same.
         within = said.within;
         in_order = said.in_order;
         most = said.most;
+        once = said.once;
         all = sym answer.fronts.ok.0 ∙ said.fronts.0;
         no_less = λ i front at. subst (λ n. n ≤ front) (sym (same i)) (said.fronts.1 i front at);
       };
@@ -37,3 +38,7 @@ returns-in-Err-clause-came g c = λ spelt usable.
       causes = failed_causes Answer _ _ c.in-Err.fault c.in-Err.ensures.count;
     })
     c.answer_fault.ensures
+
+-- the end has not unlearnt a failure
+pub returns-in-Err-clause-end : goal.returns-in-Err-clause-end
+returns-in-Err-clause-end g c = ((failed_causes Answer _ _ c.in-Err.fault c.in-Err.ensures.count).0, c.in-Err.ensures.sure)

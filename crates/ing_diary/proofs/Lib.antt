@@ -1,0 +1,3 @@
+mod MovedLaws
+mod NoteLaws
+mod ReadLaws

@@ -1,0 +1,17 @@
+//! What pushers note of the entries that were accepted, and whether the entries of a shard are exactly those.
+#![tactic(auto)]
+
+mod compare;
+mod diary;
+mod fault;
+mod noted;
+mod noting;
+mod reading;
+mod settling;
+
+pub use compare::NoteRef;
+pub use diary::Diary;
+pub use fault::{Mismatch, Unsettled};
+pub use noted::Noted;
+pub use noting::Draft;
+pub use settling::settle;

@@ -1,0 +1,13 @@
+use Rattle.std.proofs.Common.{◌≡◌, ◌<◌, ℕ, Some, slice_get}
+use Rattle.ing_diary.specs.Notes.{AreNoted}
+use Rattle.ing_node.specs.Diaries.{notes_at}
+use Rattle.ing_node.proofs.settling.settle_all.Given as goal
+
+-- the shards so far have what was noted
+abbrev pub invariant-loop-place : goal.invariant-loop-place
+invariant-loop-place g l = record {
+  settled : g.S.StoreEnd.is_honest → (i : ℕ) (held : _) → i < l.place → slice_get l.helds i ≡ Some held
+      → AreNoted held.shard.state.rows (notes_at g.N.NodeName.settings.shards i l.pushers);
+  count : g.S.StoreEnd.failure_count l.end ≡ g.S.StoreEnd.failure_count l.initial.end;
+  sure : g.S.StoreEnd.never_fails l.initial.end → g.S.StoreEnd.never_fails l.end;
+}

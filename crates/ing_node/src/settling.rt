@@ -1,0 +1,57 @@
+//! Whether the shards have exactly the entries that were noted.
+ghost use Rattle.std.specs.Prelude.{◌≡◌, ◌<◌, ◌^◌, ℕ, All, IfErr, OnOk, false, length, true};
+ghost use Rattle.ing_node.specs.Closing.{AreInPlaces};
+ghost use Rattle.ing_node.specs.Diaries.{HaveNoted, KeepsDiary, notes_at};
+ghost use Rattle.ing_node.specs.Reports.{HasReason, IsCausedClose, IsNoBadClose};
+
+use crate::held::Held;
+use crate::laws::settle;
+use crate::names::NodeName;
+use crate::pusher::Pusher;
+use crate::report::CloseRefusal;
+use ing_store::StoreEnd;
+use std::alloc::Global;
+
+/// Whether each of them keeps a diary.
+pub(crate) fn keep_diaries<N: NodeName>(pushers: &[Pusher<N>]) -> bool
+    ensures yes { result ≡ true → All KeepsDiary pushers.now }
+    ensures no { result ≡ false → All KeepsDiary pushers.now → ⊥ }
+{
+    for pusher in pushers {
+        if !pusher.keeps_diary() {
+            return false;
+        }
+    }
+    true
+}
+
+/// Whether each shard, which stands at its place, has exactly the entries that these pushers noted, as `laws::settle`.
+pub(crate) fn settle_all<N: NodeName, S: StoreEnd>(
+    alloc: Global,
+    end: &mut S,
+    helds: &[Held<N, S::Receipt>],
+    pushers: &[Pusher<N>],
+) -> Result<(), CloseRefusal>
+    requires few { length helds.now < 2 ^ 32 }
+    requires all { length helds.now ≡ N.settings.shards }
+    requires placed { AreInPlaces (λ held. held.shard) helds.now }
+    ensures settled { S.is_honest → OnOk result
+        (HaveNoted (λ held. held.shard) (λ i. notes_at N.settings.shards i pushers.now) helds.now) }
+    ensures why { IfErr result HasReason }
+    ensures honest { S.is_honest → IfErr result IsNoBadClose }
+    ensures count { OnOk result (S.failure_count end.new ≡ S.failure_count end.old) }
+    ensures cause { IfErr result (IsCausedClose (S.failure_count end.old) (S.failure_count end.new)) }
+    ensures sure { S.never_fails end.old → (S.never_fails end.new)
+        × (S.failure_count end.new ≡ S.failure_count end.old) }
+{
+    for place in 0..helds.len() {
+        let shards = helds.len() as u32;
+        if let Err(why) = settle(&helds[place].shard, shards, alloc, end, pushers) {
+            return Err(CloseRefusal::Unsettled {
+                shard: place as u32,
+                why,
+            });
+        }
+    }
+    Ok(())
+}

@@ -1,5 +1,0 @@
-use Rattle.std.proofs.Common.{vec_len}
-use Rattle.ing_program.proofs.locked.faults.strand_pushers.Given as goal
-
-abbrev pub decreases-loop-pusher : goal.decreases-loop-pusher
-decreases-loop-pusher g l = vec_len l.pushers

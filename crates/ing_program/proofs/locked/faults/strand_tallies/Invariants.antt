@@ -1,5 +1,0 @@
-use Rattle.std.proofs.Common.{vec_len}
-use Rattle.ing_program.proofs.locked.faults.strand_tallies.Given as goal
-
-abbrev pub decreases-loop-tally : goal.decreases-loop-tally
-decreases-loop-tally l = vec_len l.tallies
