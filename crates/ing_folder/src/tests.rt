@@ -1,0 +1,124 @@
+//! A store and a log in a folder for temporary files, whose files are then damaged and removed.
+use crate::{FolderFault, FolderLog, FolderStore};
+use ing_store::{DigestReceipt, StoreEnd, StoreFault};
+use ing_wal::{LogDisk, ReadFault, replace, write_unless_torn};
+use std::process::Abort;
+use std::rt::Files;
+use std::test::Fail;
+use std::{env, fs, process};
+
+/// A folder of this test alone, which is not there yet.
+fn temporary(rt: &HostRuntime, name: &str) -> Result<String, Fail> {
+    let folder = env::temp_dir(rt)?;
+    let number = process::id(rt.process());
+    Ok(format!(in rt.alloc(); "{}/sarymbeu-{name}-{number}", folder.as_str())?)
+}
+
+/// Puts an object, and gets it back by the receipt.
+fn put_and_get<R: Files + AllocGlobal + Abort>(
+    rt: &R,
+    folder: &str,
+) -> Result<DigestReceipt, Fail> {
+    let alloc = rt.alloc();
+    let mut end = FolderStore::open(rt, alloc, folder, 0)?;
+    let put = end.put(alloc, "c-1", b"xyz")?;
+    assert!(rt; end.get(alloc, &put)?.as_slice() == b"xyz".as_slice());
+    assert!(rt; end.find(alloc, "c-2")?.is_none());
+    assert_eq!(rt; end.failures(), 0);
+    Ok(put)
+}
+
+/// Another end of the folder finds the bytes that the object has now, or none.
+fn bytes_found<R: Files + AllocGlobal>(rt: &R, folder: &str) -> Result<Option<Vec<u8>>, Fail> {
+    let alloc = rt.alloc();
+    let mut end = FolderStore::open(rt, alloc, folder, 1)?;
+    Ok(end.found(alloc, "c-1")?.map(|(_, bytes)| bytes))
+}
+
+/// Why another end does not give what the receipt means.
+fn refused<R: Files + AllocGlobal>(
+    rt: &R,
+    folder: &str,
+    receipt: &DigestReceipt,
+) -> Result<Option<StoreFault>, Fail> {
+    let alloc = rt.alloc();
+    let mut end = FolderStore::open(rt, alloc, folder, 1)?;
+    let fault = end.get(alloc, receipt).err();
+    Ok(fault.filter(|_| end.failures() == 1))
+}
+
+/// An object is a file, and no other lies beside it. One that was changed is damaged, one that was removed is not there.
+#[test]
+fn an_object_is_a_file(rt: HostRuntime) -> Result<(), Fail> {
+    let folder = temporary(&rt, "objects")?;
+    let receipt = put_and_get(&rt, folder.as_str())?;
+    assert!(rt; bytes_found(&rt, folder.as_str())? == Some(b"xyz".to_vec(rt.alloc())?));
+    assert_eq!(rt; fs::read_dir(&rt, folder.as_str())?.count(), 1);
+    let path = format!(in rt.alloc(); "{}/c-1", folder.as_str())?;
+    fs::write(&rt, path.as_str(), "xy{")?;
+    assert!(rt; refused(&rt, folder.as_str(), &receipt)? == Some(StoreFault::Damaged));
+    fs::remove_file(&rt, path.as_str())?;
+    assert!(rt; refused(&rt, folder.as_str(), &receipt)? == Some(StoreFault::Failed));
+    assert!(rt; bytes_found(&rt, folder.as_str())?.is_none());
+    fs::remove_dir(&rt, folder.as_str())?;
+    Ok(())
+}
+
+/// A name that would lead out of the folder is refused.
+#[test]
+fn a_name_stays_in_the_folder(rt: HostRuntime) -> Result<(), Fail> {
+    let folder = temporary(&rt, "names")?;
+    let mut end = FolderStore::open(&rt, rt.alloc(), folder.as_str(), 0)?;
+    for name in ["", "..", "../c-1", ".c-1", "a/b"] {
+        assert!(rt; end.put(rt.alloc(), name, b"x").err() == Some(StoreFault::Failed));
+    }
+    assert_eq!(rt; end.failures(), 5);
+    fs::remove_dir(&rt, folder.as_str())?;
+    Ok(())
+}
+
+/// The text of the log, opened anew.
+fn text_of<R: Files + AllocGlobal>(rt: &R, folder: &str) -> Result<Vec<u8>, Fail> {
+    let mut log = FolderLog::open(rt, rt.alloc(), folder, "wal-0")?;
+    Ok(log.read_all(rt.alloc())?)
+}
+
+/// A text is written at the end, and replaced, and is there for the next that opens the file; no other lies beside it.
+#[test]
+fn a_log_is_a_file(rt: HostRuntime) -> Result<(), Fail> {
+    let folder = temporary(&rt, "log")?;
+    let mut log = FolderLog::open(&rt, rt.alloc(), folder.as_str(), "wal-0")?;
+    assert!(rt; !write_unless_torn(&mut log, false, b"one"));
+    assert!(rt; text_of(&rt, folder.as_str())?.as_slice() == b"one".as_slice());
+    assert!(rt; replace(&mut log, b"two").is_ok());
+    assert!(rt; !write_unless_torn(&mut log, false, b", three"));
+    assert!(rt; text_of(&rt, folder.as_str())?.as_slice() == b"two, three".as_slice());
+    assert_eq!(rt; fs::read_dir(&rt, folder.as_str())?.count(), 1);
+    fs::remove_dir_all(&rt, folder.as_str())?;
+    Ok(())
+}
+
+/// The folder goes away below an open log.
+#[test]
+fn a_log_without_a_folder_fails(rt: HostRuntime) -> Result<(), Fail> {
+    let folder = temporary(&rt, "gone")?;
+    let mut log = FolderLog::open(&rt, rt.alloc(), folder.as_str(), "wal-0")?;
+    fs::remove_dir_all(&rt, folder.as_str())?;
+    assert!(rt; log.read_all(rt.alloc()) == Err(ReadFault::LogFault));
+    assert!(rt; replace(&mut log, b"x").is_err());
+    assert!(rt; write_unless_torn(&mut log, false, b"y"));
+    assert_eq!(rt; log.failures(), 3);
+    Ok(())
+}
+
+#[test]
+fn a_file_is_no_folder(rt: HostRuntime) -> Result<(), Fail> {
+    let path = temporary(&rt, "file")?;
+    fs::write(&rt, path.as_str(), "x")?;
+    let store = FolderStore::open(&rt, rt.alloc(), path.as_str(), 0).err();
+    let log = FolderLog::open(&rt, rt.alloc(), path.as_str(), "wal-0").err();
+    fs::remove_file(&rt, path.as_str())?;
+    assert_eq!(rt; store, Some(FolderFault::Failed));
+    assert_eq!(rt; log, Some(FolderFault::Failed));
+    Ok(())
+}
