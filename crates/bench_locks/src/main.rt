@@ -24,14 +24,14 @@ fn main(rt: HostRuntime) -> Result<()> {
             run(alloc, &mut reader, &mut writer, &mut end, settings)
         }
         "locked" => {
-            let flushing = store.end(&rt, Fuse::None);
+            let ends = vec![in alloc; store.end(&rt, Fuse::None)]?;
             run_shards(
                 &rt,
                 alloc,
                 &mut reader,
                 &mut writer,
                 &mut end,
-                flushing,
+                ends,
                 settings,
             )
         }

@@ -1,5 +1,5 @@
 -- What the bytes of a settings file come to.
-use Rattle.std.proofs.Common.{◌≡◌, ℕ, ◌==◌, Bool, List, None, Some, Ok, Err, ap, sym, subst, ◌∙◌}
+use Rattle.std.proofs.Common.{◌≡◌, ℕ, Bool, List, None, Some, Ok, Err, ap, sym, subst, ◌∙◌}
 use Rattle.std.specs.Prelude.{if◌then◌else◌, Option, Result, IfSome, IfErr, string_bytes}
 use Rattle.std.specs.Result.{IsErrAnd}
 use Rattle.std.specs.Str.{is_utf8, IsUtf8}
@@ -12,7 +12,7 @@ use Rattle.ing_limits.specs.declared.fault.SettingsFault.TheVariants.{NoMemory, 
 use Rattle.ing_session.specs.Manners.{Manner}
 use Rattle.ing_session.specs.declared.ending.Ending.{Ending}
 use Rattle.ing_session.specs.Endings.{ending_of_settings, refusal_of}
-use Rattle.ing_program.specs.Starting.{GiveSettings, NamesFile, manner_in, manner_of, started_by}
+use Rattle.ing_program.specs.Starting.{GiveSettings, NamesFile, is_alone, manner_in, manner_of, started_by}
 
 -- bytes that are no UTF-8 are no TOML
 pub started_unread : (file : List ℕ) → (IsUtf8 file → ⊥) → started_by file ≡ Err not_toml
@@ -41,7 +41,7 @@ refused_text file fault (Err e) text refused passed =
 
 -- ---- the manner of the settings
 
-pub at_manner : (P : Manner → Type 0) (settings : StoreSettings) (b : Bool) → (settings.shards == 1) ≡ b → P (manner_in b settings.shards) → P (manner_of settings)
+pub at_manner : (P : Manner → Type 0) (settings : StoreSettings) (b : Bool) → is_alone settings ≡ b → P (manner_in b settings.shards) → P (manner_of settings)
 at_manner P settings b is p = subst (λ x. P (manner_in x settings.shards)) (sym is) p
 
 -- ---- an end of the store that never failed

@@ -1,6 +1,7 @@
 -- What each command does to shards that lie behind locks. What lies there nobody knows, so this says what is known outside: what a
--- line says, the form of its reply, and how many entries were told accepted, by the number of their shard.
-use Rattle.std.specs.Prelude.{◌≡◌, ◌≢◌, ◌⊎◌, ℕ, ◌+◌, ◌≤◌, false, List, [], ◌∷◌, None, Some, Result, Ok, Err, length, slice_get}
+-- line says, the form of its reply, how many entries were told accepted, by the number of their shard, and how many chunks were told
+-- stored.
+use Rattle.std.specs.Prelude.{◌≡◌, ◌≢◌, ◌⊎◌, ℕ, ◌+◌, ◌≤◌, false, List, [], ◌∷◌, None, Some, Result, Ok, Err, length, slice_get, sum_by}
 use Rattle.std.specs.List.{AllPass}
 use Rattle.std.specs.List.Sorted.{IsSortedBy}
 use Rattle.serde_json.specs.Data.{Data}
@@ -121,12 +122,6 @@ pub record IsSweepReply (reply : Data) : Type 0 where
   pub sealed : ℕ
   pub told : reply ≡ sweep_data queued sealed
 
-pub record IsFlushReply (reply : Data) : Type 0 where
-  pub failed : ℕ
-  pub sealed : ℕ
-  pub stored : ℕ
-  pub told : reply ≡ flush_data failed sealed stored
-
 -- of each shard
 pub record IsGaugesReply (settings : StoreSettings) (reply : Data) : Type 0 where
   pub shards : List Gauges
@@ -141,6 +136,30 @@ IsForm form reply = form reply ⊎ IsRefused reply
 pub record ObeysBy (form : Data → Type 0) (old new : Told) (failed : ℕ) (reply : Data) : Type 0 where
   pub may_be : IsForm form reply
   pub left : Stays old new
+  pub failures : failed ≡ 0
+
+-- ---- a flush
+
+-- What is held: how many entries were told accepted, and how many chunks stored.
+pub record Held : Type 0 where
+  pub told : Told
+  pub chunks : ℕ
+
+abbrev pub nothing_held : Held
+nothing_held = record { told = λ _. 0; chunks = 0 }
+
+-- so many chunks are told stored
+pub record IsFlushReply (stored : ℕ) (reply : Data) : Type 0 where
+  pub failed : ℕ
+  pub sealed : ℕ
+  pub told : reply ≡ flush_data failed sealed stored
+
+-- So many more chunks are told stored; or a lock was not passed, and none is.
+pub record ObeysFlush (old new : Held) (failed : ℕ) (reply : Data) : Type 0 where
+  pub stored : ℕ
+  pub may_be : IsFlushReply stored reply ⊎ (IsRefused reply × (stored ≡ 0))
+  pub chunks : new.chunks ≡ old.chunks + stored
+  pub left : Stays old.told new.told
   pub failures : failed ≡ 0
 
 -- ---- a query
@@ -200,26 +219,37 @@ pub record ObeysQuery (settings : StoreSettings) (query : QueryCommand) (old new
 -- ---- one command
 
 -- From old, a command may be obeyed, with this reply and so many failed queries, and leave new.
-abbrev pub ObeysCommand : StoreSettings → Told → Told → ℕ → Data → Command → Type 0
-ObeysCommand settings old new failed reply (commands.Push push) = ObeysPush settings push old new failed reply
-ObeysCommand settings old new failed reply (commands.Sweep sweep) = ObeysBy IsSweepReply old new failed reply
-ObeysCommand settings old new failed reply (commands.Flush flush) = ObeysBy IsFlushReply old new failed reply
-ObeysCommand settings old new failed reply (commands.Gauges gauges) = ObeysBy (IsGaugesReply settings) old new failed reply
-ObeysCommand settings old new failed reply (commands.Query query) = ObeysQuery settings query old new failed reply
+abbrev pub ObeysCommand : StoreSettings → Held → Held → ℕ → Data → Command → Type 0
+ObeysCommand settings old new failed reply (commands.Push push) =
+    ObeysPush settings push old.told new.told failed reply × (new.chunks ≡ old.chunks)
+ObeysCommand settings old new failed reply (commands.Sweep sweep) =
+    ObeysBy IsSweepReply old.told new.told failed reply × (new.chunks ≡ old.chunks)
+ObeysCommand settings old new failed reply (commands.Flush flush) = ObeysFlush old new failed reply
+ObeysCommand settings old new failed reply (commands.Gauges gauges) =
+    ObeysBy (IsGaugesReply settings) old.told new.told failed reply × (new.chunks ≡ old.chunks)
+ObeysCommand settings old new failed reply (commands.Query query) =
+    ObeysQuery settings query old.told new.told failed reply × (new.chunks ≡ old.chunks)
 
 -- ---- the report
 
--- Of each shard as many entries are reported accepted as were told, and each of them is stored or kept.
-pub record IsReport (shards : ℕ) (known : Told) (reports : List ShardReport) : Type 0 where
+-- how many entries are reported stored
+abbrev pub stored_in : List ShardReport → ℕ
+stored_in reports = sum_by (λ r. r.stored) reports
+
+-- Of each shard as many entries are reported accepted as were told, and each of them is stored or kept. For each chunk that was told
+-- stored an entry at least is reported so, and none where no chunk was.
+pub record IsReport (shards : ℕ) (held : Held) (reports : List ShardReport) : Type 0 where
   pub all : length reports ≡ shards
-  pub accepted : (i : ℕ) (r : ShardReport) → slice_get reports i ≡ Some r → r.accepted ≡ known i
+  pub accepted : (i : ℕ) (r : ShardReport) → slice_get reports i ≡ Some r → r.accepted ≡ held.told i
+  pub chunks : held.chunks ≤ stored_in reports
+  pub none : held.chunks ≡ 0 → stored_in reports ≡ 0
   pub recovered : (i : ℕ) (r : ShardReport) → slice_get reports i ≡ Some r → r.recovered ≡ 0
   pub whole : (i : ℕ) (r : ShardReport) → slice_get reports i ≡ Some r → r.accepted + r.recovered ≡ r.stored + r.kept
 
 -- what is reported
-pub record ReportsAll (shards : ℕ) (known : Told) (report : Data) : Type 0 where
+pub record ReportsAll (shards : ℕ) (held : Held) (report : Data) : Type 0 where
   pub reports : List ShardReport
-  pub are : IsReport shards known reports
+  pub are : IsReport shards held reports
   pub told : report ≡ report_data reports
 
 -- In place of a report a refusal stands where a share of a shard's books is missing, or a shard is misplaced; no diary is kept, so
@@ -230,15 +260,15 @@ pub record RefusesReport (report : Data) : Type 0 where
   pub counted : IsUnsettled why → ⊥
   pub told : report ≡ fault_data (close_refusal_of why) None
 
-abbrev pub Reports : ℕ → Told → Data → Type 0
-Reports shards told report = ReportsAll shards told report ⊎ RefusesReport report
+abbrev pub Reports : ℕ → Held → Data → Type 0
+Reports shards held report = ReportsAll shards held report ⊎ RefusesReport report
 
 -- ---- so many shards behind locks
 
 abbrev pub by_ledger : ℕ → Manner
 by_ledger shards = record {
-  Held = Told;
-  nothing = λ _. 0;
+  Held = Held;
+  nothing = nothing_held;
   obeys = ObeysCommand;
   reports = Reports shards;
 }

@@ -1,2 +1,3 @@
 pub mod ByLedger
+pub mod Counted
 pub mod Starting

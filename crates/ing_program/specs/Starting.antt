@@ -1,5 +1,5 @@
 -- With which settings the program starts (own).
-use Rattle.std.specs.Prelude.{◌≡◌, ℕ, ◌==◌, Bool, true, false, List, [], ◌∷◌, if◌then◌else◌, Result, Ok, Err, ⊤}
+use Rattle.std.specs.Prelude.{◌≡◌, ℕ, ◌==◌, ◌&&◌, Bool, true, false, List, [], ◌∷◌, if◌then◌else◌, Result, Ok, Err, ⊤}
 use Rattle.std.specs.Str.{is_utf8}
 use Rattle.ing_limits.specs.Settings.{StoreSettings, Refusal, not_toml, settings_of}
 use Rattle.ing_session.specs.ByRows.{by_rows}
@@ -10,13 +10,17 @@ use Rattle.ing_program.specs.ByLedger.{by_ledger}
 abbrev pub started_by : List ℕ → Result StoreSettings Refusal
 started_by bytes = if is_utf8 bytes then settings_of bytes else Err not_toml
 
--- One shard is nobody else's, and all that it holds is known; several lie behind locks.
+-- one shard, and one flusher
+abbrev pub is_alone : StoreSettings → Bool
+is_alone settings = settings.shards == 1 && settings.flushers == 1
+
+-- A shard with one flusher is nobody else's, and all that it holds is known; others lie behind locks.
 abbrev pub manner_in : Bool → ℕ → Manner
 manner_in true shards = by_rows ⊤
 manner_in false shards = by_ledger shards
 
 abbrev pub manner_of : StoreSettings → Manner
-manner_of settings = manner_in (settings.shards == 1) settings.shards
+manner_of settings = manner_in (is_alone settings) settings.shards
 
 -- these argument words name a settings file of these bytes: without a word an empty one, with one the file of that path,
 -- whose bytes no contract knows

@@ -1,27 +1,28 @@
 //! From argument words and a settings file to a run.
-ghost use Rattle.std.specs.Prelude.{◌≡◌, ◌≢◌, ◌↔◌, ◌<◌, ◌⊎◌, List, ℕ, IfOk, IfErr, OnOk, OnErr, IsErrOf, IfSome, Ok, Err, None, map, length, ⊤};
+ghost use Rattle.std.specs.Prelude.{◌≡◌, ◌≢◌, ◌↔◌, ◌<◌, ◌⊎◌, List, ℕ, IfOk, IfErr, OnOk, OnErr, IsErrOf, IfSome, Ok, Err, None, map, length, vec_len, true, ⊤};
 ghost use Rattle.std.specs.String.{string_bytes};
 ghost use Rattle.ing_limits.specs.Settings.{StoreSettings};
 ghost use Rattle.ing_session.specs.Endings.{IsNotOpened, ending_status, refusal_of};
 ghost use Rattle.ing_session.specs.Runs.{AnswersAll, AnswersWhatWasRead, AnswersFirstLines, AnswersFront};
-ghost use Rattle.ing_program.specs.Starting.{GiveSettings, NamesFile, manner_of, started_by};
+ghost use Rattle.ing_program.specs.Starting.{GiveSettings, NamesFile, is_alone, manner_of, started_by};
 
 use crate::shards::run_shards;
 use ing_limits::Settings;
 use ing_session::{Ending, run};
-use ing_store::{Fuse, MemoryStore};
-use std::alloc::Global;
+use ing_store::{Fuse, MemoryEnd, MemoryStore};
+use std::alloc::{AllocError, Global};
 use std::fs;
 use std::io::{ErrorKind, Read, Write};
 use std::rt::Files;
 use std::sync::Wait;
+use std::thread::Threads;
 
 /// Reads the argument words, `[SETTINGS]`, and runs: with the settings of the TOML file at that path, or without a word
 /// with all defaults.
 ///
 /// `BadArguments` where there are more words, then `NoSettings` where the file cannot be read; the others as `start_on`
 /// says. `NoMemory` may stand in place of any. (Own.)
-pub fn start<F: Files + AllocGlobal + Wait, R: Read, W: Write>(
+pub fn start<F: Files + AllocGlobal + Threads + Wait + Sync, R: Read, W: Write>(
     rt: &F,
     words: &[String],
     reader: &mut R,
@@ -84,11 +85,11 @@ fn read_file<F: Files + AllocGlobal>(rt: &F, path: &str) -> Result<Vec<u8>, Endi
 }
 
 /// Runs by the settings that the bytes of a settings file give, over a store in memory, which ends with the run: as `run` where
-/// there is one shard, and as `run_shards` where there are more.
+/// there are one shard and one flusher, and as `run_shards` where there are more of either.
 ///
 /// `NotToml` where they are not UTF-8 or no TOML, `UnknownSetting` and `BadSetting` as `Settings::from_toml` says; these in
 /// this order, and nothing is written. The others as `run` and `run_shards` say. `NoMemory` may stand in place of any. (Own.)
-pub fn start_on<T: AllocGlobal + Wait, R: Read, W: Write>(
+pub fn start_on<T: AllocGlobal + Threads + Wait + Sync, R: Read, W: Write>(
     rt: &T,
     file: &[u8],
     reader: &mut R,
@@ -120,11 +121,34 @@ pub fn start_on<T: AllocGlobal + Wait, R: Read, W: Write>(
     let settings = settings_of_file(rt.alloc(), file)?;
     let store = MemoryStore::new(rt.alloc())?;
     let mut end = store.end(rt, Fuse::None);
-    if settings.shards() == 1 {
+    if is_alone(&settings) {
         return run(rt.alloc(), reader, writer, &mut end, settings);
     }
-    let flushing = store.end(rt, Fuse::None);
-    run_shards(rt, rt.alloc(), reader, writer, &mut end, flushing, settings)
+    let ends = ends_of(rt, &store, settings.flushers())?;
+    run_shards(rt, rt.alloc(), reader, writer, &mut end, ends, settings)
+}
+
+/// Whether there are one shard and one flusher.
+fn is_alone(settings: &Settings) -> bool
+    ensures both { result ≡ is_alone settings.now }
+    ensures one { result ≡ true → settings.now.shards ≡ 1 }
+{
+    settings.shards() == 1 && settings.flushers() == 1
+}
+
+/// So many ends of a store in memory.
+fn ends_of<'a, T: AllocGlobal + Wait>(
+    rt: &'a T,
+    store: &'a MemoryStore,
+    count: u32,
+) -> Result<Vec<MemoryEnd<'a, T>>, AllocError>
+    ensures { IfOk result (λ ends. vec_len ends ≡ count) }
+{
+    let mut ends = Vec::with_capacity(rt.alloc(), count as usize)?;
+    for _ in 0..count {
+        ends.push(store.end(rt, Fuse::None))?;
+    }
+    Ok(ends)
 }
 
 /// The settings that the bytes of a file give.

@@ -1,6 +1,7 @@
 pub mod ByRows
 pub mod Causes
 pub mod Endings
+pub mod FlushCalls
 pub mod Flushed
 pub mod Flushing
 pub mod Fronts

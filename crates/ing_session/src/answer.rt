@@ -2,6 +2,7 @@
 ghost use Rattle.std.specs.Prelude.{◌≡◌, ◌++◌, IfOk, IsErr, OnOk, OnErr, false};
 ghost use Rattle.ing_commands.specs.Commands.{command_of};
 ghost use Rattle.ing_session.specs.Causes.{GoesOn};
+ghost use Rattle.ing_session.specs.FlushCalls.{FlushesSo};
 ghost use Rattle.ing_session.specs.Manners.{is_blank, is_long, line_fault};
 ghost use Rattle.ing_session.specs.Replies.{line_text};
 ghost use Rattle.ing_session.specs.Runs.{Answers, IsObeyed};
@@ -9,19 +10,22 @@ ghost use Rattle.ing_session.specs.Views.{reply_data};
 
 use crate::reply::{Reply, add_line};
 use crate::service::Service;
-use ing_commands::{LineFault, command_of, read_value};
+use ing_commands::{Command, Flush, LineFault, command_of, read_value};
 use std::alloc::{AllocError, Global};
 
 /// Answers a line of at most the length that a line may have: puts the reply behind `replies`. It fails only where memory
 /// runs out; then there is no reply, and a part of what the line says may be done.
-pub fn answer<S, C: Service<S>>(
+pub fn answer<S, C: Service<S>, X: Fn(&mut C, &mut S, Flush) -> Result<Reply, AllocError>>(
     alloc: Global,
     service: &mut C,
+    flush: &X,
     end: &mut S,
     line: &[u8],
     replies: &mut Vec<u8>,
 ) -> Result<(), AllocError>
-    requires { is_long line.now ≡ false }
+    requires short { is_long line.now ≡ false }
+    requires may_flush { X.IsAlwaysCallable flush.now }
+    requires flushes { FlushesSo C.manner C.holds C.settings_of C.failures C.never_fails (X.post flush.now) }
     ensures answered { OnOk result ((old : C.manner.Held) → C.holds service.old old →
         Answers C.manner (C.settings_of service.old) line.now old (C.holds service.new)
         (C.failures end.old) (C.failures end.new) replies.old.items replies.new.items) }
@@ -32,7 +36,7 @@ pub fn answer<S, C: Service<S>>(
     if is_blank(line) {
         return Ok(());
     }
-    let reply = reply_to(alloc, service, end, line)?;
+    let reply = reply_to(alloc, service, flush, end, line)?;
     add_line(alloc, replies, &reply)
 }
 
@@ -47,12 +51,15 @@ pub fn refuse_long(alloc: Global, replies: &mut Vec<u8>) -> Result<(), AllocErro
 }
 
 /// The reply to a line, and what it does.
-fn reply_to<S, C: Service<S>>(
+fn reply_to<S, C: Service<S>, X: Fn(&mut C, &mut S, Flush) -> Result<Reply, AllocError>>(
     alloc: Global,
     service: &mut C,
+    flush: &X,
     end: &mut S,
     line: &[u8],
 ) -> Result<Reply, AllocError>
+    requires may_flush { X.IsAlwaysCallable flush.now }
+    requires flushes { FlushesSo C.manner C.holds C.settings_of C.failures C.never_fails (X.post flush.now) }
     ensures obeyed { IfOk result (λ reply. (old : C.manner.Held) → C.holds service.old old →
         IsObeyed C.manner (C.settings_of service.old) (command_of line.now) old (C.holds service.new)
         (C.failures end.old) (C.failures end.new) (reply_data reply)) }
@@ -64,6 +71,7 @@ fn reply_to<S, C: Service<S>>(
         Err(fault) => return fault_reply(fault),
     };
     match command_of(alloc, &value) {
+        Ok(Command::Flush(said)) => flush(service, end, said),
         Ok(command) => service.obey(end, command),
         Err(fault) => fault_reply(fault),
     }

@@ -7,10 +7,11 @@ use std::alloc::AllocError;
 /// What obeys the commands of a run: shards, whoever has them. S is an end of the store, which is passed to each command. A
 /// service cannot be dropped: it makes its report, or it is put away.
 pub trait Service<S> {
-    ghost use Rattle.std.specs.Prelude.{◌≡◌, ℕ, IfOk, Ok};
+    ghost use Rattle.std.specs.Prelude.{◌≡◌, ℕ, IfOk, Ok, false};
     ghost use Rattle.ing_limits.specs.Settings.{StoreSettings};
     ghost use Rattle.ing_commands.specs.Views.{command_view};
     ghost use Rattle.ing_session.specs.Causes.{GoesOn};
+    ghost use Rattle.ing_session.specs.FlushCalls.{is_flush};
     ghost use Rattle.ing_session.specs.Manners.{Manner};
     ghost use Rattle.ing_session.specs.Runs.{IsObeyed};
     ghost use Rattle.ing_session.specs.Views.{reply_data};
@@ -30,9 +31,10 @@ pub trait Service<S> {
     /// An end of the store never fails.
     ghost never_fails: { S → Type 0 };
 
-    /// Does what a command says, and gives the reply. It fails only where memory runs out; then a part of what the command says
-    /// may be done.
+    /// Does what a command says, and gives the reply; a flush is given to the function that stands beside the service. It fails
+    /// only where memory runs out; then a part of what the command says may be done.
     fn obey(&mut self, end: &mut S, command: Command<'_>) -> Result<Reply, AllocError>
+        requires other { is_flush (command_view command) ≡ false }
         ensures obeyed { IfOk result (λ reply. (old : manner.Held) → holds self.old old →
             IsObeyed manner (settings_of self.old) (Ok (command_view command.entry)) old (holds self.new)
             (failures end.old) (failures end.new) (reply_data reply)) }

@@ -5,6 +5,7 @@ ghost use Rattle.ing_limits.specs.Settings.{StoreSettings};
 ghost use Rattle.ing_session.specs.ByRows.{by_rows};
 ghost use Rattle.ing_session.specs.Endings.{is_of_run};
 ghost use Rattle.ing_session.specs.Causes.{GoesOn};
+ghost use Rattle.ing_session.specs.FlushCalls.{FlushesSo};
 ghost use Rattle.ing_session.specs.Fronts.{AppendsFront, Grows};
 ghost use Rattle.ing_session.specs.Lines.{TakesLine};
 ghost use Rattle.ing_session.specs.Parts.{HasNoFeed};
@@ -16,11 +17,12 @@ use crate::ending::Ending;
 use crate::lines::{Lines, MAX_LINE, NextLine, Part, found};
 use crate::one_shard::OneShard;
 use crate::output::put_out;
-use crate::reply::add_line;
+use crate::reply::{Reply, add_line};
 use crate::service::Service;
+use ing_commands::Flush;
 use ing_limits::Settings;
 use ing_store::StoreEnd;
-use std::alloc::Global;
+use std::alloc::{AllocError, Global};
 use std::io::{Read, Write};
 
 /// How many bytes of replies are enough to be written out, though a further line is at hand.
@@ -56,7 +58,8 @@ pub fn run<R: Read, W: Write, S: StoreEnd>(
     ensures ending { IfErr result (λ e. IsTrue (is_of_run e)) }
 {
     let one: OneShard<S::Receipt> = OneShard::new(alloc, settings)?;
-    serve_all(alloc, reader, writer, end, one)
+    let flush = |one: &mut OneShard<S::Receipt>, end: &mut S, said: Flush| one.flush(end, said);
+    serve_all(alloc, reader, writer, end, one, &flush)
 }
 
 /// Reads commands line by line, has each obeyed by the service, answers it in a line, and writes the service's report at the end
@@ -67,13 +70,22 @@ pub fn run<R: Read, W: Write, S: StoreEnd>(
 /// `InputFault` where a read failed or the input took more than 2^40 reads, `NoMemory` where memory ran out: then what was
 /// answered before is written, and no report. `OutputFault` where a write failed: then a front of the answers is written, with
 /// the report behind them where the input was at its end, and nothing else. (Own.)
-pub fn serve_all<R: Read, W: Write, S, C: Service<S>>(
+pub fn serve_all<
+    R: Read,
+    W: Write,
+    S,
+    C: Service<S>,
+    X: Fn(&mut C, &mut S, Flush) -> Result<Reply, AllocError>,
+>(
     alloc: Global,
     reader: &mut R,
     writer: &mut W,
     end: &mut S,
     service: C,
+    flush: &X,
 ) -> Result<(), Ending>
+    requires may_flush { X.IsAlwaysCallable flush.now }
+    requires flushes { FlushesSo C.manner C.holds C.settings_of C.failures C.never_fails (X.post flush.now) }
     requires nothing { C.holds service C.manner.nothing }
     // What is written is, line for line, what the service may answer to the lines read.
     ensures output { OnOk result (IfSome (R.remaining reader.old) (λ input.
@@ -94,7 +106,7 @@ pub fn serve_all<R: Read, W: Write, S, C: Service<S>>(
     ensures ending { IfErr result (λ e. IsTrue (is_of_run e)) }
 {
     let mut replies = Vec::new(alloc);
-    let ended = answer_all(alloc, reader, writer, end, service, &mut replies);
+    let ended = answer_all(alloc, reader, writer, end, service, flush, &mut replies);
     if is_output_fault(&ended) {
         return Err(Ending::OutputFault);
     }
@@ -111,14 +123,23 @@ fn is_output_fault(ended: &Result<(), Ending>) -> bool
 }
 
 /// Answers all lines of the input, and makes the report. What it leaves in `replies` is still to be written.
-fn answer_all<R: Read, W: Write, S, C: Service<S>>(
+fn answer_all<
+    R: Read,
+    W: Write,
+    S,
+    C: Service<S>,
+    X: Fn(&mut C, &mut S, Flush) -> Result<Reply, AllocError>,
+>(
     alloc: Global,
     reader: &mut R,
     writer: &mut W,
     end: &mut S,
     service: C,
+    flush: &X,
     replies: &mut Vec<u8>,
 ) -> Result<(), Ending>
+    requires may_flush { X.IsAlwaysCallable flush.now }
+    requires flushes { FlushesSo C.manner C.holds C.settings_of C.failures C.never_fails (X.post flush.now) }
     requires nothing { C.holds service C.manner.nothing }
     requires none { replies.old.items ≡ [] }
     ensures output { OnOk result (IfSome (R.remaining reader.old) (λ input.
@@ -151,6 +172,7 @@ fn answer_all<R: Read, W: Write, S, C: Service<S>>(
         end,
         &mut lines,
         &mut service,
+        flush,
         replies,
     ) {
         Ok(()) => report(alloc, service, replies),
@@ -174,15 +196,24 @@ fn report<S, C: Service<S>>(alloc: Global, service: C, replies: &mut Vec<u8>) ->
 }
 
 /// Answers line after line, until there is none.
-fn answer_lines<R: Read, W: Write, S, C: Service<S>>(
+fn answer_lines<
+    R: Read,
+    W: Write,
+    S,
+    C: Service<S>,
+    X: Fn(&mut C, &mut S, Flush) -> Result<Reply, AllocError>,
+>(
     alloc: Global,
     reader: &mut R,
     writer: &mut W,
     end: &mut S,
     lines: &mut Lines,
     service: &mut C,
+    flush: &X,
     replies: &mut Vec<u8>,
 ) -> Result<(), Ending>
+    requires may_flush { X.IsAlwaysCallable flush.now }
+    requires flushes { FlushesSo C.manner C.holds C.settings_of C.failures C.never_fails (X.post flush.now) }
     // From whatever lines are answered so far.
     ensures output { OnOk result ((settings : StoreSettings) (input : List ℕ) →
         ServesKnown C.manner settings (C.settings_of service.old) (C.holds service.old) input
@@ -220,7 +251,7 @@ fn answer_lines<R: Read, W: Write, S, C: Service<S>>(
     let mut line = Vec::new(alloc);
     loop {
         if !serve(
-            alloc, reader, writer, end, lines, &mut line, service, replies,
+            alloc, reader, writer, end, lines, &mut line, service, flush, replies,
         )? {
             return Ok(());
         }
@@ -228,7 +259,13 @@ fn answer_lines<R: Read, W: Write, S, C: Service<S>>(
 }
 
 /// Answers the next line. Gives whether there was one.
-fn serve<R: Read, W: Write, S, C: Service<S>>(
+fn serve<
+    R: Read,
+    W: Write,
+    S,
+    C: Service<S>,
+    X: Fn(&mut C, &mut S, Flush) -> Result<Reply, AllocError>,
+>(
     alloc: Global,
     reader: &mut R,
     writer: &mut W,
@@ -236,8 +273,11 @@ fn serve<R: Read, W: Write, S, C: Service<S>>(
     lines: &mut Lines,
     line: &mut Vec<u8>,
     service: &mut C,
+    flush: &X,
     replies: &mut Vec<u8>,
 ) -> Result<bool, Ending>
+    requires may_flush { X.IsAlwaysCallable flush.now }
+    requires flushes { FlushesSo C.manner C.holds C.settings_of C.failures C.never_fails (X.post flush.now) }
     ensures served { IfOk result (λ more.
         (first : Option (List ℕ)) (before : ℕ) (settings : StoreSettings) (input : List ℕ) →
         ServesKnown C.manner settings (C.settings_of service.old) (C.holds service.old) input before (C.failures end.old) first
@@ -278,7 +318,7 @@ fn serve<R: Read, W: Write, S, C: Service<S>>(
 {
     match next_line(reader, writer, lines, line, replies)? {
         NextLine::Line => {
-            answer(alloc, service, end, line, replies)?;
+            answer(alloc, service, flush, end, line, replies)?;
             Ok(true)
         }
         NextLine::TooLong => {

@@ -4,6 +4,7 @@ use ing_program::start_on;
 use ing_session::conclude;
 use std::rt::Files;
 use std::sync::Wait;
+use std::thread::Threads;
 use std::{fs, io};
 
 /// What goes in, and what has to come out.
@@ -28,7 +29,10 @@ impl Case {
     }
 
     /// What differs from what has to come out, if anything does.
-    pub fn difference<F: AllocGlobal + Wait>(&self, rt: &F) -> Result<Option<&'static str>> {
+    pub fn difference<F: AllocGlobal + Threads + Wait + Sync>(
+        &self,
+        rt: &F,
+    ) -> Result<Option<&'static str>> {
         let mut reader = self.input.as_slice();
         let mut output = Vec::new(rt.alloc());
         let ended = start_on(rt, &self.settings, &mut reader, &mut output);

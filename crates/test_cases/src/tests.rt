@@ -3,7 +3,7 @@
 mod flushes;
 
 use ing_limits::Settings;
-use ing_program::start;
+use ing_program::{run_shards, start};
 use ing_session::{Ending, conclude, run};
 use ing_store::{Fuse, MemoryStore};
 use std::cell::Cell;
@@ -11,6 +11,7 @@ use std::io::{Error, ErrorKind, Read, Write};
 use std::rt::Files;
 use std::sync::Wait;
 use std::test::Fail;
+use std::thread::Threads;
 use std::{env, fs, io, process};
 
 /// One entry `hello` for each of two tenants.
@@ -57,8 +58,23 @@ fn run_over<H: AllocGlobal + Wait, R: Read, W: Write>(
     Ok(run(rt.alloc(), reader, writer, &mut end, settings))
 }
 
+/// The same of a shard behind a lock: what is flushed is put by the end of which these calls fail, and a query reads by another.
+fn run_locked_over<H: AllocGlobal + Threads + Wait + Sync, R: Read, W: Write>(
+    rt: &H,
+    fuse: Fuse,
+    reader: &mut R,
+    writer: &mut W,
+) -> Result<Result<(), Ending>, Fail> {
+    let alloc = rt.alloc();
+    let settings = Settings::from_toml(alloc, "")?;
+    let store = MemoryStore::new(alloc)?;
+    let mut end = store.end(rt, Fuse::None);
+    let ends = vec![in alloc; store.end(rt, fuse)]?;
+    Ok(run_shards(rt, alloc, reader, writer, &mut end, ends, settings))
+}
+
 /// How the program ends with these words on `PUSHES`, and what it has written by then.
-fn started<F: Files + AllocGlobal + Wait>(
+fn started<F: Files + AllocGlobal + Threads + Wait + Sync>(
     rt: &F,
     words: &[&str],
 ) -> Result<(Result<(), Ending>, String), Fail> {

@@ -1,104 +1,117 @@
 //! Sweeps and flushes through the locks.
-ghost use Rattle.std.specs.Prelude.{◌≡◌, ◌<◌, All, IfOk};
-ghost use Rattle.ing_program.specs.ByLedger.{IsFlushReply, IsForm, IsSweepReply};
+ghost use Rattle.std.specs.Prelude.{◌≡◌, ℕ, IfOk, Ok};
+ghost use Rattle.ing_commands.specs.Commands as commands;
+ghost use Rattle.ing_commands.specs.Views.{flush_view};
+ghost use Rattle.ing_program.specs.ByLedger.{Held, IsForm, IsSweepReply, by_ledger};
+ghost use Rattle.ing_program.specs.Counted.{IsHeld, RisesBy, counted_by};
+ghost use Rattle.ing_session.specs.Runs.{IsObeyed};
 ghost use Rattle.ing_session.specs.Views.{reply_data};
 
 use super::Locked;
 use super::faults::node_fault;
 use ing_commands::Flush;
-use ing_flush::{Flushed, flush_one};
-use ing_node::{NodeFault, NodeName};
+use ing_flush::Round;
+use ing_node::{NodeFault, NodeName, Swept};
 use ing_rows::Stamp;
 use ing_session::Reply;
+use ing_shard::Op;
 use ing_store::{Receipt, StoreEnd};
 use std::alloc::AllocError;
-use std::mem;
 use std::sync::Wait;
-
-/// How many uploads failed, and how many chunks were stored.
-#[derive(Clone, Copy, Debug, Default)]
-struct Uploads {
-    failed: u64,
-    stored: u64,
-}
+use std::thread::Threads;
 
 impl<'r, N: NodeName, R: Receipt, F: StoreEnd<Receipt = R> + Drop, W: Wait> Locked<'r, N, R, F, W> {
-    /// Seals what is due in each shard, queues an operation for each sealed chunk that waits, and gives the reply. It fails only
-    /// where memory runs out; then what is due may be sealed in some shards.
+    /// Seals what is due in each shard, queues an operation for each sealed chunk that waits, and gives the reply. What finds the
+    /// queue full waits for the next sweep. It fails only where memory runs out; then what is due may be sealed in some shards.
     pub(super) fn sweep(&mut self, now: Stamp) -> Result<Reply, AllocError>
         ensures reply { IfOk result (λ reply. IsForm IsSweepReply (reply_data reply)) }
         ensures pusher { self.new.pusher ≡ self.old.pusher }
+        ensures workers { self.new.workers ≡ self.old.workers }
     {
-        let mut sealed: u64 = 0;
-        let mut queued: u64 = 0;
-        for shard in 0..self.settings.shards() {
-            match self.ingester.sweep(self.rt, self.alloc, shard, now) {
-                Ok(due) => {
-                    self.ops.extend_from_slice(&due.ops)?;
-                    sealed = sealed.saturating_add(due.sealed);
-                    queued = queued.saturating_add(due.ops.len() as u64);
-                }
-                Err(fault) => return node_fault(fault),
-            }
+        let (flushing, sweeper) = (&self.flushing, &mut self.sweeper);
+        match flushing.sweep_round(self.rt, self.alloc, &self.ingester, sweeper, now) {
+            Ok(swept) => Ok(Reply::Sweep {
+                queued: swept.queued,
+                sealed: swept.sealed,
+            }),
+            Err(fault) => node_fault(fault),
         }
-        Ok(Reply::Sweep { queued, sealed })
     }
+}
 
+impl<
+    'r,
+    N: NodeName + Send + Sync,
+    R: Receipt + Send + Sync,
+    F: StoreEnd<Receipt = R> + Drop + Send,
+    W: Threads + Wait + Sync,
+> Locked<'r, N, R, F, W> {
     /// Seals each growing chunk where that is forced, works off what is queued, and gives the reply. It fails only where memory
     /// runs out; then a part of it may be done.
-    pub(super) fn flush(&mut self, flush: Flush) -> Result<Reply, AllocError>
-        ensures reply { IfOk result (λ reply. IsForm IsFlushReply (reply_data reply)) }
-        ensures pusher { self.new.pusher ≡ self.old.pusher }
+    pub fn flush(&mut self, said: Flush) -> Result<Reply, AllocError>
+        ensures obeyed { (count : ℕ) → IfOk result (λ reply. (held : Held) →
+            IsHeld self.old.pusher (counted_by self.old.workers.items) held →
+            IsObeyed (by_ledger N.settings.shards) N.settings (Ok (commands.Flush (flush_view said))) held
+            (IsHeld self.new.pusher (counted_by self.new.workers.items)) count count (reply_data reply)) }
     {
-        let sealed = if flush.forced {
-            match self.seal_all()? {
-                Ok(sealed) => sealed,
-                Err(fault) => return node_fault(fault),
+        match self.seal(said.forced) {
+            Ok(swept) => {
+                let round = self.flush_all(swept.left);
+                Ok(Reply::Flush {
+                    failed: round.failed,
+                    sealed: swept.sealed,
+                    stored: round.stored,
+                })
             }
-        } else {
-            0
-        };
-        let uploads = self.work_off();
-        Ok(Reply::Flush {
-            failed: uploads.failed,
-            sealed,
-            stored: uploads.stored,
-        })
+            Err(fault) => node_fault(fault),
+        }
     }
 
-    /// Seals each growing chunk of each shard, queues an operation for each sealed chunk that waits, and gives how many were
-    /// sealed.
-    fn seal_all(&mut self) -> Result<Result<u64, NodeFault>, AllocError>
+    /// Seals each growing chunk where that is forced, and queues an operation for each sealed chunk that waits.
+    fn seal(&mut self, forced: bool) -> Result<Swept, NodeFault>
         ensures pusher { self.new.pusher ≡ self.old.pusher }
+        ensures workers { self.new.workers ≡ self.old.workers }
     {
-        let mut sealed: u64 = 0;
-        for shard in 0..self.settings.shards() {
-            match self.ingester.seal_all(self.rt, self.alloc, shard) {
-                Ok(due) => {
-                    self.ops.extend_from_slice(&due.ops)?;
-                    sealed = sealed.saturating_add(due.sealed);
-                }
-                Err(fault) => return Ok(Err(fault)),
-            }
+        if !forced {
+            return Ok(Swept {
+                sealed: 0,
+                queued: 0,
+                left: Vec::new(self.alloc),
+            });
         }
-        Ok(Ok(sealed))
+        let (flushing, sweeper) = (&self.flushing, &mut self.sweeper);
+        flushing.seal_round(self.rt, self.alloc, &self.ingester, sweeper)
     }
 
-    /// Works off what is queued, the oldest first, until nothing is left.
-    fn work_off(&mut self) -> Uploads
+    /// Works the queue off, and puts what there was no room for into it, until nothing is left.
+    fn flush_all(&mut self, left: Vec<Op>) -> Round
+        ensures rises { RisesBy result.stored (counted_by self.old.workers.items)
+            (counted_by self.new.workers.items) }
         ensures pusher { self.new.pusher ≡ self.old.pusher }
     {
-        let mut all = Uploads::default();
-        let ops = mem::replace(&mut self.ops, Vec::new(self.alloc));
-        for op in &ops {
-            match flush_one(self.rt, self.alloc, &self.ingester, &mut self.flusher, op) {
-                Flushed::Stored(_) => all.stored = all.stored.saturating_add(1),
-                Flushed::Nothing => {}
-                Flushed::GaveBack(_) | Flushed::Strange(_) => {
-                    all.failed = all.failed.saturating_add(1);
-                }
+        let mut round = self.flush_queue();
+        let mut left = left;
+        for _ in self.rt.forever() {
+            if left.is_empty() {
+                break;
             }
+            left = self
+                .flushing
+                .queue_left(self.rt, &mut self.sweeper, left)
+                .left;
+            round = round.plus(self.flush_queue());
         }
-        all
+        round
+    }
+
+    /// Works the queue off, each flusher in a thread of its own, and says what that came to.
+    fn flush_queue(&mut self) -> Round
+        ensures rises { RisesBy result.stored (counted_by self.old.workers.items)
+            (counted_by self.new.workers.items) }
+        ensures pusher { self.new.pusher ≡ self.old.pusher }
+    {
+        let workers = self.workers.as_mut_slice();
+        self.flushing
+            .flush_round(self.rt, self.alloc, &self.ingester, workers)
     }
 }

@@ -33,7 +33,7 @@ pub struct Uploads {
 impl<R: Receipt> OneShard<R> {
     /// Seals each growing chunk where that is forced, works off what is queued, and gives the reply. It fails only where
     /// memory runs out; then a part of it may be done.
-    pub(super) fn flush<S: StoreEnd<Receipt = R>>(
+    pub fn flush<S: StoreEnd<Receipt = R>>(
         &mut self,
         end: &mut S,
         flush: Flush,

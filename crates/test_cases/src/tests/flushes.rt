@@ -1,10 +1,15 @@
 //! Flushes over ends that fail: what a failed upload leaves in memory, and what a later one stores.
-use super::{FLUSH, SWEEP, run_over};
+use super::{FLUSH, SWEEP, run_locked_over, run_over};
 use ing_store::Fuse;
 use std::alloc::{AllocError, Global};
 use std::process::Abort;
 use std::sync::Wait;
 use std::test::Fail;
+use std::thread::Threads;
+
+/// A query for all entries, the first first.
+const QUERY: &str =
+    "{\"cmd\":\"query\",\"tenant\":\"acme\",\"query\":\"{job=\\\"x\\\"}\",\"direction\":\"forward\"}\n";
 
 /// A flush of what sweeps have queued.
 const UNFORCED: &str = "{\"cmd\":\"flush\",\"forced\":false}\n";
@@ -14,6 +19,13 @@ type Counts = (u64, u64, u64);
 
 /// How many entries are kept in memory, and how many are stored.
 type Entries = (u64, u64);
+
+/// What the shard of a run lies behind.
+#[derive(Clone, Copy, Debug, PartialEq, Eq)]
+enum Shard {
+    Alone,
+    Locked,
+}
 
 /// What a session reads, and what it has to write.
 #[derive(Drop)]
@@ -32,13 +44,13 @@ impl Talk {
         }
     }
 
-    /// An entry `hello` of tenant `acme` with this label `app`, which is new.
+    /// An entry `hello` of tenant `acme` with the label `job`, and this label `app`, which is new.
     fn push(&mut self, alloc: Global, app: &str) -> Result<(), AllocError> {
         let push = format!(in alloc;
-            "{{\"cmd\":\"push\",\"tenant\":\"acme\",\"now\":\"1000\",\"streams\":[{{\"stream\":{{\"app\":\"{app}\"}},\"values\":[[\"1000\",\"hello\"]]}}]}}\n"
+            "{{\"cmd\":\"push\",\"tenant\":\"acme\",\"now\":\"1000\",\"streams\":[{{\"stream\":{{\"app\":\"{app}\",\"job\":\"x\"}},\"values\":[[\"1000\",\"hello\"]]}}]}}\n"
         )?;
         let reply = format!(in alloc;
-            "{{\"push\":[{{\"durable\":false,\"stream\":\"{{app=\\\"{app}\\\"}}\",\"verdicts\":[{{\"accepted\":0}}]}}]}}\n"
+            "{{\"push\":[{{\"durable\":false,\"stream\":\"{{app=\\\"{app}\\\", job=\\\"x\\\"}}\",\"verdicts\":[{{\"accepted\":0}}]}}]}}\n"
         )?;
         self.input.push_str(push.as_str())?;
         self.output.push_str(reply.as_str())?;
@@ -78,10 +90,28 @@ impl Talk {
         Ok(())
     }
 
+    /// A query finds the entry of each of these, which are in byte order.
+    fn query(&mut self, alloc: Global, apps: &[&str]) -> Result<(), AllocError> {
+        self.input.push_str(QUERY)?;
+        self.output.push_str("{\"query\":{\"entries\":[")?;
+        let mut comma = "";
+        for app in apps {
+            let entry = format!(in alloc;
+                "{comma}{{\"line\":\"hello\",\"stamp\":\"1000\",\"stream\":\"{{app=\\\"{app}\\\", job=\\\"x\\\"}}\"}}"
+            )?;
+            self.output.push_str(entry.as_str())?;
+            comma = ",";
+        }
+        let front = format!(in alloc; "],\"fronts\":[{}]}}}}\n", apps.len())?;
+        self.output.push_str(front.as_str())?;
+        Ok(())
+    }
+
     /// It goes so over an end of which these calls fail, and such entries are reported.
-    fn holds_over<R: AllocGlobal + Wait + Abort>(
+    fn holds_over<R: AllocGlobal + Threads + Wait + Sync + Abort>(
         &mut self,
         rt: &R,
+        shard: Shard,
         fuse: Fuse,
         entries: Entries,
     ) -> Result<(), Fail> {
@@ -93,7 +123,10 @@ impl Talk {
         self.output.push_str(report.as_str())?;
         let mut reader = self.input.as_bytes();
         let mut writer = Vec::new(rt.alloc());
-        let ended = run_over(rt, fuse, &mut reader, &mut writer)?;
+        let ended = match shard {
+            Shard::Alone => run_over(rt, fuse, &mut reader, &mut writer)?,
+            Shard::Locked => run_locked_over(rt, fuse, &mut reader, &mut writer)?,
+        };
         assert_eq!(rt; ended, Ok(()), "over {fuse:?}");
         let written = String::from_utf8(writer).ok().ok_or("the output is text")?;
         assert_eq!(rt; written.as_str(), self.output.as_str(), "over {fuse:?}");
@@ -101,9 +134,11 @@ impl Talk {
     }
 }
 
-/// Each of these streams gets an entry, and two flushes then count so; the gauges follow each.
-fn flushes_twice<R: AllocGlobal + Wait + Abort>(
+/// Each of these streams gets an entry, and two flushes then count so; the gauges follow each. Behind a lock, where a query reads by
+/// another end, each entry is found after each.
+fn flushes_twice<R: AllocGlobal + Threads + Wait + Sync + Abort>(
     rt: &R,
+    shard: Shard,
     fuse: Fuse,
     apps: &[&str],
     flushes: [Counts; 2],
@@ -119,8 +154,11 @@ fn flushes_twice<R: AllocGlobal + Wait + Abort>(
         stored = stored.saturating_add(counts.2);
         let kept = talk.accepted.saturating_sub(stored);
         talk.gauges(rt.alloc(), (kept, stored))?;
+        if shard == Shard::Locked {
+            talk.query(rt.alloc(), apps)?;
+        }
     }
-    talk.holds_over(rt, fuse, entries)
+    talk.holds_over(rt, shard, fuse, entries)
 }
 
 #[test]
@@ -135,19 +173,28 @@ fn what_failed_is_stored_by_the_next_flush(rt: HostRuntime) -> Result<(), Fail> 
         // No upload makes a third call.
         (Fuse::Failed(2), [(0, 1, 1), (0, 0, 0)]),
     ] {
-        flushes_twice(&rt, fuse, &["web"], flushes, (0, 1))?;
+        flushes_twice(&rt, Shard::Alone, fuse, &["web"], flushes, (0, 1))?;
     }
     Ok(())
 }
 
+/// Of three streams each call of the first flush fails in turn, of which an upload makes two; and then all.
 #[test]
 fn a_failed_upload_holds_up_no_other(rt: HostRuntime) -> Result<(), Fail> {
-    for (fuse, flushes, entries) in [
-        (Fuse::FailedFrom(0), [(3, 3, 0), (3, 0, 0)], (3, 0)),
-        // An upload makes two calls: that of the second stream fails.
-        (Fuse::Failed(2), [(1, 3, 2), (0, 0, 1)], (0, 3)),
-    ] {
-        flushes_twice(&rt, fuse, &["web", "db", "mail"], flushes, entries)?;
+    let apps = ["db", "mail", "web"];
+    for shard in [Shard::Alone, Shard::Locked] {
+        for call in 0..7u64 {
+            let flushes = if call < 6 {
+                [(1, 3, 2), (0, 0, 1)]
+            } else {
+                [(0, 3, 3), (0, 0, 0)]
+            };
+            for fuse in [Fuse::Failed(call), Fuse::StoredYetFailed(call)] {
+                flushes_twice(&rt, shard, fuse, &apps, flushes, (0, 3))?;
+            }
+        }
+        let failed = [(3, 3, 0), (3, 0, 0)];
+        flushes_twice(&rt, shard, Fuse::FailedFrom(0), &apps, failed, (3, 0))?;
     }
     Ok(())
 }
@@ -168,7 +215,7 @@ fn unforced_flush_works_off_what_sweeps_queued(rt: HostRuntime) -> Result<(), Fa
         talk.flush(rt.alloc(), UNFORCED, counts)?;
         // Nothing is queued any more, though a chunk may wait.
         talk.flush(rt.alloc(), UNFORCED, (0, 0, 0))?;
-        talk.holds_over(&rt, fuse, entries)?;
+        talk.holds_over(&rt, Shard::Alone, fuse, entries)?;
     }
     Ok(())
 }

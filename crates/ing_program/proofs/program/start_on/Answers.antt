@@ -1,17 +1,16 @@
-use Rattle.std.proofs.Common.{◌≡◌, ◌==◌, ◌∙◌, true, false, ap, arith, inl, inr, Ok}
-use Rattle.std.proofs.lemmas.Bool.Decides.{nat_tests}
+use Rattle.std.proofs.Common.{◌≡◌, ◌∙◌, true, false, ap, sym, inl, inr, Ok}
 use Rattle.std.proofs.lemmas.Result.{on_ok_weaker}
 use Rattle.ing_limits.specs.Settings.{StoreSettings}
 use Rattle.ing_session.specs.Runs.{AnswersAll, AnswersWhatWasRead, AnswersFirstLines, AnswersFront}
 use Rattle.ing_session.proofs.KnownLaws.{if_some_then}
-use Rattle.ing_program.specs.Starting.{manner_in, manner_of, started_by}
+use Rattle.ing_program.specs.Starting.{is_alone, manner_in, manner_of, started_by}
 use Rattle.ing_program.proofs.StartingLaws.{at_manner, at_zero}
 use Rattle.ing_program.proofs.program.start_on.Goals as goal
 
--- one shard. The end of the store never fails: it has counted no failure before and none after
+-- alone. The end of the store never fails: it has counted no failure before and none after
 
-pub returns-then-shards-eq1-clause-output : goal.returns-then-shards-eq1-clause-output
-returns-then-shards-eq1-clause-output g c =
+pub returns-then-is_alone-clause-output : goal.returns-then-is_alone-clause-output
+returns-then-is_alone-clause-output g c =
     let settings = c.in_ok-settings.settings in
     let old = g.W.Write.contents c.args.writer.now in
     let new = g.W.Write.contents c.run.new.writer in
@@ -19,7 +18,7 @@ returns-then-shards-eq1-clause-output g c =
     let last = c.run.new.end.failures in
     let fresh : first ≡ 0 = ap (λ end. end.failures) c.end-end.ensures in
     let sure = c.run.ensures.end.1 (ap (λ end. end.fuse) c.end-end.ensures) in
-    let is : (settings.shards == 1) ≡ true = grind (arith, nat_tests, c.if-shards-eq1.true, c.shards.ensures.value) in
+    let is : is_alone settings ≡ true = sym c.is_alone.ensures.both ∙ c.if-is_alone.true in
     on_ok_weaker c.run.result
     (λ output. if_some_then
     (λ input. AnswersAll (manner_in true settings.shards) settings input first last old new)
@@ -34,8 +33,8 @@ returns-then-shards-eq1-clause-output g c =
     output)
     c.run.ensures.output
 
-pub returns-then-shards-eq1-clause-input_fault : goal.returns-then-shards-eq1-clause-input_fault
-returns-then-shards-eq1-clause-input_fault g c = λ faulty.
+pub returns-then-is_alone-clause-input_fault : goal.returns-then-is_alone-clause-input_fault
+returns-then-is_alone-clause-input_fault g c = λ faulty.
     let settings = c.in_ok-settings.settings in
     let old = g.W.Write.contents c.args.writer.now in
     let new = g.W.Write.contents c.run.new.writer in
@@ -43,7 +42,7 @@ returns-then-shards-eq1-clause-input_fault g c = λ faulty.
     let last = c.run.new.end.failures in
     let fresh : first ≡ 0 = ap (λ end. end.failures) c.end-end.ensures in
     let sure = c.run.ensures.end.1 (ap (λ end. end.fuse) c.end-end.ensures) in
-    let is : (settings.shards == 1) ≡ true = grind (arith, nat_tests, c.if-shards-eq1.true, c.shards.ensures.value) in
+    let is : is_alone settings ≡ true = sym c.is_alone.ensures.both ∙ c.if-is_alone.true in
     if_some_then
     (λ input. AnswersWhatWasRead (manner_in true settings.shards) settings input (g.R.Read.remaining c.run.new.reader) first last old new)
     (λ input. (x : StoreSettings) × (started_by c.args.file.now ≡ Ok x) × AnswersWhatWasRead (manner_of x) x input (g.R.Read.remaining c.run.new.reader) 0 0 old new)
@@ -56,8 +55,8 @@ returns-then-shards-eq1-clause-input_fault g c = λ faulty.
     ))
     (c.run.ensures.input_fault faulty)
 
-pub returns-then-shards-eq1-clause-no_memory : goal.returns-then-shards-eq1-clause-no_memory
-returns-then-shards-eq1-clause-no_memory g c = λ faulty.
+pub returns-then-is_alone-clause-no_memory : goal.returns-then-is_alone-clause-no_memory
+returns-then-is_alone-clause-no_memory g c = λ faulty.
     let settings = c.in_ok-settings.settings in
     let old = g.W.Write.contents c.args.writer.now in
     let new = g.W.Write.contents c.run.new.writer in
@@ -65,7 +64,7 @@ returns-then-shards-eq1-clause-no_memory g c = λ faulty.
     let last = c.run.new.end.failures in
     let fresh : first ≡ 0 = ap (λ end. end.failures) c.end-end.ensures in
     let sure = c.run.ensures.end.1 (ap (λ end. end.fuse) c.end-end.ensures) in
-    let is : (settings.shards == 1) ≡ true = grind (arith, nat_tests, c.if-shards-eq1.true, c.shards.ensures.value) in
+    let is : is_alone settings ≡ true = sym c.is_alone.ensures.both ∙ c.if-is_alone.true in
     inr (if_some_then
     (λ input. AnswersFirstLines (manner_in true settings.shards) settings input first last old new)
     (λ input. (x : StoreSettings) × (started_by c.args.file.now ≡ Ok x) × AnswersFirstLines (manner_of x) x input 0 0 old new)
@@ -78,8 +77,8 @@ returns-then-shards-eq1-clause-no_memory g c = λ faulty.
     ))
     (c.run.ensures.no_memory faulty))
 
-pub returns-then-shards-eq1-clause-output_fault : goal.returns-then-shards-eq1-clause-output_fault
-returns-then-shards-eq1-clause-output_fault g c = λ faulty.
+pub returns-then-is_alone-clause-output_fault : goal.returns-then-is_alone-clause-output_fault
+returns-then-is_alone-clause-output_fault g c = λ faulty.
     let settings = c.in_ok-settings.settings in
     let old = g.W.Write.contents c.args.writer.now in
     let new = g.W.Write.contents c.run.new.writer in
@@ -87,7 +86,7 @@ returns-then-shards-eq1-clause-output_fault g c = λ faulty.
     let last = c.run.new.end.failures in
     let fresh : first ≡ 0 = ap (λ end. end.failures) c.end-end.ensures in
     let sure = c.run.ensures.end.1 (ap (λ end. end.fuse) c.end-end.ensures) in
-    let is : (settings.shards == 1) ≡ true = grind (arith, nat_tests, c.if-shards-eq1.true, c.shards.ensures.value) in
+    let is : is_alone settings ≡ true = sym c.is_alone.ensures.both ∙ c.if-is_alone.true in
     if_some_then
     (λ input. AnswersFront (manner_in true settings.shards) settings input first last old new)
     (λ input. (x : StoreSettings) × (started_by c.args.file.now ≡ Ok x) × AnswersFront (manner_of x) x input 0 0 old new)
@@ -100,7 +99,7 @@ returns-then-shards-eq1-clause-output_fault g c = λ faulty.
     ))
     (c.run.ensures.output_fault faulty)
 
--- several
+-- behind locks
 
 pub returns-clause-output : goal.returns-clause-output
 returns-clause-output g c =
@@ -111,7 +110,7 @@ returns-clause-output g c =
     let last = c.run_shards.new.end.failures in
     let fresh : first ≡ 0 = ap (λ end. end.failures) c.end-end.ensures in
     let sure = c.run_shards.ensures.end.1 (ap (λ end. end.fuse) c.end-end.ensures) in
-    let is : (settings.shards == 1) ≡ false = grind (arith, nat_tests, c.if-shards-eq1.false, c.shards.ensures.value) in
+    let is : is_alone settings ≡ false = sym c.is_alone.ensures.both ∙ c.if-is_alone.false in
     on_ok_weaker c.run_shards.result
     (λ output. if_some_then
     (λ input. AnswersAll (manner_in false settings.shards) settings input first last old new)
@@ -135,7 +134,7 @@ returns-clause-input_fault g c = λ faulty.
     let last = c.run_shards.new.end.failures in
     let fresh : first ≡ 0 = ap (λ end. end.failures) c.end-end.ensures in
     let sure = c.run_shards.ensures.end.1 (ap (λ end. end.fuse) c.end-end.ensures) in
-    let is : (settings.shards == 1) ≡ false = grind (arith, nat_tests, c.if-shards-eq1.false, c.shards.ensures.value) in
+    let is : is_alone settings ≡ false = sym c.is_alone.ensures.both ∙ c.if-is_alone.false in
     if_some_then
     (λ input. AnswersWhatWasRead (manner_in false settings.shards) settings input (g.R.Read.remaining c.run_shards.new.reader) first last old new)
     (λ input. (x : StoreSettings) × (started_by c.args.file.now ≡ Ok x) × AnswersWhatWasRead (manner_of x) x input (g.R.Read.remaining c.run_shards.new.reader) 0 0 old new)
@@ -157,7 +156,7 @@ returns-clause-no_memory g c = λ faulty.
     let last = c.run_shards.new.end.failures in
     let fresh : first ≡ 0 = ap (λ end. end.failures) c.end-end.ensures in
     let sure = c.run_shards.ensures.end.1 (ap (λ end. end.fuse) c.end-end.ensures) in
-    let is : (settings.shards == 1) ≡ false = grind (arith, nat_tests, c.if-shards-eq1.false, c.shards.ensures.value) in
+    let is : is_alone settings ≡ false = sym c.is_alone.ensures.both ∙ c.if-is_alone.false in
     elim (c.run_shards.ensures.no_memory faulty) [
       | inl same ↦ inl same
       | inr known ↦ inr (if_some_then
@@ -182,7 +181,7 @@ returns-clause-output_fault g c = λ faulty.
     let last = c.run_shards.new.end.failures in
     let fresh : first ≡ 0 = ap (λ end. end.failures) c.end-end.ensures in
     let sure = c.run_shards.ensures.end.1 (ap (λ end. end.fuse) c.end-end.ensures) in
-    let is : (settings.shards == 1) ≡ false = grind (arith, nat_tests, c.if-shards-eq1.false, c.shards.ensures.value) in
+    let is : is_alone settings ≡ false = sym c.is_alone.ensures.both ∙ c.if-is_alone.false in
     if_some_then
     (λ input. AnswersFront (manner_in false settings.shards) settings input first last old new)
     (λ input. (x : StoreSettings) × (started_by c.args.file.now ≡ Ok x) × AnswersFront (manner_of x) x input 0 0 old new)

@@ -6,7 +6,7 @@ use Rattle.ing_program.specs.ByLedger.{by_ledger}
 use Rattle.ing_program.proofs.shards.run_shards.Goals as goal
 
 pub run_locked-requires-clause-named : goal.run_locked-requires-clause-named
-run_locked-requires-clause-named g c = λ i s at. sym (ap names_in at)
+run_locked-requires-clause-named g c = λ κs lives i s at. sym (ap names_in at)
 
 pub returns-clause-output : goal.returns-clause-output
 returns-clause-output g c =

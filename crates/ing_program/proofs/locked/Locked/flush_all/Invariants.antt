@@ -1,0 +1,9 @@
+use Rattle.std.proofs.Common.{◌≡◌}
+use Rattle.ing_program.specs.Counted.{RisesBy, counted_by}
+use Rattle.ing_program.proofs.locked.Locked.flush_all.Given as goal
+
+abbrev pub invariant-loop : goal.invariant-loop
+invariant-loop g l = record {
+  rises : RisesBy l.round.stored (counted_by l.fn.self.workers.items) (counted_by l.self.workers.items);
+  pusher : l.self.pusher ≡ l.fn.self.pusher;
+}
