@@ -63,6 +63,7 @@ bench: $(postings_figures) $(codec_figures) $(locks_figures) $(nodes_by_lot) $(p
 	@$(codec_figures) times 120 4096
 	@$(nodes_by_lot) times 1000000
 	@bench/locks.sh $(locks_figures)
+	@bench/flushers.sh $(program)
 	@bench/pushes.sh $(program)
 
 $(postings_figures): $(sources)
