@@ -40,4 +40,5 @@ for flushers in 1 2 4; do
     echo "$kept $flushed" >>"$folder/times"
   done
   awk -v flushers="$flushers" '{ if (NR == 1 || $1 < a) a = $1; if (NR == 1 || $2 < b) b = $2 } END { print flushers, b - a }' "$folder/times"
-done | awk '{ if (NR == 1) first = $2; printf "%d flushers: %d ms, %.2f times as fast as one\n", $1, $2, first / $2 }'
+done >"$folder/figures"
+awk '{ if (NR == 1) first = $2; printf "%d flushers: %d ms, %.2f times as fast as one\n", $1, $2, first / $2 }' "$folder/figures"
