@@ -1,5 +1,5 @@
 //! Worked books, and shares that cross a lock and two threads.
-use crate::{Book, CounterFull, StillOut, Whole, strand_each};
+use crate::{Book, CounterFull, Counts, CountsWriter, StillOut, Whole, strand_each};
 use std::test::Fail;
 
 mod counter;
@@ -131,4 +131,38 @@ fn a_number_is_full_at_the_limit(rt: HostRuntime) -> Result<(), Fail> {
 fn the_fault_has_a_number_and_a_name(rt: HostRuntime) {
     assert_eq!(rt; CounterFull.refusal().number(), 19);
     assert_eq!(rt; CounterFull.refusal().name(), "CounterFull");
+}
+
+// Two readers see what was counted by then, and a later one begins where the counts stand.
+#[test]
+fn counts_are_read(rt: HostRuntime) -> Result<(), Fail> {
+    let mut writer = CountsWriter::open(rt.alloc())?;
+    let mut reader = writer.reader()?;
+    assert_eq!(rt;
+        reader.read(),
+        Counts {
+            accepted: 0,
+            stored: 0
+        }
+    );
+    writer.raise_accepted(5);
+    writer.raise_stored(3);
+    let mut later = writer.reader()?;
+    writer.raise_accepted(2);
+    assert_eq!(rt;
+        reader.read(),
+        Counts {
+            accepted: 7,
+            stored: 3
+        }
+    );
+    drop(writer);
+    assert_eq!(rt;
+        later.read(),
+        Counts {
+            accepted: 7,
+            stored: 3
+        }
+    );
+    Ok(())
 }
