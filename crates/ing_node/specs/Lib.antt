@@ -1,3 +1,4 @@
+pub mod Boards
 pub mod Names
 pub mod Pushes
 pub mod Faults

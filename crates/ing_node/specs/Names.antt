@@ -24,7 +24,7 @@ AreInPlace settings shards =
 
 -- names and settings for where there are none
 abbrev pub no_names : BookNames
-no_names = record { accepted = no_book; flight = no_book; stored = no_book }
+no_names = record { accepted = no_book; flight = no_book; stored = no_book; counts = no_book }
 
 abbrev pub no_settings : StoreSettings
 no_settings = record { shards = 1; flushers = 1; flush_queue_length = 1; rules = defaults; tenants = from_entries [] }

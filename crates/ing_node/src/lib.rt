@@ -2,6 +2,7 @@
 #![tactic(auto)]
 
 mod abandon;
+mod board;
 mod closing;
 mod diaries;
 mod door;
@@ -23,6 +24,7 @@ mod swept;
 mod told;
 
 pub use abandon::{strand_pushers, strand_tallies};
+pub use board::BoardReader;
 pub use closing::CloseFault;
 pub use fault::NodeFault;
 pub use flushing::{FlusherFault, Flushing, Sweeper};

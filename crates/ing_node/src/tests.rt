@@ -183,8 +183,12 @@ fn refused<N: NodeName>(pusher: Result<Pusher<N>, NodeFault>) -> Option<NodeFaul
     }
 }
 
-/// What is answered to a pusher and to a close while the locks are swapped, and to a close once they are swapped back.
-type Answers = (Option<NodeFault>, CloseRefusal, Result<usize, CloseRefusal>);
+/// What is answered to a pusher, a reader and a close while the locks are swapped, and to a close once they are swapped back.
+type Answers = (
+    [Option<NodeFault>; 2],
+    CloseRefusal,
+    Result<usize, CloseRefusal>,
+);
 
 fn swapped<N: NodeName, W: Wait>(
     rt: &W,
@@ -197,17 +201,21 @@ fn swapped<N: NodeName, W: Wait>(
     let whole: Whole<N> = opened(rt, alloc, shards)?;
     let whole = whole.swapped();
     let pusher = refused(whole.node.pusher(rt, alloc, false));
+    let reader = whole.node.reader(rt, alloc).err();
     match whole.close(alloc) {
         Closing::Closed(_) => Err("a misplaced shard is closed".into()),
-        Closing::Refused(why, whole) => Ok((pusher, why, whole.swapped().close(alloc).ended())),
+        Closing::Refused(why, whole) => {
+            Ok(([pusher, reader], why, whole.swapped().close(alloc).ended()))
+        }
     }
 }
 
 #[test]
 fn swapped_locks_are_noticed(rt: HostRuntime) -> Result<(), Fail> {
     let shards = two(rt.alloc())?;
-    let (pusher, close, after) = swapped::<Brand, HostRuntime>(&rt, rt.alloc(), shards)?;
-    assert_eq!(rt; pusher, Some(NodeFault::Misplaced { shard: 0 }));
+    let (refused, close, after) = swapped::<Brand, HostRuntime>(&rt, rt.alloc(), shards)?;
+    let misplaced = Some(NodeFault::Misplaced { shard: 0 });
+    assert_eq!(rt; refused, [misplaced, misplaced]);
     assert_eq!(rt; close, CloseRefusal::Misplaced { shard: 0 });
     assert_eq!(rt; after, Ok(2));
     Ok(())

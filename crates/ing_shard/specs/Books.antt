@@ -2,19 +2,22 @@
 use Rattle.std.specs.Prelude.{ℕ, ◌+◌}
 use Rattle.ing_tally.specs.Books.{BookName, BookState}
 
--- how many entries were accepted, how many are in flight, and how many are stored
+-- how many entries were accepted, how many are in flight, and how many are stored; and the name of the two counts that tell
+-- without a lock how many were accepted and how many are stored
 pub record BookStates : Type 0 where
   pub accepted : BookState
   pub flight : BookState
   pub stored : BookState
+  pub counts : BookName
 
 pub record BookNames : Type 0 where
   pub accepted : BookName
   pub flight : BookName
   pub stored : BookName
+  pub counts : BookName
 
 abbrev pub names_of : BookStates → BookNames
-names_of books = record { accepted = books.accepted.name; flight = books.flight.name; stored = books.stored.name }
+names_of books = record { accepted = books.accepted.name; flight = books.flight.name; stored = books.stored.name; counts = books.counts }
 
 -- one of its shares has so much more
 abbrev pub raised : ℕ → BookState → BookState

@@ -206,7 +206,7 @@ counts_of streams = counted_by streams.entries streams.stored (map slots_of stre
 
 -- its books, as contracts see them
 abbrev pub seen_of : Books → BookStates
-seen_of books = record { accepted = books.accepted; flight = books.flight; stored = books.stored }
+seen_of books = record { accepted = books.accepted; flight = books.flight; stored = books.stored; counts = books.counts.name }
 
 -- what is kept beside the streams of a shard is what they give, each of them is its own, and the books count them
 pub record IsShard {R : Type 0} (settings : StoreSettings) (number : ℕ) (streams : Streams R) (books : BookStates) : Type 0 where

@@ -1,5 +1,5 @@
 use Rattle.std.proofs.Common.{◌≡◌, ◌∙◌, ap, arith, sym}
-use Rattle.std.proofs.lemmas.List.Sorted.{IsPermutation-sym}
+use Rattle.std.proofs.lemmas.List.Sorted.{IsPermutation-sym, length_permutation}
 use Rattle.ing_rows.specs.Rows.{Row, is_in_flight, is_stored}
 use Rattle.ing_shard.specs.Books.{BookStates}
 use Rattle.ing_shard.proofs.CountLaws.{reordered}
@@ -20,3 +20,10 @@ returns-clause-landed g c = λ state stands.
     let out : c.args.self.books.flight.out ≡ 0 = omega (arith, told, none) in
     reordered (λ (r : Row). is_in_flight r.place) state.rows c.args.self.state.rows (IsPermutation-sym c.args.self.state.rows state.rows stands.rows)
     ∙ c.totals.ensures.books.landed (sym c.totals.ensures.books.out ∙ out)
+
+pub returns-clause-accepted : goal.returns-clause-accepted
+returns-clause-accepted g c = λ state stands. (
+  c.total_of.ensures.number ∙ ap (λ (b : BookStates). b.accepted.number) c.into_books-books.ensures ∙ c.totals.ensures.books.accepted
+      ∙ sym (length_permutation c.args.self.state.rows state.rows stands.rows),
+  c.total_of.ensures.sum,
+)
