@@ -4,6 +4,7 @@ use Rattle.std.proofs.lemmas.List.Sums.{sum_by-cons}
 use Rattle.std.specs.Prelude.{◌⊎◌, All, Some, drop, min, slice_get, sum_by, take}
 use Rattle.std.specs.List.{AllZip}
 use Rattle.ing_tally.specs.Books.{ShareState, amount_of}
+use Rattle.ing_tally.specs.Counts.{ReaderState}
 use Rattle.ing_flush.specs.Tallies.{amount_at}
 use Rattle.ing_node.specs.Diaries.{PusherState}
 use Rattle.ing_node.specs.declared.report.ShardReport.{ShardReport}
@@ -78,27 +79,30 @@ sum_same seen f (o ∷ os) (n ∷ ns) (this, others) =
 pub rises_none : (n : ℕ) → RisesBy 0 n n
 rises_none n = record { least = omega arith; none = λ is. refl }
 
-pub held_on : (pusher : PusherState) (held : Held) (chunks before after : ℕ) → IsHeld pusher before held → RisesBy chunks before after
-    → IsHeld pusher after (record { told = held.told; chunks = held.chunks + chunks })
-held_on pusher held chunks before after is rises = record {
+pub held_on : (pusher : PusherState) (readers : List ReaderState) (held : Held) (chunks before after : ℕ) → IsHeld pusher before readers held → RisesBy chunks before after
+    → IsHeld pusher after readers (record { told = held.told; chunks = held.chunks + chunks; board = held.board })
+held_on pusher readers held chunks before after is rises = record {
   told = is.told;
   chunks = omega (arith, is.chunks, rises.least);
   none = λ none.
       let no_chunk : chunks ≡ 0 = omega (arith, none) in
       let none_held : held.chunks ≡ 0 = omega (arith, none) in
       rises.none no_chunk ∙ is.none none_held;
+  board = is.board;
 }
 
 -- a flush told so many chunks stored, or a lock was not passed
-pub told_flush : (settings : StoreSettings) (p q : PusherState) (before after stored count : ℕ) (flush : FlushCommand) (held : Held) (reply : Data) → q ≡ p
-    → RisesBy stored before after → IsFlushReply stored reply ⊎ (IsRefused reply × (stored ≡ 0)) → IsHeld p before held
-    → IsObeyed (by_ledger settings.shards) settings (Ok (Flush flush)) held (IsHeld q after) count count reply
-told_flush settings p q before after stored count flush held reply same rises may_be is = record {
+pub told_flush : (settings : StoreSettings) (p q : PusherState) (r s : List ReaderState) (before after stored count : ℕ) (flush : FlushCommand) (held : Held) (reply : Data) → q ≡ p → s ≡ r
+    → RisesBy stored before after → IsFlushReply stored reply ⊎ (IsRefused reply × (stored ≡ 0)) → IsHeld p before r held
+    → IsObeyed (by_ledger settings.shards) settings (Ok (Flush flush)) held (IsHeld q after s) count count reply
+told_flush settings p q r s before after stored count flush held reply same same_board rises may_be is = record {
   failed = 0;
-  left = record { told = held.told; chunks = held.chunks + stored };
-  obeys = record { stored = stored; may_be = may_be; chunks = refl; left = λ i. refl; failures = refl };
+  left = record { told = held.told; chunks = held.chunks + stored; board = held.board };
+  obeys = record { stored = stored; may_be = may_be; chunks = refl; board = refl; left = λ i. refl; failures = refl };
   causes = no_failure count;
-  holds = subst (λ x. IsHeld x after (record { told = held.told; chunks = held.chunks + stored })) (sym same) (held_on p held stored before after is rises);
+  holds =
+      subst (λ x. IsHeld q after x (record { told = held.told; chunks = held.chunks + stored; board = held.board })) (sym same_board)
+      (subst (λ x. IsHeld x after r (record { told = held.told; chunks = held.chunks + stored; board = held.board })) (sym same) (held_on p r held stored before after is rises));
 }
 
 pub rises_on : (a b x y z : ℕ) → RisesBy a x y → RisesBy b y z → RisesBy (min (a + b) (2 ^ 64 - 1)) x z

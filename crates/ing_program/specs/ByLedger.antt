@@ -22,6 +22,7 @@ use Rattle.ing_parts.specs.Answers.{StandApart, precedes}
 use Rattle.ing_parts.specs.Parts.{is_within}
 use Rattle.ing_query.specs.declared.fault.QueryFault.TheVariants as queries
 use Rattle.ing_shard.specs.Contents.{stream_of}
+use Rattle.ing_tally.specs.declared.counts.Counts.{Counts}
 use Rattle.ing_flush.specs.Tallies.{amount_at}
 use Rattle.ing_node.specs.declared.fault.NodeFault.{NodeFault}
 use Rattle.ing_node.specs.declared.fault.NodeFault.TheVariants as node
@@ -31,6 +32,7 @@ use Rattle.ing_node.specs.declared.report.CloseRefusal.{CloseRefusal}
 use Rattle.ing_node.specs.declared.report.ShardReport.{ShardReport}
 use Rattle.ing_node.specs.AnswerFaults.{answer_refusal_of}
 use Rattle.ing_node.specs.Faults.{refusal_of}
+use Rattle.ing_node.specs.Boards.{IsNoLess, no_counts}
 use Rattle.ing_node.specs.Pushes.{AreJudged, IsPushRefusal}
 use Rattle.ing_node.specs.Queries.{AreSelected}
 use Rattle.ing_node.specs.Diaries.{PusherState}
@@ -43,7 +45,7 @@ use Rattle.ing_session.specs.ByRows.{label_fault, limits_of}
 use Rattle.ing_session.specs.Causes.{HaveCause}
 use Rattle.ing_session.specs.Manners.{Manner}
 use Rattle.ing_session.specs.Queries.{Reads}
-use Rattle.ing_session.specs.Replies.{fault_data, judged_data, push_data, sweep_data, flush_data, gauges_data, query_data, report_data}
+use Rattle.ing_session.specs.Replies.{fault_data, judged_data, push_data, sweep_data, flush_data, gauges_data, board_data, query_data, report_data}
 
 -- how many entries were told accepted, by the number of their shard
 abbrev pub Told : Type 0
@@ -140,13 +142,19 @@ pub record ObeysBy (form : Data → Type 0) (old new : Told) (failed : ℕ) (rep
 
 -- ---- a flush
 
--- What is held: how many entries were told accepted, and how many chunks stored.
+-- What is held: how many entries were told accepted, how many chunks stored, and what was last told of each shard's counts.
 pub record Held : Type 0 where
   pub told : Told
   pub chunks : ℕ
+  pub board : ℕ → Counts
 
 abbrev pub nothing_held : Held
-nothing_held = record { told = λ _. 0; chunks = 0 }
+nothing_held = record { told = λ _. 0; chunks = 0; board = λ _. no_counts }
+
+-- but for what was told accepted, as much is held
+pub record KeepsElse (old new : Held) : Type 0 where
+  pub chunks : new.chunks ≡ old.chunks
+  pub board : new.board ≡ old.board
 
 -- so many chunks are told stored
 pub record IsFlushReply (stored : ℕ) (reply : Data) : Type 0 where
@@ -159,7 +167,26 @@ pub record ObeysFlush (old new : Held) (failed : ℕ) (reply : Data) : Type 0 wh
   pub stored : ℕ
   pub may_be : IsFlushReply stored reply ⊎ (IsRefused reply × (stored ≡ 0))
   pub chunks : new.chunks ≡ old.chunks + stored
+  pub board : new.board ≡ old.board
   pub left : Stays old.told new.told
+  pub failures : failed ≡ 0
+
+-- ---- a question for the counts
+
+-- of each shard so many entries were accepted, and no more are stored
+abbrev pub AreOrdered : List Counts → Type 0
+AreOrdered shards = (i : ℕ) (counts : Counts) → slice_get shards i ≡ Some counts → counts.stored ≤ counts.accepted
+
+-- It is answered, whoever holds a lock. Of no shard is less told than by an earlier reply.
+pub record ObeysBoard (settings : StoreSettings) (old new : Held) (failed : ℕ) (reply : Data) : Type 0 where
+  pub shards : List Counts
+  pub all : length shards ≡ settings.shards
+  pub ordered : AreOrdered shards
+  pub later : (i : ℕ) → IsNoLess (old.board i) (new.board i)
+  pub known : (i : ℕ) (counts : Counts) → slice_get shards i ≡ Some counts → new.board i ≡ counts
+  pub told : reply ≡ board_data shards
+  pub left : Stays old.told new.told
+  pub chunks : new.chunks ≡ old.chunks
   pub failures : failed ≡ 0
 
 -- ---- a query
@@ -221,14 +248,16 @@ pub record ObeysQuery (settings : StoreSettings) (query : QueryCommand) (old new
 -- From old, a command may be obeyed, with this reply and so many failed queries, and leave new.
 abbrev pub ObeysCommand : StoreSettings → Held → Held → ℕ → Data → Command → Type 0
 ObeysCommand settings old new failed reply (commands.Push push) =
-    ObeysPush settings push old.told new.told failed reply × (new.chunks ≡ old.chunks)
+    ObeysPush settings push old.told new.told failed reply × KeepsElse old new
 ObeysCommand settings old new failed reply (commands.Sweep sweep) =
-    ObeysBy IsSweepReply old.told new.told failed reply × (new.chunks ≡ old.chunks)
+    ObeysBy IsSweepReply old.told new.told failed reply × KeepsElse old new
 ObeysCommand settings old new failed reply (commands.Flush flush) = ObeysFlush old new failed reply
 ObeysCommand settings old new failed reply (commands.Gauges gauges) =
-    ObeysBy (IsGaugesReply settings) old.told new.told failed reply × (new.chunks ≡ old.chunks)
+    ObeysBy (IsGaugesReply settings) old.told new.told failed reply × KeepsElse old new
+ObeysCommand settings old new failed reply commands.Board =
+    ObeysBoard settings old new failed reply
 ObeysCommand settings old new failed reply (commands.Query query) =
-    ObeysQuery settings query old.told new.told failed reply × (new.chunks ≡ old.chunks)
+    ObeysQuery settings query old.told new.told failed reply × KeepsElse old new
 
 -- ---- the report
 

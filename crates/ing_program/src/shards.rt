@@ -106,7 +106,7 @@ pub fn run_locked<
     let locked: Locked<'_, N, R, F, W> = Locked::open(rt, alloc, ends, shards)?;
     let flush = |locked: &mut Locked<'_, N, R, F, W>, end: &mut S, said: Flush|
         ensures { ObeysFlush (by_ledger N.settings.shards)
-            (λ locked held. IsHeld locked.pusher (counted_by locked.workers.items) held) (λ _. N.settings)
+            (λ locked held. IsHeld locked.pusher (counted_by locked.workers.items) locked.board held) (λ _. N.settings)
             S.failure_count S.never_fails said locked.entry.now locked.exit.now
             end.entry.now end.exit.now result }
     { locked.flush(said) };

@@ -15,6 +15,7 @@ use Rattle.ing_rows.specs.Steps.{verdicts_of, after_push, due_by, forced, sealed
 use Rattle.ing_rows.specs.Gauges.{gauges_of}
 use Rattle.ing_rows.specs.Turns.{accepted_among}
 use Rattle.ing_limits.specs.Settings.{StoreSettings}
+use Rattle.ing_tally.specs.declared.counts.Counts.{Counts}
 use Rattle.ing_limits.specs.Ranges.{rules_for}
 use Rattle.ing_shard.specs.declared.due.Op.{Op}
 use Rattle.ing_shard.specs.Contents.{stream_of, stored_count, listed_after}
@@ -22,7 +23,7 @@ use Rattle.ing_shard.specs.Sealing.{ops_from}
 use Rattle.ing_node.specs.declared.report.ShardReport.{ShardReport}
 use Rattle.ing_refusals.specs.declared.refusal.Refusal.TheVariants.{TooManyEntries, CounterFull}
 use Rattle.ing_refusals.specs.declared.refusal.Refusal.TheVariants as refusals
-use Rattle.ing_commands.specs.Commands.{Command, Push, Sweep, Flush, Gauges, Query}
+use Rattle.ing_commands.specs.Commands.{Command, Push, Sweep, Flush, Gauges, Board, Query}
 use Rattle.ing_session.specs.Flushing.{Outcome, EndSo, failed_among, stored_among}
 use Rattle.ing_session.specs.Held.{Held, nothing_held, shard_number}
 use Rattle.ing_session.specs.Manners.{Manner}
@@ -32,7 +33,7 @@ use Rattle.ing_commands.specs.PushCommands.{PushCommand, StreamEntries}
 use Rattle.ing_commands.specs.QueryCommands.{QueryCommand}
 use Rattle.ing_commands.specs.SweepCommands.{SweepCommand}
 use Rattle.ing_session.specs.Queries.{Answer, Refused, Given, Failed, Damaged, QueryMayBe, failed_of}
-use Rattle.ing_session.specs.Replies.{fault_data, judged_data, push_data, sweep_data, flush_data, gauges_data, query_data, report_data}
+use Rattle.ing_session.specs.Replies.{fault_data, judged_data, push_data, sweep_data, flush_data, gauges_data, board_data, query_data, report_data}
 
 abbrev pub limits_of : Rules → LabelLimits
 limits_of rules = record { names = rules.max_label_names; name_bytes = rules.max_label_name_length; value_bytes = rules.max_label_value_length }
@@ -167,6 +168,21 @@ pub record ObeysGauges (gauges : GaugesCommand) (old new : Held) (failed : ℕ) 
   pub left : new ≡ old
   pub failures : failed ≡ 0
 
+-- ---- a question for the counts
+
+-- how many entries were accepted, and how many are stored
+abbrev pub counts_of : State → Counts
+counts_of st = record { accepted = length st.rows; stored = stored_count st.rows }
+
+abbrev pub board_reply : Held → Data
+board_reply held = board_data (counts_of held.state ∷ [])
+
+-- it is answered, and changes nothing
+pub record ObeysBoard (old new : Held) (failed : ℕ) (reply : Data) : Type 0 where
+  pub told : reply ≡ board_reply old
+  pub left : new ≡ old
+  pub failures : failed ≡ 0
+
 -- ---- a query
 
 -- the reply to a query that came to this, of the one shard
@@ -192,6 +208,7 @@ pub data ObeysCommand (honest : Type 0) (settings : StoreSettings) (old new : He
   Sweeps : {sweep : SweepCommand} → ObeysSweep settings sweep old new failed reply → ObeysCommand honest settings old new failed reply (Sweep sweep)
   Flushes : {flush : FlushCommand} → ObeysFlush settings flush old new failed reply → ObeysCommand honest settings old new failed reply (Flush flush)
   AsksGauges : {gauges : GaugesCommand} → ObeysGauges gauges old new failed reply → ObeysCommand honest settings old new failed reply (Gauges gauges)
+  AsksBoard : ObeysBoard old new failed reply → ObeysCommand honest settings old new failed reply Board
   Queries : {query : QueryCommand} → ObeysQuery honest query old new failed reply → ObeysCommand honest settings old new failed reply (Query query)
 
 -- ---- the report

@@ -2,7 +2,7 @@
 use Rattle.std.specs.Prelude.{◌≡◌, Bool, true, false, IfOk, Ok, Result, ℕ}
 use Rattle.std.specs.Borrow.{MutBor}
 use Rattle.ing_limits.specs.Settings.{StoreSettings}
-use Rattle.ing_commands.specs.Commands.{Command, Push, Sweep, Flush, Gauges, Query}
+use Rattle.ing_commands.specs.Commands.{Command, Push, Sweep, Flush, Gauges, Board, Query}
 use Rattle.ing_commands.specs.Views.{flush_view}
 use Rattle.ing_commands.specs.declared.flush.Flush as code
 use Rattle.ing_session.specs.declared.reply.Reply.{Reply}
@@ -16,6 +16,7 @@ is_flush (Flush flush) = true
 is_flush (Push push) = false
 is_flush (Sweep sweep) = false
 is_flush (Gauges gauges) = false
+is_flush Board = false
 is_flush (Query query) = false
 
 -- a flush that leaves this behind, with this result, is obeyed

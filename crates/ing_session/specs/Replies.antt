@@ -10,6 +10,7 @@ use Rattle.ing_parts.specs.declared.found.Found.{Found}
 use Rattle.ing_rows.specs.declared.gauges.Gauge.{Gauge}
 use Rattle.ing_rows.specs.declared.gauges.Gauges.{Gauges}
 use Rattle.ing_rows.specs.declared.verdict.Verdict.{Verdict}
+use Rattle.ing_tally.specs.declared.counts.Counts.{Counts}
 use Rattle.ing_rows.specs.declared.verdict.Verdict.TheVariants.{Accepted, Duplicate, LineTooLong, TooFarBehind, TooManyStreams}
 
 abbrev pub count : ℕ → Data
@@ -77,6 +78,14 @@ tenant_data gauges =
 -- one for each shard
 abbrev pub gauges_data : List Gauges → Data
 gauges_data shards = object (member (codes "gauges") (array (items_of (map tenant_data shards))) no_members)
+
+-- of a shard: entries accepted, and how many of them are stored
+abbrev pub counts_data : Counts → Data
+counts_data counts = object (member (codes "accepted") (count counts.accepted) (member (codes "stored") (count counts.stored) no_members))
+
+-- one for each shard
+abbrev pub board_data : List Counts → Data
+board_data shards = object (member (codes "board") (array (items_of (map counts_data shards))) no_members)
 
 -- an entry that a query gives: its line, its stamp, and its stream by its canonical name
 abbrev pub entry_data : Found → Data

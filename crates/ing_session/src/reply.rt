@@ -1,6 +1,6 @@
 //! The replies, and the lines that they are written as.
 ghost use Rattle.std.specs.Prelude.{◌≡◌, ◌++◌, OnOk, OnErr, codes, decimal, map};
-ghost use Rattle.ing_session.specs.Replies.{verdict_data, verdicts_data, fault_data, judged_data, push_data, sweep_data, flush_data, gauge_data, gauges_data, tenant_data, entry_data, query_data, shard_data, report_data, line_text, count};
+ghost use Rattle.ing_session.specs.Replies.{verdict_data, verdicts_data, fault_data, judged_data, push_data, sweep_data, flush_data, gauge_data, gauges_data, tenant_data, board_data, counts_data, entry_data, query_data, shard_data, report_data, line_text, count};
 ghost use Rattle.ing_session.specs.Views.{stream_data, reply_data};
 ghost use Rattle.ing_session.specs.Written.{Adds, member_tokens, data_tokens, tokens_of_each};
 ghost use Rattle.serde_json.specs.Data.{array, string, object, no_members, member};
@@ -12,6 +12,7 @@ use ing_node::ShardReport;
 use ing_parts::Found;
 use ing_refusals::Refusal;
 use ing_rows::{Gauge, Gauges, Verdict};
+use ing_tally::Counts;
 use json::Writer;
 use std::alloc::{AllocError, Global};
 
@@ -35,6 +36,8 @@ pub enum Reply {
     },
     /// What each shard counts of a tenant, by the shard's number.
     Gauges(Vec<Gauges>),
+    /// What each shard accepted and stored, by the shard's number.
+    Board(Vec<Counts>),
     /// The text of a query is refused, with the place at fault where there is one.
     Refused {
         refusal: Refusal,
@@ -97,6 +100,7 @@ fn write_reply(alloc: Global, out: &mut Writer, reply: &Reply) -> Result<(), All
             stored,
         } => write_flush(out, *failed, *sealed, *stored),
         Reply::Gauges(gauges) => write_gauges(alloc, out, gauges),
+        Reply::Board(shards) => write_board(out, shards),
         Reply::Refused { refusal, at } => write_fault(out, *refusal, *at),
         Reply::Query { found, fronts } => write_query(out, found, fronts),
         Reply::Report(shards) => write_report(out, shards),
@@ -360,6 +364,43 @@ fn write_bytes(alloc: Global, out: &mut Writer, bytes: u128) -> Result<(), Alloc
 {
     let text = format!(in alloc; "{bytes}")?;
     write_text(out, "bytes", text.as_str())
+}
+
+/// Writes what each shard counts.
+fn write_board(out: &mut Writer, shards: &[Counts]) -> Result<(), AllocError>
+    ensures tokens { OnOk result (Adds out.old out.new (data_tokens (board_data shards.now))) }
+    ensures before { out.new.before ≡ out.old.before }
+{
+    out.begin_object()?;
+    out.key("board")?;
+    out.begin_array()?;
+    write_each_counts(out, shards)?;
+    out.end_array()?;
+    out.end_object()?;
+    Ok(())
+}
+
+fn write_each_counts(out: &mut Writer, shards: &[Counts]) -> Result<(), AllocError>
+    ensures tokens { OnOk result (Adds out.old out.new
+        (tokens_of_each (map counts_data shards.now))) }
+    ensures before { out.new.before ≡ out.old.before }
+{
+    for counts in shards {
+        write_counts(out, *counts)?;
+    }
+    Ok(())
+}
+
+/// Writes how many entries a shard accepted, and how many of them are stored.
+fn write_counts(out: &mut Writer, counts: Counts) -> Result<(), AllocError>
+    ensures tokens { OnOk result (Adds out.old out.new (data_tokens (counts_data counts))) }
+    ensures before { out.new.before ≡ out.old.before }
+{
+    out.begin_object()?;
+    write_count(out, "accepted", counts.accepted)?;
+    write_count(out, "stored", counts.stored)?;
+    out.end_object()?;
+    Ok(())
 }
 
 /// Writes what a query gives.

@@ -26,6 +26,7 @@ impl<'r, N: NodeName, R: Receipt, F: StoreEnd<Receipt = R> + Drop, W: Wait> Lock
     pub(super) fn sweep(&mut self, now: Stamp) -> Result<Reply, AllocError>
         ensures reply { IfOk result (λ reply. IsForm IsSweepReply (reply_data reply)) }
         ensures pusher { self.new.pusher ≡ self.old.pusher }
+        ensures board { self.new.board ≡ self.old.board }
         ensures workers { self.new.workers ≡ self.old.workers }
     {
         let (flushing, sweeper) = (&self.flushing, &mut self.sweeper);
@@ -50,9 +51,9 @@ impl<
     /// runs out; then a part of it may be done.
     pub fn flush(&mut self, said: Flush) -> Result<Reply, AllocError>
         ensures obeyed { (count : ℕ) → IfOk result (λ reply. (held : Held) →
-            IsHeld self.old.pusher (counted_by self.old.workers.items) held →
+            IsHeld self.old.pusher (counted_by self.old.workers.items) self.old.board held →
             IsObeyed (by_ledger N.settings.shards) N.settings (Ok (commands.Flush (flush_view said))) held
-            (IsHeld self.new.pusher (counted_by self.new.workers.items)) count count (reply_data reply)) }
+            (IsHeld self.new.pusher (counted_by self.new.workers.items) self.new.board) count count (reply_data reply)) }
     {
         match self.seal(said.forced) {
             Ok(swept) => {
@@ -70,6 +71,7 @@ impl<
     /// Seals each growing chunk where that is forced, and queues an operation for each sealed chunk that waits.
     fn seal(&mut self, forced: bool) -> Result<Swept, NodeFault>
         ensures pusher { self.new.pusher ≡ self.old.pusher }
+        ensures board { self.new.board ≡ self.old.board }
         ensures workers { self.new.workers ≡ self.old.workers }
     {
         if !forced {
@@ -88,6 +90,7 @@ impl<
         ensures rises { RisesBy result.stored (counted_by self.old.workers.items)
             (counted_by self.new.workers.items) }
         ensures pusher { self.new.pusher ≡ self.old.pusher }
+        ensures board { self.new.board ≡ self.old.board }
     {
         let mut round = self.flush_queue();
         let mut left = left;
@@ -109,6 +112,7 @@ impl<
         ensures rises { RisesBy result.stored (counted_by self.old.workers.items)
             (counted_by self.new.workers.items) }
         ensures pusher { self.new.pusher ≡ self.old.pusher }
+        ensures board { self.new.board ≡ self.old.board }
     {
         let workers = self.workers.as_mut_slice();
         self.flushing

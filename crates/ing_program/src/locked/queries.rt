@@ -28,6 +28,7 @@ impl<'r, N: NodeName, R: Receipt, F: StoreEnd<Receipt = R> + Drop, W: Wait> Lock
             CameTo N.settings (query_view query.now) told (S.failure_count end.old) (S.failure_count end.new)
             (reply_data reply)) }
         ensures pusher { self.new.pusher ≡ self.old.pusher }
+        ensures board { self.new.board ≡ self.old.board }
         ensures workers { self.new.workers ≡ self.old.workers }
         ensures end { GoesOn S.never_fails S.failure_count end.old end.new }
     {
@@ -49,6 +50,7 @@ impl<'r, N: NodeName, R: Receipt, F: StoreEnd<Receipt = R> + Drop, W: Wait> Lock
             CameTo N.settings (query_view query.now) told (S.failure_count end.old) (S.failure_count end.new)
             (reply_data reply)) }
         ensures pusher { self.new.pusher ≡ self.old.pusher }
+        ensures board { self.new.board ≡ self.old.board }
         ensures workers { self.new.workers ≡ self.old.workers }
         ensures end { GoesOn S.never_fails S.failure_count end.old end.new }
     {
