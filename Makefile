@@ -62,6 +62,7 @@ bench: $(postings_figures) $(codec_figures) $(locks_figures) $(nodes_by_lot) $(p
 	@$(postings_figures) times 10000 30000 100000
 	@$(codec_figures) times 120 4096
 	@$(nodes_by_lot) times 1000000
+	@$(nodes_by_lot) pauses 100000
 	@bench/locks.sh $(locks_figures)
 	@bench/flushers.sh $(program)
 	@bench/pushes.sh $(program)

@@ -5,21 +5,10 @@
 # without a flush behind them, by 1, 2 and 4 flushers in turn, five times each. Prints the time of the flush by the clock, which is
 # the difference of the least of each, and how often it is that of one flusher. Every entry must be stored, or it stops.
 set -eu
-LC_ALL=C
-export LC_ALL
 program=$1
-folder=$(mktemp -d)
-trap 'rm -rf "$folder"' EXIT
-trap 'exit 1' HUP INT TERM
+. "$(dirname "$0")/common.sh"
 
-awk 'BEGIN {
-  line = sprintf("%0120d", 0)
-  for (p = 0; p < 20000; p++) {
-    printf "{\"cmd\":\"push\",\"tenant\":\"t\",\"now\":\"2000000000000000\",\"streams\":[{\"stream\":{\"app\":\"web\",\"pod\":\"p%d\"},\"values\":[", p % 1000
-    for (i = 0; i < 100; i++) printf "%s[\"1%09d000000\",\"%s\"]", i ? "," : "", p * 100 + i, line
-    print "]}]}"
-  }
-}' >"$folder/kept"
+make_pushes 20000 100 >"$folder/kept"
 { cat "$folder/kept"; echo '{"cmd":"flush"}'; } >"$folder/flushed"
 
 # milliseconds INPUT: how long a run takes by the clock. Its output goes to the file `out`.

@@ -4,23 +4,8 @@
 # What a lock costs: feeds PROGRAM (bench_locks) the same pushes with its shard alone and behind a lock, in turn, eleven times
 # each, and prints the least processor time of each and the ratio of the two. Both must give the same replies.
 set -eu
-LC_ALL=C
-export LC_ALL
 program=$1
-folder=$(mktemp -d)
-trap 'rm -rf "$folder"' EXIT
-trap 'exit 1' HUP INT TERM
-
-# make_input PUSHES ENTRIES_A_PUSH: entries of 120 bytes to 1,000 streams in turn, a millisecond between stamps.
-make_input() {
-  awk -v pushes="$1" -v per_push="$2" 'BEGIN {
-    for (p = 0; p < pushes; p++) {
-      printf "{\"cmd\":\"push\",\"tenant\":\"t\",\"now\":\"2000000000000000\",\"streams\":[{\"stream\":{\"app\":\"web\",\"pod\":\"p%d\"},\"values\":[", p % 1000
-      for (i = 0; i < per_push; i++) printf "%s[\"1%09d000000\",\"%0120d\"]", i ? "," : "", p * per_push + i, i
-      print "]}]}"
-    }
-  }'
-}
+. "$(dirname "$0")/common.sh"
 
 # seconds HOW: the processor time of a run, user and system.
 seconds() {
@@ -29,7 +14,7 @@ seconds() {
 
 for shape in '200000 1' '5000 100'; do
   # shellcheck disable=SC2086 # two numbers
-  make_input $shape >"$folder/input"
+  make_pushes $shape >"$folder/input"
   : >"$folder/times"
   for _ in 1 2 3 4 5 6 7 8 9 10 11; do
     echo "$(seconds alone) $(seconds locked)" >>"$folder/times"

@@ -7,12 +7,8 @@
 # second, so inputs below a million entries are run five times together, those with queries twice, and the figure is a fifth
 # or a half of the time; it is the least of three such. Peak memory is known by /usr/bin/time alone.
 set -eu
-LC_ALL=C
-export LC_ALL
 program=$1
-folder=$(mktemp -d)
-trap 'rm -rf "$folder"' EXIT
-trap 'exit 1' HUP INT TERM
+. "$(dirname "$0")/common.sh"
 printf 'max_streams_per_tenant = 100000\n' >"$folder/settings.toml"
 
 # make_input ENTRIES STREAMS ENTRIES_A_PUSH BYTES_A_LINE in|out: the input, as push lines. An entry a push goes to the streams

@@ -11,7 +11,9 @@ pub struct Done {
     pub accepted: u64,
     /// How many chunks were stored.
     pub chunks: u64,
-    /// How many entries they had.
+    /// How many of them were stored by flushers that work a queue off, which do not tell their entries.
+    pub queued: u64,
+    /// How many entries the others had.
     pub stored: u64,
     /// How many flushes failed.
     pub failed: u64,
@@ -19,6 +21,8 @@ pub struct Done {
     pub nothing: u64,
     /// How many queries were answered.
     pub queries: u64,
+    /// How often the counts of a shard were read without a lock.
+    pub readings: u64,
     /// Why a hand stopped early.
     pub fault: Option<LifeFault>,
 }
@@ -39,10 +43,12 @@ impl Done {
         self.pushed = self.pushed.saturating_add(other.pushed);
         self.accepted = self.accepted.saturating_add(other.accepted);
         self.chunks = self.chunks.saturating_add(other.chunks);
+        self.queued = self.queued.saturating_add(other.queued);
         self.stored = self.stored.saturating_add(other.stored);
         self.failed = self.failed.saturating_add(other.failed);
         self.nothing = self.nothing.saturating_add(other.nothing);
         self.queries = self.queries.saturating_add(other.queries);
+        self.readings = self.readings.saturating_add(other.readings);
         if self.fault.is_none() {
             self.fault = other.fault;
         }

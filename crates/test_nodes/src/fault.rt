@@ -32,6 +32,12 @@ pub enum LifeFault {
     /// The ingester was not closed.
     #[error("the ingester is not closed: {0:?}")]
     Close(Refusal),
+    /// What is read without a lock is less than was told, or not what was counted in the end.
+    #[error("the board is not what was counted")]
+    Board,
+    /// No time could be read.
+    #[error("no clock")]
+    Clock,
     /// The report of the closing is not what was counted.
     #[error("the report is not what was counted")]
     Report,

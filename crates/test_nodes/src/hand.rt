@@ -8,15 +8,21 @@ use crate::fault::LifeFault;
 use crate::kept_end::{KeptEnd, Object};
 use crate::lots::Lots;
 use crate::plan::{LOADED, Plan, STREAMS, Task};
+use crate::sweeping::Sweeping;
 use ing_flush::{Flushed, Flusher, FlusherTally, FreeGate, flush_one};
 use ing_labels::{LabelLimits, Labels, Selector};
-use ing_node::{Answer, Ingester, NodeFault, NodeName, Pusher};
+use ing_limits::Settings;
+use ing_node::{Answer, BoardReader, Ingester, NodeFault, NodeName, Pusher};
 use ing_parts::{Order, Question};
 use ing_rows::{Entry, Line, Stamp, Tenant};
 use ing_shard::Op;
 use ing_store::StoreFault;
+use ing_tally::Counts;
 use std::alloc::Global;
+use std::rt::Clock;
 use std::sync::Wait;
+use std::thread::Threads;
+use std::time::Instant;
 
 const LIMITS: LabelLimits = LabelLimits {
     names: 15,
@@ -48,29 +54,35 @@ pub struct Hand<N: NodeName> {
     all: Selector,
     pusher: Pusher<N>,
     flusher: Flusher<KeptEnd, FreeGate>,
+    // What it sweeps with, where that is its task.
+    sweeping: Option<Sweeping<N>>,
+    board: BoardReader<N>,
     // What it queries by.
     end: KeptEnd,
     lots: Lots,
     done: Done,
+    // How long each of its turns took, in nanoseconds, where that is noted.
+    times: Vec<u64>,
     ghost count: { shards ≡ N.settings.shards },
     ghost full: { length flusher.tally ≡ N.settings.shards },
     ghost own: { AreStoredIn N.books flusher.tally },
 }
 
-impl<N: NodeName> Hand<N> {
-    /// A hand of an ingester of so many shards.
+impl<N: NodeName + Send + Sync> Hand<N> {
+    /// A hand of an ingester with these settings.
     pub fn new<W: Wait>(
         rt: &W,
         alloc: Global,
+        settings: &Settings,
         node: &Ingester<N, Object>,
-        shards: u32,
         plan: Plan,
     ) -> Result<Hand<N>, LifeFault>
-        requires { shards ≡ N.settings.shards }
+        requires { settings.now ≡ N.settings }
     {
         let tenant = Tenant::of_text(alloc, "t")?;
         let streams = streams_of(alloc, plan.task)?;
         let all = Selector::parse(alloc, "{all=\"1\"}")?;
+        let board = node.reader(rt, alloc)?;
         let pusher = node.pusher(rt, alloc, plan.diary)?;
         let tally = match tally_of(rt, alloc, node) {
             Ok(tally) => tally,
@@ -79,33 +91,83 @@ impl<N: NodeName> Hand<N> {
                 return Err(fault.into());
             }
         };
+        let sweeping = match sweeping_of(rt, alloc, settings, node, &plan) {
+            Ok(sweeping) => sweeping,
+            Err(fault) => {
+                pusher.strand();
+                tally.strand();
+                return Err(fault);
+            }
+        };
         let lots = Lots::of(plan.lots);
         Ok(Hand {
             plan,
-            shards,
+            shards: settings.shards(),
             tenant,
             streams,
             all,
             pusher,
+            sweeping,
+            board,
             flusher: Flusher::new(KeptEnd::new(lots, plan.odds), FreeGate, tally),
             end: KeptEnd::new(lots, 0),
             lots,
             done: Done::default(),
+            times: Vec::new(alloc),
         })
     }
 
     /// Does what it is to do. It stops early where it meets a fault.
-    pub fn work<W: Wait>(&mut self, rt: &W, alloc: Global, node: &Ingester<N, Object>) {
+    pub fn work<W: Threads + Wait + Sync + Clock>(
+        &mut self,
+        rt: &W,
+        alloc: Global,
+        node: &Ingester<N, Object>,
+    ) {
         for turn in 0..self.plan.turns {
-            if let Err(fault) = self.turn(rt, alloc, node, turn) {
+            if self.is_done() {
+                return;
+            }
+            if let Err(fault) = self.timed_turn(rt, alloc, node, turn) {
                 self.done.fault = Some(fault);
                 return;
             }
         }
     }
 
+    /// Whether all is accepted that it waits for.
+    fn is_done(&mut self) -> bool {
+        let Task::FlushUntil { accepted } = self.plan.task else {
+            return false;
+        };
+        let mut count = 0u64;
+        for shard in 0..self.shards {
+            count = count.saturating_add(self.board.read(shard).accepted);
+        }
+        count >= accepted
+    }
+
+    /// A turn, whose time is noted where that is planned.
+    fn timed_turn<W: Threads + Wait + Sync + Clock>(
+        &mut self,
+        rt: &W,
+        alloc: Global,
+        node: &Ingester<N, Object>,
+        turn: u64,
+    ) -> Result<(), LifeFault> {
+        if !self.plan.timed {
+            return self.turn(rt, alloc, node, turn);
+        }
+        let start = Instant::now(rt).map_err(|_| LifeFault::Clock)?;
+        self.turn(rt, alloc, node, turn)?;
+        let time = start.elapsed(rt).map_err(|_| LifeFault::Clock)?;
+        self.times
+            .push(u64::try_from(time.as_nanos()).unwrap_or(u64::MAX))?;
+        Ok(())
+    }
+
     /// A turn; once more where memory was refused.
-    fn turn<W: Wait>(
+    fn turn<W: Threads + Wait + Sync>(
         &mut self,
         rt: &W,
         alloc: Global,
@@ -122,7 +184,7 @@ impl<N: NodeName> Hand<N> {
         }
     }
 
-    fn try_turn<W: Wait>(
+    fn try_turn<W: Threads + Wait + Sync>(
         &mut self,
         rt: &W,
         alloc: Global,
@@ -132,12 +194,17 @@ impl<N: NodeName> Hand<N> {
         match self.plan.task {
             Task::Count { stream } => {
                 let entries = counted(alloc, stream, turn)?;
-                self.push(rt, alloc, node, stream, entries, turn)
+                self.push(rt, alloc, node, stream, entries, turn)?;
+                self.read()
             }
             Task::Push => self.push_by_lot(rt, alloc, node, turn.saturating_add(100)),
-            Task::Flush => self.flush_all(rt, alloc, node),
+            Task::Flush | Task::FlushUntil { .. } => self.flush_all(rt, alloc, node),
             Task::FlushOne => self.flush_by_lot(rt, alloc, node, turn.saturating_add(100)),
+            Task::Sweep => self.sweep_by_lot(rt, alloc, node, turn.saturating_add(100)),
             Task::Query => self.look(rt, alloc, node),
+            Task::Read => self.read(),
+            Task::ReadOften { times } => self.read_often(times),
+            Task::AskOften { times } => self.ask_often(rt, node, times),
             Task::Load { .. } => {
                 let count = self.streams.len() as u64;
                 let stream = turn.checked_rem(count).unwrap_or(0) as usize;
@@ -158,6 +225,7 @@ impl<N: NodeName> Hand<N> {
         let stream = self.lots.below(STREAMS.len() as u64) as usize;
         let entries = self.drawn(alloc, now)?;
         self.push(rt, alloc, node, stream, entries, now)?;
+        self.read()?;
         match self.lots.below(16) {
             0 => self.look(rt, alloc, node),
             _ => Ok(()),
@@ -191,6 +259,79 @@ impl<N: NodeName> Hand<N> {
             _ => Some(now),
         };
         self.flush(rt, alloc, node, shard, now)
+    }
+
+    /// Seals what grows, or what is due at this time, in all shards by lot, and works the flush queue off.
+    fn sweep_by_lot<W: Threads + Wait + Sync>(
+        &mut self,
+        rt: &W,
+        alloc: Global,
+        node: &Ingester<N, Object>,
+        now: u64,
+    ) -> Result<(), LifeFault> {
+        let now = match self.lots.below(2) {
+            0 => None,
+            _ => Some(stamp(now)?),
+        };
+        let sweeping = self.sweeping.as_mut().ok_or(LifeFault::Text)?;
+        let round = sweeping.turn(rt, alloc, node, now)?;
+        self.done.chunks = self.done.chunks.saturating_add(round.stored);
+        self.done.queued = self.done.queued.saturating_add(round.stored);
+        self.done.failed = self.done.failed.saturating_add(round.failed);
+        Ok(())
+    }
+
+    /// Reads what each shard counts, which is no less than it was told of the shard.
+    fn read(&mut self) -> Result<(), LifeFault> {
+        for shard in 0..self.shards {
+            let counts = self.board.read(shard);
+            self.done.readings = self.done.readings.saturating_add(1);
+            if counts.accepted < self.pusher.told(shard) || counts.accepted < counts.stored {
+                return Err(LifeFault::Board);
+            }
+        }
+        Ok(())
+    }
+
+    /// Reads what each shard counts so many times.
+    fn read_often(&mut self, times: u64) -> Result<(), LifeFault> {
+        for _ in 0..times {
+            self.read()?;
+        }
+        Ok(())
+    }
+
+    /// Asks each shard for its gauges so many times.
+    fn ask_often<W: Wait>(
+        &mut self,
+        rt: &W,
+        node: &Ingester<N, Object>,
+        times: u64,
+    ) -> Result<(), LifeFault> {
+        for _ in 0..times {
+            for shard in 0..self.shards {
+                let gauges = node.gauges(rt, shard, &self.tenant)?;
+                self.done.readings = self.done.readings.saturating_add(1);
+                if gauges.streams > LOADED as u64 {
+                    return Err(LifeFault::Board);
+                }
+            }
+        }
+        Ok(())
+    }
+
+    /// How long each of its turns took, in nanoseconds, where that was noted.
+    pub fn times(&self) -> &[u64] {
+        &self.times
+    }
+
+    /// What each shard counts.
+    pub fn board(&mut self, alloc: Global) -> Result<Vec<Counts>, LifeFault> {
+        let mut all = Vec::with_capacity(alloc, self.shards as usize)?;
+        for shard in 0..self.shards {
+            all.push(self.board.read(shard))?;
+        }
+        Ok(all)
     }
 
     /// Up to three entries by lot, at most 29 nanoseconds old.
@@ -333,8 +474,8 @@ impl<N: NodeName> Hand<N> {
         }
     }
 
-    /// Its pusher and its tally, for the close.
-    pub fn into_parts(self) -> (Pusher<N>, FlusherTally)
+    /// Its pusher, its tally, and what it sweeps with, for the close.
+    pub fn into_parts(self) -> (Pusher<N>, FlusherTally, Option<Sweeping<N>>)
         ensures { IsTallyOf N.settings.shards N.books result.1 }
     {
         let Hand {
@@ -345,18 +486,24 @@ impl<N: NodeName> Hand<N> {
             all: _,
             pusher,
             flusher,
+            sweeping,
+            board: _,
             end: _,
             lots: _,
             done: _,
+            times: _,
         } = self;
-        (pusher, flusher.into_tally())
+        (pusher, flusher.into_tally(), sweeping)
     }
 
     /// Gives its shares up.
     pub fn strand(self) {
-        let (pusher, tally) = self.into_parts();
+        let (pusher, tally, sweeping) = self.into_parts();
         pusher.strand();
         tally.strand();
+        if let Some(sweeping) = sweeping {
+            sweeping.strand();
+        }
     }
 }
 
@@ -372,6 +519,23 @@ fn tally_of<N: NodeName, W: Wait>(
         return Ok(tally);
     }
     node.tally(rt, alloc)
+}
+
+/// What a hand sweeps with, where that is its task.
+fn sweeping_of<N: NodeName, W: Wait>(
+    rt: &W,
+    alloc: Global,
+    settings: &Settings,
+    node: &Ingester<N, Object>,
+    plan: &Plan,
+) -> Result<Option<Sweeping<N>>, LifeFault>
+    requires { settings.now ≡ N.settings }
+{
+    if plan.task != Task::Sweep {
+        return Ok(None);
+    }
+    let lots = Lots::of(plan.lots);
+    Ok(Some(Sweeping::new(rt, alloc, settings, node, lots, plan.odds)?))
 }
 
 /// The streams that a task pushes to.

@@ -12,8 +12,10 @@ use ing_flush::FlusherTally;
 use ing_limits::Settings;
 use ing_node::{Answer, CloseFault, Ingester, NodeName, Pusher, Report, Shards};
 use ing_refusals::Refusal;
+use ing_tally::Counts;
 use std::alloc::{AllocError, Global};
 use std::marker::Brand;
+use std::rt::Clock;
 use std::sync::Wait;
 use std::thread::{Threads, for_each_mut};
 
@@ -24,6 +26,8 @@ pub struct Life {
     pub answer: Answer,
     /// What the hands were told of each shard, by number.
     pub told: Vec<u64>,
+    /// What each shard counts, read without a lock once the hands were done, by number.
+    pub board: Vec<Counts>,
     /// What the hands have done.
     pub done: Done,
     /// What the close reports.
@@ -44,6 +48,7 @@ impl Life {
         if self.report.shards.len() != self.told.len() {
             return Err(LifeFault::Report);
         }
+        self.check_board()?;
         let (mut accepted, mut stored) = (0u64, 0u64);
         for (shard, told) in self.report.shards.iter().zip(&self.told) {
             if shard.accepted != *told
@@ -54,7 +59,7 @@ impl Life {
             accepted = accepted.saturating_add(shard.accepted);
             stored = stored.saturating_add(shard.stored);
         }
-        if accepted != self.done.accepted || stored != self.done.stored {
+        if accepted != self.done.accepted || !self.has_stored(stored) {
             return Err(LifeFault::Report);
         }
         if self.answer.entries.len() as u64 != accepted {
@@ -63,9 +68,31 @@ impl Life {
         self.check_refused()
     }
 
+    /// Whether so many entries may be stored: as many as the hands counted, and an entry at least more for each chunk whose entries
+    /// were not.
+    fn has_stored(&self, stored: u64) -> bool {
+        match self.done.queued {
+            0 => stored == self.done.stored,
+            queued => stored >= self.done.stored.saturating_add(queued),
+        }
+    }
+
+    /// Whether what is read of each shard without a lock is what is reported of it.
+    fn check_board(&self) -> Result<(), LifeFault> {
+        if self.board.len() != self.report.shards.len() {
+            return Err(LifeFault::Board);
+        }
+        for (counts, shard) in self.board.iter().zip(&self.report.shards) {
+            if counts.accepted != shard.accepted || counts.stored != shard.stored {
+                return Err(LifeFault::Board);
+            }
+        }
+        Ok(())
+    }
+
     /// Whether the close over an end that gives no bytes was refused exactly where a stored entry had to be read for the diaries.
     fn check_refused(&self) -> Result<(), LifeFault> {
-        let reads = self.diaries && self.done.stored > 0;
+        let reads = self.diaries && self.done.chunks > 0;
         match self.refused {
             Some(Refusal::StoreFault) if reads => Ok(()),
             None if !reads => Ok(()),
@@ -83,7 +110,7 @@ struct Parts<N: NodeName> {
 
 /// A life of an ingester with these settings: each hand works in a thread of its own, of at most so many, then one asks for all
 /// entries, and the ingester is closed. Of each call that memory is refused to it tries a second.
-pub fn live<W: Threads + Wait + Sync>(
+pub fn live<W: Threads + Wait + Sync + Clock>(
     rt: &W,
     alloc: Global,
     settings: &str,
@@ -104,7 +131,7 @@ pub fn fresh(alloc: Global, settings: &str) -> Result<Shards<Object>, LifeFault>
     Ok(Shards::fresh(alloc, Settings::from_toml(alloc, settings)?)?)
 }
 
-fn whole_life<N: NodeName + Send + Sync, W: Threads + Wait + Sync>(
+fn whole_life<N: NodeName + Send + Sync, W: Threads + Wait + Sync + Clock>(
     rt: &W,
     alloc: Global,
     shards: Shards<Object>,
@@ -115,10 +142,18 @@ fn whole_life<N: NodeName + Send + Sync, W: Threads + Wait + Sync>(
     requires named { AreNamed N.books shards.shards.items }
     requires threads { 0 < threads }
 {
-    let count = shards.settings().shards();
+    let settings = match settings_of(&shards) {
+        Ok(settings) => settings,
+        Err(fault) => {
+            shards.abandon();
+            return Err(fault);
+        }
+    };
+    let count = settings.shards();
     let node: Ingester<N, Object> = opened(alloc, shards)?;
-    let mut hands = hands_of(rt, alloc, &node, count, plans)?;
+    let mut hands = hands_of(rt, alloc, &settings, &node, plans)?;
     work(rt, alloc, &node, hands.as_mut_slice(), threads);
+    let board = board(alloc, &mut hands);
     let found = found(rt, alloc, &node, &mut hands);
     let told = told(alloc, count, &hands);
     let done = all_done(&hands);
@@ -126,6 +161,7 @@ fn whole_life<N: NodeName + Send + Sync, W: Threads + Wait + Sync>(
     Ok(Life {
         answer: found?,
         told: told?,
+        board: board?,
         done,
         report,
         refused,
@@ -133,8 +169,18 @@ fn whole_life<N: NodeName + Send + Sync, W: Threads + Wait + Sync>(
     })
 }
 
+/// A copy of the settings of shards.
+pub fn settings_of(shards: &Shards<Object>) -> Result<Settings, LifeFault>
+    ensures { IfOk result (λ settings. settings ≡ shards.now.settings) }
+{
+    match shards.settings().try_clone() {
+        Ok(settings) => Ok(settings),
+        Err(AllocError) => Ok(shards.settings().try_clone()?),
+    }
+}
+
 /// The ingester of these shards.
-pub fn opened<N: NodeName>(
+pub fn opened<N: NodeName + Send + Sync>(
     alloc: Global,
     shards: Shards<Object>,
 ) -> Result<Ingester<N, Object>, LifeFault>
@@ -166,20 +212,20 @@ fn room<T>(alloc: Global, count: usize) -> Result<Vec<T>, AllocError>
 }
 
 /// The hands of an ingester, one for each plan.
-pub fn hands_of<N: NodeName, W: Wait>(
+pub fn hands_of<N: NodeName + Send + Sync, W: Wait>(
     rt: &W,
     alloc: Global,
+    settings: &Settings,
     node: &Ingester<N, Object>,
-    shards: u32,
     plans: &[Plan],
 ) -> Result<Vec<Hand<N>>, LifeFault>
-    requires { shards ≡ N.settings.shards }
+    requires { settings.now ≡ N.settings }
 {
     let mut hands = room(alloc, plans.len())?;
     while hands.len() < plans.len() {
         let plan = plans[hands.len()];
-        let hand = match Hand::new(rt, alloc, node, shards, plan) {
-            Err(LifeFault::NoMemory) => Hand::new(rt, alloc, node, shards, plan),
+        let hand = match Hand::new(rt, alloc, settings, node, plan) {
+            Err(LifeFault::NoMemory) => Hand::new(rt, alloc, settings, node, plan),
             hand => hand,
         };
         match hand {
@@ -194,7 +240,7 @@ pub fn hands_of<N: NodeName, W: Wait>(
 }
 
 /// Gives the shares of all hands up.
-fn strand_all<N: NodeName>(mut hands: Vec<Hand<N>>) {
+fn strand_all<N: NodeName + Send + Sync>(mut hands: Vec<Hand<N>>) {
     while let Some(hand) = hands.pop() {
         hand.strand();
     }
@@ -202,7 +248,7 @@ fn strand_all<N: NodeName>(mut hands: Vec<Hand<N>>) {
 }
 
 /// Each hand works, in at most so many threads.
-pub fn work<N: NodeName + Send + Sync, W: Threads + Wait + Sync>(
+pub fn work<N: NodeName + Send + Sync, W: Threads + Wait + Sync + Clock>(
     rt: &W,
     alloc: Global,
     node: &Ingester<N, Object>,
@@ -216,7 +262,7 @@ pub fn work<N: NodeName + Send + Sync, W: Threads + Wait + Sync>(
 }
 
 /// What one of the hands finds.
-fn found<N: NodeName, W: Wait>(
+fn found<N: NodeName + Send + Sync, W: Wait>(
     rt: &W,
     alloc: Global,
     node: &Ingester<N, Object>,
@@ -229,8 +275,24 @@ fn found<N: NodeName, W: Wait>(
     }
 }
 
+/// What one of the hands reads of each shard without a lock.
+fn board<N: NodeName + Send + Sync>(
+    alloc: Global,
+    hands: &mut Vec<Hand<N>>,
+) -> Result<Vec<Counts>, LifeFault> {
+    let hand = hands.first_mut().ok_or(LifeFault::Text)?;
+    match hand.board(alloc) {
+        Err(LifeFault::NoMemory) => hand.board(alloc),
+        board => board,
+    }
+}
+
 /// What the hands were told of each shard.
-fn told<N: NodeName>(alloc: Global, shards: u32, hands: &[Hand<N>]) -> Result<Vec<u64>, LifeFault> {
+fn told<N: NodeName + Send + Sync>(
+    alloc: Global,
+    shards: u32,
+    hands: &[Hand<N>],
+) -> Result<Vec<u64>, LifeFault> {
     let mut told = match Vec::from_elem(alloc, 0, shards as usize) {
         Ok(told) => told,
         Err(AllocError) => Vec::from_elem(alloc, 0, shards as usize)?,
@@ -242,7 +304,7 @@ fn told<N: NodeName>(alloc: Global, shards: u32, hands: &[Hand<N>]) -> Result<Ve
 }
 
 /// What the hands have done.
-pub fn all_done<N: NodeName>(hands: &[Hand<N>]) -> Done {
+pub fn all_done<N: NodeName + Send + Sync>(hands: &[Hand<N>]) -> Done {
     let mut done = Done::default();
     for hand in hands {
         done.add(hand.done());
@@ -252,7 +314,7 @@ pub fn all_done<N: NodeName>(hands: &[Hand<N>]) -> Done {
 
 /// Closes the ingester with all of its hands: first over an end of the store that gives no bytes, and where that is refused, over a
 /// good one. Why the first was refused stands beside the report.
-pub fn closed<N: NodeName>(
+pub fn closed<N: NodeName + Send + Sync>(
     alloc: Global,
     node: Ingester<N, Object>,
     hands: Vec<Hand<N>>,
@@ -265,7 +327,7 @@ pub fn closed<N: NodeName>(
 }
 
 /// Closes over a good end what a close gave back.
-fn closed_again<N: NodeName>(
+fn closed_again<N: NodeName + Send + Sync>(
     alloc: Global,
     fault: CloseFault<N, Object>,
 ) -> Result<(Report, Option<Refusal>), LifeFault>
@@ -285,7 +347,7 @@ fn closed_again<N: NodeName>(
 }
 
 /// Closes over an end; once more where memory was refused.
-fn closed_over<N: NodeName>(
+fn closed_over<N: NodeName + Send + Sync>(
     alloc: Global,
     end: &mut KeptEnd,
     node: Ingester<N, Object>,
@@ -312,7 +374,7 @@ fn closed_over<N: NodeName>(
 }
 
 /// Gives up what a close gave back, and says why it was refused.
-fn given_up<N: NodeName>(fault: CloseFault<N, Object>) -> LifeFault {
+fn given_up<N: NodeName + Send + Sync>(fault: CloseFault<N, Object>) -> LifeFault {
     let CloseFault {
         why,
         ingester,
@@ -324,20 +386,26 @@ fn given_up<N: NodeName>(fault: CloseFault<N, Object>) -> LifeFault {
 }
 
 /// The parts of all hands.
-fn parted<N: NodeName>(alloc: Global, mut hands: Vec<Hand<N>>) -> Result<Parts<N>, LifeFault> {
+fn parted<N: NodeName + Send + Sync>(
+    alloc: Global,
+    mut hands: Vec<Hand<N>>,
+) -> Result<Parts<N>, LifeFault> {
     let Ok(mut pushers) = room(alloc, hands.len()) else {
         strand_all(hands);
         return Err(LifeFault::NoMemory);
     };
-    let Ok(mut tallies) = room(alloc, hands.len()) else {
+    let Ok(mut tallies) = room(alloc, hands.len().saturating_mul(3)) else {
         strand_all(hands);
         pushers.destroy_empty();
         return Err(LifeFault::NoMemory);
     };
     while let Some(hand) = hands.pop() {
-        let (pusher, tally) = hand.into_parts();
+        let (pusher, tally, sweeping) = hand.into_parts();
         pushers.push_reserved(pusher);
         tallies.push_reserved(tally);
+        if let Some(sweeping) = sweeping {
+            sweeping.into_tallies(&mut tallies);
+        }
     }
     hands.destroy_empty();
     Ok(Parts { pushers, tallies })

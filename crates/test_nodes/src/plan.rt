@@ -12,10 +12,29 @@ pub enum Task {
     Push,
     /// Seals what grows in each shard, and flushes all that waits there.
     Flush,
+    /// The same, until so many entries are accepted.
+    FlushUntil {
+        /// How many.
+        accepted: u64,
+    },
     /// Seals what grows, or what is due, in a shard by lot, and flushes all that waits there.
     FlushOne,
+    /// Seals what grows, or what is due, in all shards by lot, and works the flush queue off with flushers side by side.
+    Sweep,
     /// Asks for all entries.
     Query,
+    /// Reads what each shard counts, without a lock.
+    Read,
+    /// The same, so many times in each turn.
+    ReadOften {
+        /// How many times.
+        times: u64,
+    },
+    /// Asks each shard for its gauges under its lock, so many times in each turn.
+    AskOften {
+        /// How many times.
+        times: u64,
+    },
     /// Pushes one entry of 120 bytes, to each of its streams in turn: of a thousand those from this number on, each so many.
     Load {
         /// The number of the first.
@@ -38,6 +57,8 @@ pub struct Plan {
     pub odds: u64,
     /// Whether it keeps a diary.
     pub diary: bool,
+    /// Whether it notes how long each turn takes.
+    pub timed: bool,
 }
 
 /// The label value of each stream, which its counted lines begin with.

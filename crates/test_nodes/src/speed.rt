@@ -3,7 +3,7 @@ ghost use Rattle.std.specs.Prelude.{◌≡◌, ◌<◌};
 ghost use Rattle.ing_node.specs.Names.{AreNamed};
 
 use crate::kept_end::Object;
-use crate::life::{all_done, closed, fresh, hands_of, opened, work};
+use crate::life::{all_done, closed, fresh, hands_of, opened, settings_of, work};
 use crate::plan::{Plan, Task};
 use anyhow::{Result, bail};
 use ing_node::{Ingester, NodeName, Shards};
@@ -66,6 +66,7 @@ fn loads(alloc: Global, threads: usize, entries: u64) -> Result<Vec<Plan>, Alloc
             lots: 0,
             odds: 0,
             diary: false,
+            timed: false,
         })?;
     }
     Ok(plans)
@@ -81,9 +82,15 @@ fn load<N: NodeName + Send + Sync, R: Threads + Wait + Sync + Clock>(
     requires settings { shards.settings ≡ N.settings }
     requires named { AreNamed N.books shards.shards.items }
 {
-    let count = shards.settings().shards();
+    let settings = match settings_of(&shards) {
+        Ok(settings) => settings,
+        Err(fault) => {
+            shards.abandon();
+            return Err(fault.into());
+        }
+    };
     let node: Ingester<N, Object> = opened(alloc, shards)?;
-    let mut hands = hands_of(rt, alloc, &node, count, plans)?;
+    let mut hands = hands_of(rt, alloc, &settings, &node, plans)?;
     let start = Instant::now(rt);
     work(rt, alloc, &node, hands.as_mut_slice(), plans.len().max(1));
     let end = Instant::now(rt);

@@ -12,9 +12,9 @@ use std::sync::Wait;
 use std::thread::Threads;
 use std::time::Instant;
 
-/// Three shards, small blocks and chunks, short times, and at most two entries a push.
+/// Three shards, a short queue, small blocks and chunks, and short times.
 const SETTINGS: &str =
-    "shards = 3\nchunk_block_size = 40\nchunk_target_size = 100\nchunk_idle_period = \"12ns\"\nmax_chunk_age = \"40ns\"\nmax_line_size = 5\n";
+    "shards = 3\nflush_queue_length = 4\nchunk_block_size = 40\nchunk_target_size = 100\nchunk_idle_period = \"12ns\"\nmax_chunk_age = \"40ns\"\nmax_line_size = 5\n";
 
 /// What is printed.
 #[derive(Clone, Copy, Debug, PartialEq, Eq)]
@@ -44,24 +44,26 @@ pub fn stress<R: AllocGlobal + Threads + Wait + Sync + Clock + Print>(
         pushed,
         accepted,
         chunks,
+        queued,
         stored,
         failed,
         nothing,
         queries,
+        readings,
         fault: _,
     } = all;
     println!(rt; "{rounds} lives of {hands} hands, {pushed} entries pushed, every life closed")?;
     if show == Show::All {
         let seconds = start.elapsed(rt)?.as_secs();
         println!(rt;
-            "accepted {accepted}, stored {stored} in {chunks} chunks, flushes failed {failed}, came late {nothing}, queries {queries}, seconds {seconds}"
+            "accepted {accepted}, {chunks} chunks stored, {queued} of them by the queue, {stored} entries in the others, flushes failed {failed}, came late {nothing}, queries {queries}, readings {readings}, seconds {seconds}"
         )?;
     }
     Ok(())
 }
 
 /// What was done in a life, which closed with what was counted.
-fn lived<R: Threads + Wait + Sync>(
+fn lived<R: Threads + Wait + Sync + Clock>(
     rt: &R,
     alloc: Global,
     plans: &[Plan],
@@ -71,13 +73,21 @@ fn lived<R: Threads + Wait + Sync>(
     Ok(life.done)
 }
 
-/// The plans of the hands of a life: one to three that push, one or two that flush, and one that queries.
+/// The plans of the hands of a life: one to three that push, one or two that flush, one that queries, one that sweeps into a queue
+/// which two flushers work off, and one that reads the counts without a lock.
 fn drawn(alloc: Global, round: u64) -> Result<Vec<Plan>, AllocError> {
     let mut lots = Lots::of(round);
     let mut plans = Vec::new(alloc);
     let odds = lots.below(6);
     let diary = lots.below(2) == 0;
-    for (task, most) in [(Task::Push, 3), (Task::FlushOne, 2), (Task::Query, 1)] {
+    let tasks = [
+        (Task::Push, 3),
+        (Task::FlushOne, 2),
+        (Task::Query, 1),
+        (Task::Sweep, 1),
+        (Task::Read, 1),
+    ];
+    for (task, most) in tasks {
         for _ in 0..=lots.below(most) {
             plans.push(Plan {
                 task,
@@ -85,6 +95,7 @@ fn drawn(alloc: Global, round: u64) -> Result<Vec<Plan>, AllocError> {
                 lots: lots.below(1 << 40),
                 odds,
                 diary,
+                timed: false,
             })?;
         }
     }

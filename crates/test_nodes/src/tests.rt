@@ -1,4 +1,4 @@
-//! Two who push beside one who flushes, and refused allocations.
+//! Two who push beside one who flushes and one who reads the counts, and refused allocations.
 use crate::life::live;
 use crate::plan::{Plan, STREAMS, Task};
 use std::process::Abort;
@@ -14,11 +14,12 @@ fn plan(task: Task, turns: u64) -> Plan {
         lots: 0,
         odds: 0,
         diary: true,
+        timed: false,
     }
 }
 
-/// Whichever thread comes first: what both pushed is found in the order of its stamps, all of it is accepted, and each entry is
-/// stored or kept.
+/// Whichever thread comes first: what both pushed is found in the order of its stamps, all of it is accepted, each entry is stored
+/// or kept, and what is read without a lock is never less than who reads was told.
 #[test]
 fn two_push_beside_one_who_flushes(rt: HostRuntime) -> Result<(), Fail> {
     let alloc = rt.alloc();
@@ -26,8 +27,9 @@ fn two_push_beside_one_who_flushes(rt: HostRuntime) -> Result<(), Fail> {
         plan(Task::Count { stream: 0 }, 200),
         plan(Task::Count { stream: 1 }, 200),
         plan(Task::Flush, 200),
+        plan(Task::Read, 1000),
     ];
-    let life = live(&rt, alloc, SETTINGS, &plans, 3)?;
+    let life = live(&rt, alloc, SETTINGS, &plans, 4)?;
     life.check()?;
     let mut lines = Vec::new(alloc);
     for number in 0..200 {
@@ -40,6 +42,7 @@ fn two_push_beside_one_who_flushes(rt: HostRuntime) -> Result<(), Fail> {
         assert_eq!(rt; found.entry.line.as_str(), line.as_str());
     }
     assert_eq!(rt; life.done.accepted, 400);
+    assert_eq!(rt; life.done.readings, 3 * (1000 + 400));
     Ok(())
 }
 

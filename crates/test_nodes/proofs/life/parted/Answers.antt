@@ -13,3 +13,9 @@ loop-hand-preserved g c =
       pushers = search rules;
       tallies = search rules;
     }
+
+pub into_tallies-requires-clause-own : goal.into_tallies-requires-clause-own
+into_tallies-requires-clause-own g c =
+    let P = IsTallyOf g.N.NodeName.settings.shards g.N.NodeName.books in
+    let own = All-push P c.loop-hand.tallies.items c.into_parts-pusher.result.1 c.loop-hand.invariant.own c.into_parts-pusher.ensures in
+    rw c.push_reserved-in-Some.ensures.items own
