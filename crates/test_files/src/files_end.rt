@@ -1,11 +1,11 @@
 //! An end of a store over files.
-ghost use Rattle.std.specs.Prelude.{◌≡◌, ◌≤◌};
+ghost use Rattle.std.specs.Prelude.{◌≡◌, ◌≤◌, IfOk};
 ghost use Rattle.ing_refusals.specs.Failures.{HasFailed};
 ghost use Rattle.ing_store.specs.StoreFaults.{IsCounted};
 
 use crate::files::{FileFault, Files};
 use ing_store::{DigestReceipt, StoreEnd, StoreFault};
-use std::alloc::Global;
+use std::alloc::{AllocError, Global};
 use std::borrow::CowSlice;
 use std::marker::Model;
 
@@ -54,6 +54,19 @@ impl<F: Files> FilesEnd<F> {
             }
         }
     }
+}
+
+/// What was read of a file, behind the receipt that means it.
+fn with_receipt(
+    alloc: Global,
+    name: &str,
+    bytes: Vec<u8>,
+) -> Result<(DigestReceipt, Vec<u8>), AllocError>
+    ensures name { IfOk result (λ f. f.0.name ≡ name.now) }
+    ensures bytes { IfOk result (λ f. f.0.bytes ≡ f.1.items) }
+{
+    let receipt = DigestReceipt::of(alloc, name, &bytes)?;
+    Ok((receipt, bytes))
 }
 
 impl<F: Files> StoreEnd for FilesEnd<F> {
@@ -119,7 +132,7 @@ impl<F: Files> StoreEnd for FilesEnd<F> {
     ) -> Result<Option<(DigestReceipt, Vec<u8>)>, StoreFault> {
         match self.read(alloc, name)? {
             Some(bytes) => {
-                let receipt = DigestReceipt::of(alloc, name, &bytes)?;
+                let (receipt, bytes) = with_receipt(alloc, name, bytes)?;
                 Ok(Some((receipt, bytes)))
             }
             None => Ok(None),

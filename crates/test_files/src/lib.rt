@@ -1,4 +1,4 @@
-//! Tests alone: an end of a store over files that may be damaged behind its back, and what is said of a stored chunk over it.
+//! Tests alone: an end of a store over files that may be damaged behind its back. `test_shards` stores chunks there.
 #![tactic(auto)]
 
 #[cfg(test)]

@@ -1,10 +1,10 @@
 //! A shard whose books are gathered once all of their shares are there.
 ghost use Rattle.std.specs.Prelude.{◌≡◌, ◌∷◌, [], IfOk};
-ghost use Rattle.ing_shard.specs.Contents.{AreSharesOf};
+ghost use Rattle.ing_tally.specs.Books.{AreOf};
 
-use crate::flushes::Owned;
+use crate::owned::Owned;
 use ing_shard::{Gathered, Missing, Shard};
-use ing_store::{Fuse, MemoryReceipt, MemoryStore};
+use ing_store::{Fuse, MemoryReceipt, MemoryStore, Receipt};
 use ing_tally::{Share, strand_each};
 use std::alloc::{AllocError, Global};
 use std::process::Abort;
@@ -31,28 +31,32 @@ const MISSING: [Missing; 3] = [
     },
 ];
 
+/// Stores the chunk that waits: what is missing before and after.
+fn store_one<'a, R: Wait + Abort>(
+    rt: &'a R,
+    alloc: Global,
+    store: &'a MemoryStore,
+    one: &mut Owned<MemoryReceipt<'a>>,
+) -> Result<[Missing; 3], Fail> {
+    let ticket = one.claim(rt, alloc)?;
+    let flying = one.shard.missing(1, 1);
+    let without = one.shard.missing(0, 1);
+    one.store(alloc, &mut store.end(rt, Fuse::None), ticket, &mut 0)?;
+    Ok([flying, without, one.shard.missing(1, 1)])
+}
+
 /// Pushes three entries, of which one is refused, and stores their chunk; then pushes one more.
 fn work<'a, R: Wait + Abort>(
     rt: &'a R,
     alloc: Global,
     store: &'a MemoryStore,
-    one: &mut Owned<'a>,
-    pushing: &mut Share,
-    tally: &mut Share,
-) -> Result<[Missing; 3], Fail>
-    requires { AreSharesOf one.old.shard.books pushing.old tally.old }
-    ensures { AreSharesOf one.new.shard.books pushing.new tally.new }
-{
-    let pairs = [("a", "1")];
-    one.push_told(alloc, pushing, &pairs, &[(5, "x"), (5, "x"), (3, "yz")])??;
-    one.shard.seal_all(alloc)?;
-    let ticket = one.claim(rt, alloc)?;
-    let flying = one.shard.missing(1, 1);
-    let without = one.shard.missing(0, 1);
-    one.store_told(alloc, &mut store.end(rt, Fuse::None), ticket, &mut 0, tally)?;
-    let stored = one.shard.missing(1, 1);
-    one.push_told(alloc, pushing, &pairs, &[(6, "kept")])??;
-    Ok([flying, without, stored])
+    one: &mut Owned<MemoryReceipt<'a>>,
+) -> Result<[Missing; 3], Fail> {
+    one.push(alloc, &[("a", "1")], &[(5, "x"), (5, "x"), (3, "yz")])??;
+    one.seal_all(alloc)?;
+    let missing = store_one(rt, alloc, store, one)?;
+    one.push(alloc, &[("a", "1")], &[(6, "kept")])??;
+    Ok(missing)
 }
 
 /// A list of one share.
@@ -67,53 +71,73 @@ fn alone(alloc: Global, share: Share) -> Result<Vec<Share>, AllocError>
     Ok(shares)
 }
 
-/// What the books of a shard have with these two shares.
-fn gathered(
+/// A list of each of two shares.
+fn apart(
     alloc: Global,
-    shard: Shard<MemoryReceipt<'_>>,
     pushing: Share,
     tally: Share,
-) -> Result<Gathered, Fail>
-    requires { AreSharesOf shard.books pushing tally }
+) -> Result<(Vec<Share>, Vec<Share>), AllocError>
+    ensures { IfOk result (λ two. (two.0.items ≡ pushing ∷ []) × (two.1.items ≡ tally ∷ [])) }
 {
     let Ok(pushes) = alone(alloc, pushing) else {
         let _ = tally.strand();
-        return Err(AllocError.into());
+        return Err(AllocError);
     };
     let Ok(tallies) = alone(alloc, tally) else {
         strand_each(pushes);
-        return Err(AllocError.into());
+        return Err(AllocError);
     };
+    Ok((pushes, tallies))
+}
+
+/// What the books of a shard have with these shares; nothing where shares are missing.
+fn whole<R: Receipt>(shard: Shard<R>, pushes: Vec<Share>, tallies: Vec<Share>) -> Option<Gathered>
+    requires pushes { AreOf shard.books.accepted.name pushes.items }
+    requires tallies { AreOf shard.books.stored.name tallies.items }
+{
     match shard.gather_books(pushes, tallies) {
-        Ok(whole) => Ok(whole),
+        Ok(whole) => Some(whole),
         Err((_, pushes, tallies, _)) => {
             strand_each(pushes);
             strand_each(tallies);
-            Err("shares are missing".into())
+            None
+        }
+    }
+}
+
+/// What the books of a shard have with its shares.
+fn gathered<R: Receipt>(alloc: Global, one: Owned<R>) -> Result<Gathered, Fail> {
+    let Owned {
+        shard,
+        tenant: _,
+        pushing,
+        tally,
+    } = one;
+    let (pushes, tallies) = apart(alloc, pushing, tally)?;
+    Ok(whole(shard, pushes, tallies).ok_or("shares are missing")?)
+}
+
+/// What was missing, and what was gathered in the end.
+fn told<'a, R: Wait + Abort>(
+    rt: &'a R,
+    alloc: Global,
+    store: &'a MemoryStore,
+) -> Result<([Missing; 3], Gathered), Fail> {
+    let mut one = Owned::fresh(alloc, "t", "", 0)?;
+    match work(rt, alloc, store, &mut one) {
+        Ok(missing) => Ok((missing, gathered(alloc, one)?)),
+        Err(fault) => {
+            one.put_away();
+            Err(fault)
         }
     }
 }
 
 #[test]
 fn books_are_gathered(rt: HostRuntime) -> Result<(), Fail> {
-    let alloc = rt.alloc();
-    let store = MemoryStore::new(alloc)?;
-    let mut one = Owned::fresh(alloc, "t", "")?;
-    let mut pushing = one.shard.push_share()?;
-    let Ok(mut tally) = one.shard.tally_share() else {
-        let _ = pushing.strand();
-        return Err("a share".into());
-    };
-    match work(&rt, alloc, &store, &mut one, &mut pushing, &mut tally) {
-        Ok(missing) => {
-            let whole = gathered(alloc, one.shard, pushing, tally)?;
-            assert_eq!(rt; missing, MISSING);
-            assert!(rt; whole.accepted == 3 && whole.stored == 2);
-            Ok(())
-        }
-        Err(fault) => {
-            let _ = (pushing.strand(), tally.strand());
-            Err(fault)
-        }
-    }
+    let store = MemoryStore::new(rt.alloc())?;
+    let (missing, whole) = told(&rt, rt.alloc(), &store)?;
+    assert!(rt; missing == MISSING);
+    assert!(rt; whole.accepted == 3 && whole.stored == 2);
+    Ok(())
 }

@@ -1,8 +1,8 @@
 //! Worlds that were worked out, and what they answer.
-use crate::flushes::{LIMITS, stamp};
+use crate::owned::{LIMITS, stamp};
+use crate::queries::ALL;
 use ing_labels::{Labels, Selector};
 use ing_limits::Settings;
-use ing_parts::{Order, Question};
 use ing_postings::StreamNo;
 use ing_rows::{Entry, Gauges, Line, Tenant};
 use ing_store::MemoryStore;
@@ -13,9 +13,6 @@ use std::alloc::Global;
 use std::process::Abort;
 use std::sync::Wait;
 use std::test::Fail;
-
-/// Above each stamp.
-const END: u64 = 0x8000_0000_0000_0000;
 
 /// What happens: an entry is pushed at this time, with a line of one byte; the stream of this number is claimed; the others
 /// as their names say.
@@ -31,7 +28,7 @@ enum Act {
 }
 
 /// What is answered: of pushes how many verdicts there are, of queries how many entries are found.
-#[derive(Clone, Copy, Debug, PartialEq, Eq)]
+#[derive(Clone, Copy, PartialEq, Eq)]
 enum Told {
     Pushed(usize),
     Refused,
@@ -89,19 +86,40 @@ const STORED_YET_FAILED: [(Act, Told); 14] = [
     (Act::Finish(1), Told::Nothing),
 ];
 
+/// The push of one entry with a line of one byte, at this time.
+fn push_at(alloc: Global, time: u64) -> Result<WorldEvent, Fail> {
+    let tenant = Tenant::of_text(alloc, "t")?;
+    let labels = Labels::of_pairs(alloc, &[("a", "1")], &LIMITS)?;
+    let now = stamp(time)?;
+    let entry = Entry {
+        stamp: now,
+        line: Line::of_text(alloc, "x")?,
+    };
+    let mut entries = Vec::new(alloc);
+    entries.push(entry)?;
+    Ok(WorldEvent::Push {
+        tenant,
+        labels,
+        entries,
+        now,
+    })
+}
+
+/// A query of everything.
+fn query(alloc: Global) -> Result<WorldEvent, Fail> {
+    let tenant = Tenant::of_text(alloc, "t")?;
+    let selector = Selector::parse(alloc, "{a=\"1\"}")?;
+    Ok(WorldEvent::Query {
+        tenant,
+        selector,
+        question: ALL,
+    })
+}
+
 fn event_of(alloc: Global, act: Act) -> Result<WorldEvent, Fail> {
     Ok(match act {
-        Act::Push(time) => WorldEvent::Push {
-            tenant: Tenant::of_text(alloc, "t")?,
-            labels: Labels::of_pairs(alloc, &[("a", "1")], &LIMITS)?,
-            entries: vec![in alloc;
-                Entry {
-                    stamp: stamp(time)?,
-                    line: Line::of_text(alloc, "x")?,
-                },
-            ]?,
-            now: stamp(time)?,
-        },
+        Act::Push(time) => return push_at(alloc, time),
+        Act::Query => return query(alloc),
         Act::SealAll => WorldEvent::SealAll,
         Act::Claim(stream) => WorldEvent::Claim {
             stream: StreamNo::new(stream),
@@ -113,17 +131,16 @@ fn event_of(alloc: Global, act: Act) -> Result<WorldEvent, Fail> {
         },
         Act::Finish(ticket) => WorldEvent::Finish { ticket },
         Act::GiveBack(ticket) => WorldEvent::GiveBack { ticket },
-        Act::Query => WorldEvent::Query {
-            tenant: Tenant::of_text(alloc, "t")?,
-            selector: Selector::parse(alloc, "{a=\"1\"}")?,
-            question: Question {
-                start: 0,
-                end: END,
-                order: Order::Forward,
-                limit: 100,
-            },
-        },
     })
+}
+
+/// The events of rows.
+fn events_of(alloc: Global, rows: &[(Act, Told)]) -> Result<Vec<WorldEvent>, Fail> {
+    let mut events = Vec::new(alloc);
+    for (act, _) in rows {
+        events.push(event_of(alloc, *act)?)?;
+    }
+    Ok(events)
 }
 
 fn told_of(reply: &Reply) -> Told {
@@ -141,43 +158,47 @@ fn told_of(reply: &Reply) -> Told {
     }
 }
 
-/// What is answered to these acts, and the gauges in the end.
-fn run<R: Wait>(rt: &R, alloc: Global, acts: &[Act]) -> Result<(Vec<Told>, Gauges), Fail> {
+/// What is answered to these events over an empty store, and the gauges in the end.
+fn run<R: Wait>(
+    rt: &R,
+    alloc: Global,
+    store: &MemoryStore,
+    settings: Settings,
+    events: &[WorldEvent],
+) -> Result<(Vec<Reply>, Gauges), Fail> {
     let tenant = Tenant::of_text(alloc, "t")?;
-    let store = MemoryStore::new(alloc)?;
-    let mut events = Vec::new(alloc);
-    for act in acts {
-        events.push(event_of(alloc, *act)?)?;
-    }
-    if !names_are_short(&events) {
+    if !names_are_short(events) {
         return Err("short names".into());
     }
-    let settings = Settings::from_toml(alloc, "")?;
     if settings.shards() != 1 {
         return Err("one shard".into());
     }
-    let (world, replies) = run_world(rt, alloc, &store, settings, &events)?;
+    let (world, replies) = run_world(rt, alloc, store, settings, events)?;
     let gauges = world.gauges(&tenant);
     world.put_away();
-    let mut told = Vec::new(alloc);
-    for reply in &replies {
-        told.push(told_of(reply))?;
+    Ok((replies, gauges))
+}
+
+/// Each reply is the one of its row.
+fn are_told(rt: &impl Abort, replies: &[Reply], rows: &[(Act, Told)]) {
+    for (at, (_, wanted)) in rows.iter().enumerate() {
+        assert!(rt; replies.get(at).map(told_of) == Some(*wanted), "{at}");
     }
-    Ok((told, gauges))
+}
+
+/// Each reply is the one of its row, and one entry is stored in the end.
+fn answers<R: Wait + Abort>(rt: &R, alloc: Global, rows: &[(Act, Told)]) -> Result<(), Fail> {
+    let events = events_of(alloc, rows)?;
+    let store = MemoryStore::new(alloc)?;
+    let settings = Settings::from_toml(alloc, "")?;
+    let (replies, gauges) = run(rt, alloc, &store, settings, &events)?;
+    are_told(rt, &replies, rows);
+    assert!(rt; gauges.stored.entries == 1 && gauges.streams == 0);
+    Ok(())
 }
 
 #[test]
 fn worlds_answer_as_they_were_worked_out(rt: HostRuntime) -> Result<(), Fail> {
-    for rows in [&ALWAYS_FOUND[..], &STORED_YET_FAILED[..]] {
-        let mut acts = Vec::new(rt.alloc());
-        for (act, _) in rows {
-            acts.push(*act)?;
-        }
-        let (told, gauges) = run(&rt, rt.alloc(), &acts)?;
-        for (at, (_, wanted)) in rows.iter().enumerate() {
-            assert_eq!(rt; told.get(at), Some(wanted), "{at}");
-        }
-        assert_eq!(rt; (gauges.stored.entries, gauges.streams), (1, 0));
-    }
-    Ok(())
+    answers(&rt, rt.alloc(), &ALWAYS_FOUND)?;
+    answers(&rt, rt.alloc(), &STORED_YET_FAILED)
 }
