@@ -80,15 +80,15 @@ fn is_refused<'a, R: Wait + Abort>(
     one.seal_one(alloc)?;
     let ticket = one.claim(rt, alloc)?;
     let before = (one.counts(), other.counts());
-    let mut end = store.end(rt, Fuse::None);
-    let named = comes_back(alloc, &mut end, one, other, ticket, is_finished)?;
+    let named = comes_back(rt, alloc, store, one, other, ticket, is_finished)?;
     Ok(named && (one.counts(), other.counts()) == before)
 }
 
 /// Whether what comes back from the other shard is the ticket of this one, with what was uploaded where it is finished.
-fn comes_back<'a, S: StoreEnd<Receipt = MemoryReceipt<'a>>>(
+fn comes_back<'a, R: Wait>(
+    rt: &'a R,
     alloc: Global,
-    end: &mut S,
+    store: &'a MemoryStore,
     one: &mut Owned<MemoryReceipt<'a>>,
     other: &mut Owned<MemoryReceipt<'a>>,
     ticket: Ticket,
@@ -98,7 +98,8 @@ fn comes_back<'a, S: StoreEnd<Receipt = MemoryReceipt<'a>>>(
     ensures { other.new.shard.books.flight.name ≡ other.old.shard.books.flight.name }
 {
     if is_finished {
-        match stranger_to(alloc, end, one, other, ticket)? {
+        let mut end = store.end(rt, Fuse::None);
+        match stranger_to(alloc, &mut end, one, other, ticket)? {
             Some(stranger) => Ok(is_uploaded(&stranger)),
             None => Ok(false),
         }
