@@ -73,7 +73,7 @@ fn show<R: AllocGlobal + Print>(rt: &R, what: &str, by: u64, times: &[u64]) -> R
     let mut sorted = times.to_vec(rt.alloc())?;
     sorted.sort()?;
     let at = |part: usize| -> u64 {
-        let place = sorted.len().saturating_sub(1) / 100 * part;
+        let place = sorted.len().saturating_sub(1).saturating_mul(part) / 100;
         sorted.get(place).copied().unwrap_or(0)
     };
     let longest = sorted.last().copied().unwrap_or(0);
