@@ -11,7 +11,7 @@ use Rattle.ing_rows.specs.declared.rules.Rules.{Rules}
 use Rattle.toml.specs.Data.{Data, Members, string, integer, float, boolean, datetime, array, table, get_member}
 use Rattle.ing_limits.specs.Durations.{parts_sum, capped}
 use Rattle.ing_limits.specs.Settings.{setting, number_of, kind_of, limits_in, common_rules, rules_by_tenant, settings_in, members_in, members_at, entries_of}
-use Rattle.ing_limits.specs.Ranges.{IsUpTo, AreLimitsInRange, AreRulesInRange, AreInRange}
+use Rattle.ing_limits.specs.Ranges.{IsUpTo, AreLimitsInRange, AreRulesInRange, AreSizesOf, AreInRange}
 use Rattle.ing_limits.specs.declared.keys.Kind.TheVariants.{Whole, Duration}
 use Rattle.ing_limits.specs.declared.keys.Level.{Level}
 use Rattle.ing_limits.specs.declared.keys.Level.TheVariants.{Top, Tenant}
@@ -119,6 +119,15 @@ found_rules common tenant (e ∷ es) h =
       | false ↦ found_rules common tenant es h
     ]
 
+-- a tenant's table has no sizes
+found_sizes : (common : Rules) (tenant : List ℕ) (es : List (List ℕ × Data)) → AreSizesOf common.chunk_block_size common.chunk_target_size (unwrap_or (find (slice_cmp nat_cmp) tenant (rules_by_tenant common es)) common)
+found_sizes common tenant [] = record { block = refl; target = refl }
+found_sizes common tenant (e ∷ es) =
+    elim (eq_by_cmp (slice_cmp nat_cmp) tenant e.0) as (λ b. AreSizesOf common.chunk_block_size common.chunk_target_size (unwrap_or (cond b (Some (limits_in common (members_in e.1))) (find (slice_cmp nat_cmp) tenant (rules_by_tenant common es))) common)) [
+      | true ↦ record { block = refl; target = refl }
+      | false ↦ found_sizes common tenant es
+    ]
+
 pub settings_in-range : (ms : Members) → AreInRange (settings_in ms)
 settings_in-range ms = record {
   shards = whole_setting Top (codes "shards") 1 64 ms refl (omega arith, omega arith);
@@ -128,4 +137,8 @@ settings_in-range ms = record {
       λ tenant.
       let es = entries_of (members_at (codes "tenants") ms) in
       subst (λ o. AreRulesInRange (unwrap_or o (common_rules ms))) (sym (get-from_entries nat_list_cmp_total (rules_by_tenant (common_rules ms) es) tenant)) (found_rules (common_rules ms) tenant es (common_rules-range ms));
+  sizes =
+      λ tenant.
+      let es = entries_of (members_at (codes "tenants") ms) in
+      subst (λ o. AreSizesOf (common_rules ms).chunk_block_size (common_rules ms).chunk_target_size (unwrap_or o (common_rules ms))) (sym (get-from_entries nat_list_cmp_total (rules_by_tenant (common_rules ms) es) tenant)) (found_sizes (common_rules ms) tenant es);
 }

@@ -1,5 +1,5 @@
 -- The ranges in which settings lie (own).
-use Rattle.std.specs.Prelude.{ℕ, ◌≤◌, ◌<◌, ◌^◌, List}
+use Rattle.std.specs.Prelude.{◌≡◌, ℕ, ◌≤◌, ◌<◌, ◌^◌, List}
 use Rattle.std.specs.Option.{unwrap_or}
 use Rattle.std.specs.FinMap.{get}
 use Rattle.ing_rows.specs.declared.rules.Rules.{Rules}
@@ -30,8 +30,15 @@ pub record AreRulesInRange (r : Rules) : Type 0 where
 abbrev pub rules_for : StoreSettings → List ℕ → Rules
 rules_for s tenant = unwrap_or (get s.tenants tenant) s.rules
 
+-- blocks are closed, and chunks sealed as full, at the same sizes
+pub record AreSizesOf (block_size target_size : ℕ) (r : Rules) : Type 0 where
+  pub block : r.chunk_block_size ≡ block_size
+  pub target : r.chunk_target_size ≡ target_size
+
+-- a tenant has no sizes of its own
 pub record AreInRange (s : StoreSettings) : Type 0 where
   pub shards : IsUpTo most_shards s.shards
   pub flushers : IsUpTo most_flushers s.flushers
   pub queue_length : IsUpTo most_queued s.flush_queue_length
   pub rules : (tenant : List ℕ) → AreRulesInRange (rules_for s tenant)
+  pub sizes : (tenant : List ℕ) → AreSizesOf s.rules.chunk_block_size s.rules.chunk_target_size (rules_for s tenant)

@@ -12,4 +12,4 @@ pub use fault::SettingsFault;
 pub use laws::{
     durations_are_sums_of_parts, least_name_is_first, worked_durations, worked_refusals,
 };
-pub use settings::Settings;
+pub use settings::{ChunkSizes, Settings};

@@ -44,6 +44,15 @@ impl Model for Settings {
     ghost invariant = { IsHeld };
 }
 
+/// The sizes at which blocks and chunks are closed.
+#[derive(Clone, Copy, Debug, PartialEq, Eq)]
+pub struct ChunkSizes {
+    /// A head that has reached so many bytes is closed into a block.
+    pub block_size: u64,
+    /// A chunk that has reached so many bytes is sealed.
+    pub target_size: u64,
+}
+
 /// The number at a key of a table, or the default.
 fn setting(table: &Table, level: Level, key: &str, default: u64) -> u64
     ensures { result ≡ settings.setting level key.now default (table_view table.now) }
@@ -163,8 +172,8 @@ fn all_tenants(
 impl Settings {
     ghost use Rattle.ing_limits.specs.Settings.{settings_of, settings_in};
     ghost use Rattle.ing_limits.specs.Faults.{refusal_of};
-    ghost use Rattle.ing_limits.specs.Greatest.{most_shards, most_flushers, most_queued};
-    ghost use Rattle.ing_limits.specs.Ranges.{IsUpTo, AreRulesInRange, rules_for};
+    ghost use Rattle.ing_limits.specs.Greatest.{most_bytes, most_shards, most_flushers, most_queued};
+    ghost use Rattle.ing_limits.specs.Ranges.{IsUpTo, AreRulesInRange, AreSizesOf, rules_for};
 
     /// The settings that a TOML text gives. The text is tested in this order:
     /// 1. `NotToml`: it is no TOML document.
@@ -243,6 +252,22 @@ impl Settings {
         ensures range { IsUpTo most_queued result }
     {
         self.flush_queue_length
+    }
+
+    /// The sizes in bytes at which a block is closed and a chunk is sealed as full: no tenant has others. Takes no memory.
+    pub fn sizes(&self) -> ChunkSizes
+        ensures value { result ≡ record {
+          block_size = self.now.rules.chunk_block_size;
+          target_size = self.now.rules.chunk_target_size;
+        } }
+        ensures each { (tenant : List ℕ) →
+            AreSizesOf result.block_size result.target_size (rules_for self.now tenant) }
+        ensures range { IsUpTo most_bytes result.block_size × IsUpTo most_bytes result.target_size }
+    {
+        ChunkSizes {
+            block_size: self.rules.chunk_block_size,
+            target_size: self.rules.chunk_target_size,
+        }
     }
 
     /// The rules of a tenant: the tenant's own, or those of all tenants where it has no table. Takes no memory, and one

@@ -7,6 +7,7 @@ mod FlownRowsLaws
 mod FlushLaws
 mod HeldLaws
 mod JudgeLaws
+mod JudgedLaws
 mod ListedLaws
 mod LiveLaws
 mod LocateLaws

@@ -1,5 +1,5 @@
 -- A stream takes accepted entries: what that does to what is held.
-use Rattle.std.proofs.Common.{◌≡◌, ℕ, ◌+◌, ◌-◌, ◌*◌, ◌^◌, ◌≤◌, ◌==◌, Bool, List, [], ◌∷◌, ◌++◌, length, cond, true, false, not, ◌&&◌, nat_lt, refl, ap, sym, ◌∙◌, subst, arith, filter, All, bytes_eq, sum_by, ◌||◌, is_some, nat_le}
+use Rattle.std.proofs.Common.{◌≡◌, ℕ, ◌+◌, ◌-◌, ◌*◌, ◌^◌, ◌<◌, ◌≤◌, ◌==◌, Bool, List, [], ◌∷◌, ◌++◌, length, cond, true, false, true≢false, not, ◌&&◌, nat_lt, refl, ap, sym, ◌∙◌, subst, arith, filter, All, bytes_eq, sum_by, ◌||◌, is_some, nat_le}
 use Rattle.std.specs.List.{list_any}
 use Rattle.std.proofs.lemmas.Bool.{eqb-true, ltb-false, or_parts, cond_both}
 use Rattle.std.proofs.lemmas.List.{nil_from_length}
@@ -109,6 +109,11 @@ not_full st s more h =
     let streams = (count_of st.rows s == 0) && nat_le (2 ^ 32 - 1) (length (streams_of st.rows)) in
     let chunks = nat_lt (2 ^ 32 - 1) (length (chunk_starts s st.rows) + more) in
     ltb-false (2 ^ 62) (length st.rows + more) (or_parts entries streams (or_parts (entries || streams) chunks h).0).0
+
+-- a list of some length has an item
+pub some_items : {X : Type 0} (xs : List X) (n : ℕ) → n ≡ length xs → (n == 0) ≡ false → 0 < length xs
+some_items [] n is some = absurd (true≢false (subst (λ k. (k == 0) ≡ false) is some))
+some_items (x ∷ xs) n is some = omega arith
 
 -- a list of no length is empty
 pub no_items : {X : Type 0} (xs : List X) (n : ℕ) → n ≡ length xs → (n == 0) ≡ true → xs ≡ []

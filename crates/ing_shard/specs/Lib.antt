@@ -3,6 +3,7 @@ pub mod Coded
 pub mod Contents
 pub mod Faults
 pub mod FinishFaults
+pub mod JudgedPushes
 pub mod KeptFacts
 pub mod OneStream
 pub mod Flights

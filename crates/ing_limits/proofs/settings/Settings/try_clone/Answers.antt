@@ -1,6 +1,6 @@
 use Rattle.std.proofs.Common.{◌≡◌, ap, sym, subst, ◌∙◌}
 use Rattle.std.specs.FinMap.{from_entries}
-use Rattle.ing_limits.specs.Held.{held_settings, IsHeld, held_tenants}
+use Rattle.ing_limits.specs.Held.{held_settings, held_tenants}
 use Rattle.ing_limits.specs.Ranges.{AreInRange}
 use Rattle.ing_limits.specs.Settings.{StoreSettings}
 use Rattle.ing_limits.proofs.Tenants.{copied_tenants}
