@@ -1,0 +1,74 @@
+//! The places of streams that were asked for lately.
+ghost use Rattle.std.specs.Prelude.{◌≡◌, ◌<◌, IfOk, IsOk};
+ghost use Rattle.ing_rows.specs.Placement as placement;
+
+use crate::slot::Slot;
+use ing_rows::Tenant;
+use std::alloc::{AllocError, Global};
+use std::hash::{FoldHasher, Hasher};
+use std::marker::Model;
+
+/// How many streams are kept at most. Each has one slot, where it takes the place of any other: of `n` streams that are asked
+/// for in turn, e^(-n/8192) are found kept, 99 in a hundred of 100 streams and 88 of 1,000. The empty slots take 448 KiB.
+const SLOTS: usize = 8192;
+
+/// The places of streams that were asked for lately, at most 8192: one that is kept costs two comparisons of its bytes, and no
+/// digest. Contracts see how many shards there are.
+#[derive(Debug, Drop)]
+pub struct Places {
+    shards: u32,
+    slots: Vec<Slot>,
+}
+
+impl Model for Places {
+    ghost use Rattle.std.specs.Prelude.{◌≡◌, ◌≢◌, ◌<◌, ℕ, All, vec_len};
+    ghost use Rattle.ing_places.specs.Slots.{IsOwn};
+
+    ghost Value = { ℕ };
+
+    ghost view = { λ places. places.shards };
+
+    ghost invariant = { λ places. (0 < places.shards)
+        × (places.shards ≢ 1 → vec_len places.slots ≡ 8192)
+        × All (IsOwn places.shards) places.slots.items };
+}
+
+impl Places {
+    /// The places in so many shards, of which none is kept yet. For an only shard it takes no memory (own).
+    pub fn new(alloc: Global, shards: u32) -> Result<Places, AllocError>
+        requires { 0 < shards }
+        ensures shards { IfOk result (λ places. places ≡ shards) }
+        ensures only { shards ≡ 1 → IsOk result }
+    {
+        let count = if shards == 1 { 0 } else { SLOTS };
+        let mut slots = Vec::with_capacity(alloc, count)?;
+        for _ in 0..count {
+            slots.push_reserved(Slot::new(alloc));
+        }
+        Ok(Places { shards, slots })
+    }
+
+    /// The shard of a stream, from 0 and below the count of shards, as `ing_rows::shard_of` gives it: the place that is kept, or
+    /// else by the digest, and then it is kept. Where memory for that runs out, the answer is the same and nothing is kept (own).
+    pub fn of(&mut self, tenant: &Tenant, name: &str) -> u32
+        ensures shard { result ≡ placement.shard_of tenant.now name.now self.old }
+        ensures below { result < self.old }
+        ensures shards { self.new ≡ self.old }
+    {
+        if self.shards == 1 {
+            return 0;
+        }
+        let slot = &mut self.slots[slot_of(tenant, name)];
+        slot.of(tenant, name, self.shards)
+    }
+}
+
+/// The slot of a stream. Whoever picks the names can have them share one, which costs a digest each time. Takes no memory.
+pub(crate) fn slot_of(tenant: &Tenant, name: &str) -> usize
+    ensures { result < 8192 }
+{
+    let mut hasher = FoldHasher::default();
+    hasher.write(tenant.as_str().as_bytes());
+    hasher.write(name.as_bytes());
+    (hasher.finish() % SLOTS as u64) as usize
+}
