@@ -6,12 +6,14 @@ ghost use Rattle.ing_places.specs.Slots.{IsOwn};
 use ing_rows::{Tenant, shard_of};
 use std::alloc::Global;
 
-/// A stream and its shard, or nothing. Its buffers stay for the streams that come after.
+/// A stream and its shard, or nothing, and the mark of the stream that was asked for last. The buffers stay for the streams that
+/// come after.
 #[derive(Debug, Drop)]
 pub(crate) struct Slot {
     tenant: String,
     name: String,
     shard: Option<u32>,
+    asked: u32,
 }
 
 impl Slot {
@@ -23,21 +25,27 @@ impl Slot {
             tenant: String::new(alloc),
             name: String::new(alloc),
             shard: None,
+            asked: 0,
         }
     }
 
-    /// The shard of a stream, of so many: the one that it keeps of this stream, or else by the digest, and then it is kept.
-    pub(crate) fn of(&mut self, tenant: &Tenant, name: &str, shards: u32) -> u32
+    /// The shard of a stream with this mark, of so many: the one that it keeps of this stream, or else by the digest. The stream
+    /// that it keeps gives way to one that is asked for twice in turn, so that many in turn do not replace each other.
+    pub(crate) fn of(&mut self, tenant: &Tenant, name: &str, mark: u32, shards: u32) -> u32
         requires some { 0 < shards }
         requires own { IsOwn shards self.old }
         ensures shard { result ≡ placement.shard_of tenant.now name.now shards }
         ensures own { IsOwn shards self.new }
     {
+        let is_again = self.asked == mark;
+        self.asked = mark;
         if let Some(shard) = self.kept(tenant, name) {
             return shard;
         }
         let shard = shard_of(tenant, name, shards);
-        self.keep(tenant, name, shard);
+        if is_again || self.shard.is_none() {
+            self.keep(tenant, name, shard);
+        }
         shard
     }
 

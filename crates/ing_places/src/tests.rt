@@ -1,7 +1,7 @@
 //! Streams by lot against the digest, and what a slot keeps.
 ghost use Rattle.std.specs.Prelude.{◌<◌};
 
-use crate::places::{Places, slot_of};
+use crate::places::{Places, slot_and_mark};
 use crate::slot::Slot;
 use ing_rows::{Tenant, shard_of};
 use std::alloc::Global;
@@ -38,10 +38,11 @@ fn drawn(alloc: Global, count: usize) -> Result<Vec<Stream>, Fail> {
 
 /// Another stream with the slot of this one.
 fn beside(alloc: Global, one: &Stream) -> Result<Stream, Fail> {
-    let place = slot_of(&one.tenant, one.name.as_str());
+    let (slot, _) = slot_and_mark(&one.tenant, one.name.as_str());
     for number in 0..200_000 {
         let other = numbered(alloc, number)?;
-        if slot_of(&other.tenant, other.name.as_str()) == place && other.name != one.name {
+        let (other_slot, _) = slot_and_mark(&other.tenant, other.name.as_str());
+        if other_slot == slot && other.name != one.name {
             return Ok(other);
         }
     }
@@ -75,16 +76,21 @@ fn places_are_as_by_the_digest(rt: HostRuntime) -> Result<(), Fail> {
 }
 
 #[test]
-fn a_slot_keeps_the_last_stream(rt: HostRuntime) -> Result<(), Fail> {
+fn a_slot_keeps_a_stream(rt: HostRuntime) -> Result<(), Fail> {
     let alloc = rt.alloc();
     let (one, two) = (Tenant::of_text(alloc, "t")?, Tenant::of_text(alloc, "u")?);
     let mut slot = Slot::new(alloc);
     assert_eq!(rt; slot.kept(&one, "{a=\"1\"}"), None);
-    let place = slot.of(&one, "{a=\"1\"}", 4);
+    let place = slot.of(&one, "{a=\"1\"}", 1, 4);
     assert_eq!(rt; slot.kept(&one, "{a=\"1\"}"), Some(place));
     assert_eq!(rt; slot.kept(&two, "{a=\"1\"}"), None);
     assert_eq!(rt; slot.kept(&one, "{a=\"2\"}"), None);
-    let place = slot.of(&two, "{a=\"1\"}", 4);
+    // Another takes its place once it is asked for twice in turn.
+    let _ = slot.of(&two, "{a=\"1\"}", 2, 4);
+    assert_eq!(rt; slot.of(&one, "{a=\"1\"}", 1, 4), place);
+    let _ = slot.of(&two, "{a=\"1\"}", 2, 4);
+    assert_eq!(rt; slot.kept(&one, "{a=\"1\"}"), Some(place));
+    let place = slot.of(&two, "{a=\"1\"}", 2, 4);
     assert_eq!(rt; slot.kept(&two, "{a=\"1\"}"), Some(place));
     assert_eq!(rt; slot.kept(&one, "{a=\"1\"}"), None);
     Ok(())
