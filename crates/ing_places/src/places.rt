@@ -12,8 +12,8 @@ use std::marker::Model;
 /// for each slot that is theirs: 99 in a hundred of 100 streams, 94 of 1,000, 58 of 10,000. Empty slots take 512 KiB.
 const SLOTS: usize = 8192;
 
-/// The places of streams that were asked for lately, at most 8192: one that is kept costs two comparisons of its bytes, and no
-/// digest. Contracts see how many shards there are.
+/// The places of streams that were asked for lately, at most 8192, with the bytes of their tenants and names: one that is kept is
+/// found by a hash and a comparison of these, without a digest. Contracts see how many shards there are.
 #[derive(Debug, Drop)]
 pub struct Places {
     shards: u32,
@@ -23,18 +23,20 @@ pub struct Places {
 impl Model for Places {
     ghost use Rattle.std.specs.Prelude.{◌≡◌, ◌≢◌, ◌<◌, ℕ, All, vec_len};
     ghost use Rattle.ing_places.specs.Slots.{IsOwn};
+    ghost use Rattle.ing_places.specs.declared.places.TheConstants.{SLOTS};
 
     ghost Value = { ℕ };
 
     ghost view = { λ places. places.shards };
 
     ghost invariant = { λ places. (0 < places.shards)
-        × (places.shards ≢ 1 → vec_len places.slots ≡ 8192)
+        × (places.shards ≢ 1 → vec_len places.slots ≡ SLOTS)
         × All (IsOwn places.shards) places.slots.items };
 }
 
 impl Places {
-    /// The places in so many shards, of which none is kept yet. For an only shard it takes no memory (own).
+    /// The places of streams in so many shards, of which none is kept yet. `AllocError` where memory runs out; for an only shard
+    /// it takes none. (Own.)
     pub fn new(alloc: Global, shards: u32) -> Result<Places, AllocError>
         requires { 0 < shards }
         ensures shards { IfOk result (λ places. places ≡ shards) }
@@ -48,8 +50,9 @@ impl Places {
         Ok(Places { shards, slots })
     }
 
-    /// The shard of a stream, from 0 and below the count of shards, as `ing_rows::shard_of` gives it: the place that is kept, or
-    /// else by the digest, and then it is kept. Where memory for that runs out, the answer is the same and nothing is kept (own).
+    /// The shard of a stream of this canonical name, from 0 and below the count of shards, which is what `ing_rows::shard_of`
+    /// answers. It is the one that is kept, or is found by the digest, and then it may be kept: where memory for that runs out, the
+    /// answer is the same, and the stream is not kept. (Own.)
     pub fn of(&mut self, tenant: &Tenant, name: &str) -> u32
         ensures shard { result ≡ placement.shard_of tenant.now name.now self.old }
         ensures below { result < self.old }
@@ -64,10 +67,10 @@ impl Places {
     }
 }
 
-/// The slot of a stream, and a mark that tells it from most others of that slot. Whoever picks the names can have many share both,
-/// which costs a digest each time. Takes no memory.
+/// The slot of a stream, and a mark that tells it from most others of that slot. Whoever picks the names can have many share a slot:
+/// then each costs a digest, as it does without a slot. Takes no memory.
 pub(crate) fn slot_and_mark(tenant: &Tenant, name: &str) -> (usize, u32)
-    ensures { result.0 < 8192 }
+    ensures { result.0 < SLOTS }
 {
     let mut hasher = FoldHasher::default();
     hasher.write(tenant.as_str().as_bytes());
