@@ -105,8 +105,9 @@ module _ {R : Type 0} (old : Streams R) {i : ℕ} {st : Stream} (held : AreHeld 
   stays_here new now is stays find posted known sums entries stored active apart =
       let next = stays.next in
       let few = held.few in
+      let most = held.most in
       held_changed old new split.front st now split.back held split.is is stays.kept stays.tenant stays.labels find posted known sums
-      (omega (arith, entries, next)) stored (λ i. active i + cond (nat_lt 0 (sym next i)) 1 0) (omega (arith, entries, few)) apart
+      (omega (arith, entries, next)) stored (λ i. active i + cond (nat_lt 0 (sym next i)) 1 0) (omega (arith, entries, few)) (omega (arith, active, most)) apart
 
   -- and they can be
   pub stays_fits : (now : Stream) → Stays st now → Fits (changed (kept_of old.tenants st.tenant) (measure_of st) (measure_of now))

@@ -1,5 +1,5 @@
 -- What is held beside the streams, after one more is listed and after one has changed.
-use Rattle.std.proofs.Common.{◌≡◌, ℕ, ◌+◌, ◌^◌, ◌≤◌, Bool, List, [], ◌∷◌, ◌++◌, length, cond, true, false, ◌&&◌, ◌==◌, nat_lt, Some, None, ap, sym, ◌∙◌, subst, arith, filter, append-nil, All, bytes_eq, is_some, sum_by, length-append}
+use Rattle.std.proofs.Common.{◌-◌, ◌≡◌, ℕ, ◌+◌, ◌^◌, ◌≤◌, Bool, List, [], ◌∷◌, ◌++◌, length, cond, true, false, ◌&&◌, ◌==◌, nat_lt, Some, None, ap, sym, ◌∙◌, subst, arith, filter, append-nil, All, bytes_eq, is_some, sum_by, length-append}
 use Rattle.slab.specs.Slab.{Slab, get}
 use Rattle.std.proofs.lemmas.List.Elements.{All-push, All-weaker, filter-append}
 use Rattle.std.proofs.lemmas.List.Sums.{sum_by_push}
@@ -82,6 +82,7 @@ held_more old new st held is kept next none absent find posted label_set known s
     let none_begun = ap (λ n. length (cond (nat_lt 0 n) (st ∷ []) [])) next in
     let more_begun = ap length (filter-append begun sts (st ∷ [])) ∙ length-append (filter begun sts) (filter begun (st ∷ [])) in
     let bound = held.few in
+    let most = held.most in
     record {
       kept = subst (All IsKept) (sym is) (All-push IsKept sts st held.kept kept);
       distinct = subst AreDistinct (sym is) (distinct_more sts st held.distinct others);
@@ -94,6 +95,7 @@ held_more old new st held is kept next none absent find posted label_set known s
       stored = subst (λ l. new.stored ≡ sum_by (λ o. (measure_of o).stored_entries) l) (sym is) (omega (arith, stored, all_stored, empty, sum_by_push (λ (o : Stream). (measure_of o).stored_entries) sts st));
       active = subst (λ l. new.active ≡ length (filter begun l)) (sym is) (omega (arith, active, all_active, none_begun, more_begun));
       few = omega (arith, entries, bound);
+      most = omega (arith, active, most);
       flights = λ f. let apart = held.flights f in subst (λ n. n ≡ cond (is_some (get new.flights f)) 1 0) (flights_more f sts st unclaimed ∙ ap (flights_among f) (sym is)) (subst (λ t. flights_among f sts ≡ cond (is_some (get t f)) 1 0) (sym taken) apart);
     }
 
@@ -117,8 +119,8 @@ pub held_changed : {R : Type 0} (old new : Streams R) (front : List Stream) (st 
     → new.entries + st.chunks.memory.next ≡ old.entries + now.chunks.memory.next
     → new.stored + (measure_of st).stored_entries ≡ old.stored + (measure_of now).stored_entries
     → new.active + cond (nat_lt 0 st.chunks.memory.next) 1 0 ≡ old.active + cond (nat_lt 0 now.chunks.memory.next) 1 0
-    → new.entries ≤ 2 ^ 62 → AreApart new.flights (front ++ now ∷ back) → AreHeld new
-held_changed old new front st now back held was is kept tenant labels find posted known sums entries stored active few apart =
+    → new.entries ≤ 2 ^ 62 → new.active ≤ 2 ^ 32 - 1 → AreApart new.flights (front ++ now ∷ back) → AreHeld new
+held_changed old new front st now back held was is kept tenant labels find posted known sums entries stored active few most apart =
     let key : key_of now ≡ key_of st = λ i. record { tenant = tenant i; name = canonical_of (labels i) } in
     let all = subst (All IsKept) was held.kept in
     let Known : Stream → Type 0 = λ o. is_known new.tenants o.tenant ≡ true in
@@ -151,5 +153,6 @@ held_changed old new front st now back held was is kept tenant labels find poste
       stored = stored_sum ∙ ap (sum_by (λ o. (measure_of o).stored_entries)) (sym is);
       active = counted ∙ ap (λ l. length (filter (λ o. nat_lt 0 o.chunks.memory.next) l)) (sym is);
       few = few;
+      most = most;
       flights = subst (AreApart new.flights) (sym is) apart;
     }

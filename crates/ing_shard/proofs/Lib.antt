@@ -12,6 +12,7 @@ mod ListedLaws
 mod LiveLaws
 mod LocateLaws
 mod NameLaws
+mod NamedLaws
 mod OnceLaws
 mod OwnLaws
 mod Parts

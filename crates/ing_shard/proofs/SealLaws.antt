@@ -1,8 +1,8 @@
 -- Growing chunks of a shard are sealed stream by stream.
-use Rattle.std.proofs.Common.{◌≡◌, ℕ, ◌+◌, ◌<◌, Bool, List, [], ◌∷◌, ◌++◌, length, map, cond, false, not, ◌&&◌, ◌==◌, Option, Some, refl, ap, sym, ◌∙◌, subst, arith, filter, replicate, append-nil, append_assoc, All, is_some, sum_by}
+use Rattle.std.proofs.Common.{◌≡◌, ℕ, ◌+◌, ◌<◌, Bool, List, [], ◌∷◌, ◌++◌, length, map, cond, false, not, ◌&&◌, ◌==◌, Option, Some, refl, ap, sym, ◌∙◌, subst, arith, filter, replicate, append-nil, append_assoc, All, is_some}
 use Rattle.std.proofs.lemmas.List.{length-append, length-map}
 use Rattle.std.proofs.lemmas.List.Elements.{All-cons, All-head, All-nil, All-tail, All-weaker, filter-append, filter_agree}
-use Rattle.std.proofs.lemmas.List.Sums.{sum_by-cons, sum_by-append}
+use Rattle.std.proofs.lemmas.List.Sums.{sum_by-cons}
 use Rattle.ing_labels.specs.Canonical.{canonical_of}
 use Rattle.ing_rows.specs.declared.place.SealReason.{SealReason}
 use Rattle.ing_rows.specs.declared.place.SealReason.TheVariants as reason
@@ -25,13 +25,13 @@ use Rattle.ing_shard.proofs.WholeLaws.{IsOther, AreOthers, others_rows, others_m
 
 -- ---- no chunk of a stream is another's
 
-none_of_others : (st : Stream) (sts : List Stream) → AreOthers (key_of st) sts → NoneMarked (part_of st).marks (whole sts).rows
+pub none_of_others : (st : Stream) (sts : List Stream) → AreOthers (key_of st) sts → NoneMarked (part_of st).marks (whole sts).rows
 none_of_others st sts others =
     all_marks (key_of st) (λ m. All (λ r. is_of_chunk m.stream m.chunk r ≡ false) (whole sts).rows)
     (λ c. All-weaker (λ (r : Row). same_stream r.stream (key_of st) ≡ false) (λ (r : Row). is_of_chunk (key_of st) c.first r ≡ false)
     (λ r other. ap (λ b. b && (r.chunk == c.first)) other) (whole sts).rows (others_rows (key_of st) sts others)) st.chunks
 
-none_of_mine : (st : Stream) (sts : List Stream) → AreOthers (key_of st) sts → NoneMarked (whole sts).marks (part_of st).rows
+pub none_of_mine : (st : Stream) (sts : List Stream) → AreOthers (key_of st) sts → NoneMarked (whole sts).marks (part_of st).rows
 none_of_mine st sts others =
     let s = key_of st in
     All-weaker (λ (m : Mark). same_stream m.stream s ≡ false) (λ (m : Mark). All (λ r. is_of_chunk m.stream m.chunk r ≡ false) (part_of st).rows)
@@ -204,12 +204,7 @@ slots_sealed which rules = map_sealed slots_of which rules (λ own st now h. h.c
 pub same_length : (which : Sealing) (rules : List ℕ → Rules) (done sealed : List Stream) → AreSealed which rules done sealed → length sealed ≡ length done
 same_length which rules done sealed h = sym (length-map sealed key_of) ∙ ap length (keys_sealed which rules done sealed h) ∙ length-map done key_of
 
-among_more : (which : Sealing) (rules : List ℕ → Rules) (done : List Stream) (st : Stream) → sealed_among which rules (done ++ st ∷ []) ≡ sealed_among which rules done + cond (is_sealing which (rules st.tenant) st.chunks) 1 0
-among_more which rules done st =
-    let is : Stream → ℕ = λ o. cond (is_sealing which (rules o.tenant) o.chunks) 1 0 in
-    sum_by-append is done (st ∷ []) ∙ ap (λ n. sum_by is done + n) (sum_by-cons is st [] ∙ omega arith)
-
-module _ (which : Sealing) (rules : List ℕ → Rules) (number count : ℕ) (olds mids : List Stream) (to : AreSealedTo which rules number count olds mids) where
+module _ (which : Sealing) (rules : List ℕ → Rules) (number : ℕ) (olds mids : List Stream) (to : AreSealedTo which rules number olds mids) where
   pub as_many : length mids ≡ length olds
   as_many =
       let same = same_length which rules to.done to.sealed to.each in
@@ -217,11 +212,11 @@ module _ (which : Sealing) (rules : List ℕ → Rules) (number count : ℕ) (ol
       let after = ap length to.is ∙ length-append to.sealed to.left in
       omega (arith, same, before, after)
 
-  pub one_further : (told : Bool) (news : List Stream) → number < length olds
-      → ((front : List Stream) (st : Stream) (back : List Stream) → mids ≡ front ++ st ∷ back → length front ≡ number → SealsOne which rules told front st back news)
-      → AreSealedTo which rules (number + 1) (count + cond told 1 0) olds news
-  one_further told news below one = go to.left to.was to.is where
-    go : (left : List Stream) → olds ≡ to.done ++ left → mids ≡ to.sealed ++ left → AreSealedTo which rules (number + 1) (count + cond told 1 0) olds news
+  pub one_further : (news : List Stream) → number < length olds
+      → ((front : List Stream) (st : Stream) (back : List Stream) → mids ≡ front ++ st ∷ back → length front ≡ number → SealsOne which rules front st back news)
+      → AreSealedTo which rules (number + 1) olds news
+  one_further news below one = go to.left to.was to.is where
+    go : (left : List Stream) → olds ≡ to.done ++ left → mids ≡ to.sealed ++ left → AreSealedTo which rules (number + 1) olds news
     go [] was is =
         let long = ap length was ∙ length-append to.done [] in
         let at = to.at in
@@ -237,7 +232,6 @@ module _ (which : Sealing) (rules : List ℕ → Rules) (number count : ℕ) (ol
           is = done.is ∙ sym (append_assoc to.sealed (done.now ∷ []) back);
           at = length-append to.done (st ∷ []) ∙ ap (λ n. n + 1) at;
           each = more_sealed which rules to.done to.sealed st done.now to.each done.sealed;
-          counted = (λ i. to.counted i + cond (done.answer i) 1 0) ∙ sym (among_more which rules to.done st);
         }
 
 -- ---- the order of rows and marks

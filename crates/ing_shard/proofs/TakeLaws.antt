@@ -1,6 +1,7 @@
 -- A stream takes accepted entries: what that does to what is held.
 use Rattle.std.proofs.Common.{◌≡◌, ℕ, ◌+◌, ◌-◌, ◌*◌, ◌^◌, ◌<◌, ◌≤◌, ◌==◌, Bool, List, [], ◌∷◌, ◌++◌, length, cond, true, false, true≢false, not, ◌&&◌, nat_lt, refl, ap, sym, ◌∙◌, subst, arith, filter, All, bytes_eq, sum_by, ◌||◌, is_some, nat_le}
 use Rattle.std.specs.List.{list_any}
+use Rattle.std.proofs.lemmas.Bool.Decides.{nat_tests}
 use Rattle.std.proofs.lemmas.Bool.{eqb-true, ltb-false, or_parts, cond_both}
 use Rattle.std.proofs.lemmas.List.{nil_from_length}
 use Rattle.std.proofs.lemmas.List.Elements.{All-weaker}
@@ -68,6 +69,7 @@ pub held_found : {R : Type 0} (old new : Streams R) → AreHeld old → new.list
     → new.entries ≡ old.entries → new.stored ≡ old.stored → new.active ≡ old.active → ((f : ℕ) → get new.flights f ≡ get old.flights f) → AreHeld new
 held_found old new held is find posted stay kept entries stored active taken =
     let few = held.few in
+    let most = held.most in
     record {
       kept = subst (All IsKept) (sym is) held.kept;
       distinct = subst AreDistinct (sym is) held.distinct;
@@ -80,6 +82,7 @@ held_found old new held is find posted stay kept entries stored active taken =
       stored = stored ∙ held.stored ∙ ap (sum_by (λ st. (measure_of st).stored_entries)) (sym is);
       active = active ∙ held.active ∙ ap (λ l. length (filter (λ st. nat_lt 0 st.chunks.memory.next) l)) (sym is);
       few = omega (arith, entries, few);
+      most = omega (arith, active, most);
       flights = subst (AreApart new.flights) (sym is) (λ f. subst (λ o. flights_among f old.list.items ≡ cond (is_some o) 1 0) (sym (taken f)) (held.flights f));
     }
 
@@ -109,6 +112,26 @@ not_full st s more h =
     let streams = (count_of st.rows s == 0) && nat_le (2 ^ 32 - 1) (length (streams_of st.rows)) in
     let chunks = nat_lt (2 ^ 32 - 1) (length (chunk_starts s st.rows) + more) in
     ltb-false (2 ^ 62) (length st.rows + more) (or_parts entries streams (or_parts (entries || streams) chunks h).0).0
+
+-- and so does the stream, where it has no entry yet
+pub not_full_streams : (st : State) (s : StreamKey) (more : ℕ) → is_full st s more ≡ false → count_of st.rows s ≡ 0 → length (streams_of st.rows) < 2 ^ 32 - 1
+not_full_streams st s more h none =
+    let entries = nat_lt (2 ^ 62) (length st.rows + more) in
+    let many = nat_le (2 ^ 32 - 1) (length (streams_of st.rows)) in
+    let chunks = nat_lt (2 ^ 32 - 1) (length (chunk_starts s st.rows) + more) in
+    let streams : ((count_of st.rows s == 0) && many) ≡ false = (or_parts entries ((count_of st.rows s == 0) && many) (or_parts (entries || ((count_of st.rows s == 0) && many)) chunks h).0).1 in
+    let fits : many ≡ false = sym (ap (λ n. (n == 0) && many) none) ∙ streams in
+    grind (arith, nat_tests, fits)
+
+-- a stream more at most, where it had no entry
+pub started : (next active : ℕ) → active ≤ 2 ^ 32 - 1 → (next ≡ 0 → active < 2 ^ 32 - 1) → active + cond (nat_lt 0 next) 0 1 ≤ 2 ^ 32 - 1
+started next active most room = by_cases (nat_lt 0 next) refl where
+  by_cases : (b : Bool) → nat_lt 0 next ≡ b → active + cond b 0 1 ≤ 2 ^ 32 - 1
+  by_cases true is = omega (arith, most)
+  by_cases false is =
+      let none = ltb-false 0 next is in
+      let below = room (omega (arith, none)) in
+      omega (arith, below)
 
 -- a list of some length has an item
 pub some_items : {X : Type 0} (xs : List X) (n : ℕ) → n ≡ length xs → (n == 0) ≡ false → 0 < length xs

@@ -1,15 +1,17 @@
 -- Which growing chunks are sealed, and which operations there are then.
 -- What names no section of the Loki documentation is own.
-use Rattle.std.specs.Prelude.{◌≡◌, ℕ, ◌+◌, Bool, List, [], ◌∷◌, ◌++◌, length, sum_by, is_some, replicate, if◌then◌else◌, Option, Some}
+use Rattle.std.specs.Prelude.{◌≡◌, ℕ, ◌+◌, Bool, List, [], ◌∷◌, ◌++◌, ◌<◌, true, length, sum_by, is_some, replicate, if◌then◌else◌, Option, Some, None}
 use Rattle.ing_rows.specs.declared.place.SealReason.{SealReason}
 use Rattle.ing_rows.specs.declared.place.SealReason.TheVariants as reason
 use Rattle.ing_rows.specs.declared.rules.Rules.{Rules}
 use Rattle.ing_rows.specs.Rows.{StreamKey, Row, Mark, State, IsSame}
 use Rattle.ing_rows.specs.Steps.{due_of, sealed_by}
-use Rattle.ing_rows.specs.Events.{sealed_count}
+use Rattle.ing_rows.specs.Events.{Event, Sweep, SealAll, sealed_count}
 use Rattle.ing_rows.specs.Claims.{claimable_count}
 use Rattle.ing_chunk.specs.Chunks.{growing_due}
-use Rattle.ing_stream.specs.Contents.{StreamContents}
+use Rattle.ing_logged.specs.LoggedRecords.{StreamSeal}
+use Rattle.ing_replay.specs.Records.{names_of}
+use Rattle.ing_stream.specs.Contents.{StreamContents, named_as}
 use Rattle.ing_shard.specs.declared.due.Op.{Op}
 use Rattle.ing_shard.specs.declared.sealing.Sealing.{Sealing}
 use Rattle.ing_shard.specs.declared.sealing.Sealing.TheVariants.{Due, Forced}
@@ -45,12 +47,27 @@ sealed_of which rules st = sealed_by (why_of which rules st.rows) st
 abbrev pub count_sealed : Sealing → (List ℕ → Rules) → State → ℕ
 count_sealed which rules st = sealed_count (why_of which rules st.rows) st.marks
 
+-- as an event of the model
+abbrev pub event_of : Sealing → Event
+event_of (Due now) = Sweep now
+event_of Forced = SealAll
+
 -- ---- one stream
 
 -- its growing chunk is one of these
 abbrev pub is_sealing : Sealing → Rules → StreamContents → Bool
 is_sealing (Due now) rules c = is_some (growing_due rules now c.memory)
 is_sealing Forced rules c = is_some c.memory.growing
+
+-- why it is sealed then
+abbrev pub reason_of : Sealing → Rules → StreamContents → Option SealReason
+reason_of (Due now) rules c = growing_due rules now c.memory
+reason_of Forced rules c = if is_some c.memory.growing then Some reason.Forced else None
+
+-- What is sealed of a stream is its growing chunk, for this reason; and a stream with a growing chunk has an entry.
+pub record IsNamed (which : Sealing) (rules : Rules) (st : Stream) : Type 0 where
+  pub names : names_of (why_by which rules (part_of st).rows) (part_of st).marks ≡ named_as (key_of st) (reason_of which rules st.chunks)
+  pub begun : is_sealing which rules st.chunks ≡ true → 0 < st.chunks.memory.next
 
 -- a stream, before and after its growing chunk is sealed where it is one of these
 pub record IsSealed (which : Sealing) (rules : Rules) (old new : Stream) : Type 0 where
@@ -75,15 +92,14 @@ AreSealed which rules (old ∷ olds) [] = ⊥
 abbrev pub sealed_among : Sealing → (List ℕ → Rules) → List Stream → ℕ
 sealed_among which rules sts = sum_by (λ st. if is_sealing which (rules st.tenant) st.chunks then 1 else 0) sts
 
--- one stream of the list is sealed, and whether it was one of these is told
-pub record SealsOne (which : Sealing) (rules : List ℕ → Rules) (told : Bool) (front : List Stream) (st : Stream) (back news : List Stream) : Type 0 where
+-- one stream of the list is sealed, where it is one of these
+pub record SealsOne (which : Sealing) (rules : List ℕ → Rules) (front : List Stream) (st : Stream) (back news : List Stream) : Type 0 where
   pub now : Stream
   pub is : news ≡ front ++ now ∷ back
   pub sealed : IsSealed which (rules st.tenant) st now
-  pub answer : told ≡ is_sealing which (rules st.tenant) st.chunks
 
--- so many of them are sealed, and so many had a growing chunk that was
-pub record AreSealedTo (which : Sealing) (rules : List ℕ → Rules) (number count : ℕ) (olds news : List Stream) : Type 0 where
+-- so many of them are sealed
+pub record AreSealedTo (which : Sealing) (rules : List ℕ → Rules) (number : ℕ) (olds news : List Stream) : Type 0 where
   pub done : List Stream
   pub left : List Stream
   pub sealed : List Stream
@@ -91,7 +107,19 @@ pub record AreSealedTo (which : Sealing) (rules : List ℕ → Rules) (number co
   pub is : news ≡ sealed ++ left
   pub at : length done ≡ number
   pub each : AreSealed which rules done sealed
-  pub counted : count ≡ sealed_among which rules done
+
+-- the seals of a log: each stream whose growing chunk is one of these, with the reason
+abbrev pub seal_as : StreamKey → Option SealReason → List StreamSeal
+seal_as s None = []
+seal_as s (Some why) = record { stream = s; reason = why } ∷ []
+
+abbrev pub seals_among : Sealing → (List ℕ → Rules) → List Stream → List StreamSeal
+seals_among which rules [] = []
+seals_among which rules (st ∷ sts) = seal_as (key_of st) (reason_of which (rules st.tenant) st.chunks) ++ seals_among which rules sts
+
+-- a seal, as the model names it
+abbrev pub name_in : StreamSeal → StreamKey × SealReason
+name_in x = (x.stream, x.reason)
 
 -- the operations there are once the growing chunks are sealed
 abbrev pub ops_after : ℕ → Sealing → (List ℕ → Rules) → ℕ → List Stream → List Op

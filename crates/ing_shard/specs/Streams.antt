@@ -1,5 +1,5 @@
 -- What the streams of a shard stand for, and what is kept of each.
-use Rattle.std.specs.Prelude.{◌≡◌, ◌≢◌, ℕ, ◌+◌, ◌*◌, ◌≤◌, ◌<◌, ◌^◌, max, Bool, true, false, not, List, [], ◌∷◌, All, bytes_eq, filter, length, sum_by, nat_lt, slice_get, if◌then◌else◌, map, Option, Some, None}
+use Rattle.std.specs.Prelude.{◌≡◌, ◌≢◌, ℕ, ◌+◌, ◌-◌, ◌*◌, ◌≤◌, ◌<◌, ◌^◌, max, Bool, true, false, not, List, [], ◌∷◌, All, bytes_eq, filter, length, sum_by, nat_lt, slice_get, if◌then◌else◌, map, Option, Some, None}
 use Rattle.std.specs.List.{enumerate_from, list_any}
 use Rattle.std.specs.Option.{option_map}
 use Rattle.ing_labels.specs.Canonical.{canonical_of}
@@ -144,7 +144,7 @@ AreDistinct (st ∷ sts) = All (λ other. same_stream (key_of other) (key_of st)
 
 -- What is kept beside the streams is what they give: no two have the same name, each is found by it, the sums
 -- of each tenant are those of its streams, and its label index lists its streams; no two chunks are in the same
--- flight.
+-- flight; and at most 2^32-1 of them have an entry.
 pub record AreHeld {R : Type 0} (streams : Streams R) : Type 0 where
   pub kept : All IsKept streams.list.items
   pub distinct : AreDistinct streams.list.items
@@ -157,6 +157,7 @@ pub record AreHeld {R : Type 0} (streams : Streams R) : Type 0 where
   pub stored : streams.stored ≡ sum_by (λ st. (measure_of st).stored_entries) streams.list.items
   pub active : streams.active ≡ length (filter (λ st. nat_lt 0 st.chunks.memory.next) streams.list.items)
   pub few : streams.entries ≤ 2 ^ 62
+  pub most : streams.active ≤ 2 ^ 32 - 1
   pub flights : AreApart streams.flights streams.list.items
 
 -- ---- flushes

@@ -133,7 +133,7 @@ pub struct Stranger<R: Receipt> {
 /// What listing a chunk as stored left.
 #[derive(Clone, Copy, Debug, PartialEq, Eq)]
 pub struct Finished {
-    /// Whether the listing would survive a crash. There is no log yet, so it is always false.
+    /// Whether the listing outlives a crash: never of a shard without a log.
     pub durable: bool,
 }
 

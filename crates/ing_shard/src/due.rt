@@ -2,6 +2,9 @@
 
 use ing_postings::StreamNo;
 
+/// Whether what a shard without a log does outlives a crash.
+pub(crate) const NOT_DURABLE: bool = false;
+
 /// A chunk that is to be flushed: the oldest sealed one of a stream (own).
 #[derive(Clone, Copy, Debug, PartialEq, Eq)]
 pub struct Op {
@@ -18,6 +21,6 @@ pub struct Due {
     pub sealed: u64,
     /// One operation for each sealed chunk that waits in memory, those sealed earlier too, by the number of its stream.
     pub ops: Vec<Op>,
-    /// Whether the seals would survive a crash. There is no log yet, so it is always false.
+    /// Whether the seals outlive a crash: never of a shard without a log.
     pub durable: bool,
 }

@@ -28,4 +28,5 @@ pub use finish_fault::FinishFault;
 pub use judged_push::JudgedPush;
 pub use laws::{an_only_shard_has_all, streams_are_picked};
 pub use listed::Listed;
+pub use sealing::Sealing;
 pub use shard::{Pushed, Shard};
