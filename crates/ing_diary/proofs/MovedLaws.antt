@@ -1,12 +1,15 @@
 -- What stands once and alike stands so in whatever order.
-use Rattle.std.proofs.Common.{◌≡◌, ℕ, suc, Bool, true, false, cond, List, [], ◌∷◌, length, filter, refl, ap, sym, subst, ◌∙◌, arith}
+use Rattle.std.proofs.Common.{◌≡◌, ℕ, Bool, true, false, cond, List, [], ◌∷◌, ◌++◌, ◌+◌, length, length-append, filter, refl, ap, sym, ◌∙◌, arith}
 use Rattle.std.specs.Prelude.{All, IsPermutation}
 use Rattle.std.proofs.lemmas.List.{nil_from_length}
-use Rattle.std.proofs.lemmas.List.Elements.{All-cons, All-head, All-nil, All-tail}
-use Rattle.std.proofs.lemmas.List.Sorted.{All-permutation, IsPermutation-sym, sum_by-IsPermutation}
+use Rattle.std.proofs.lemmas.List.Elements.{All-cons, All-head, All-nil, All-tail, filter-append}
+use Rattle.std.proofs.lemmas.List.Sorted.{All-permutation, sum_by-IsPermutation}
 use Rattle.std.proofs.lemmas.List.Sums.{length-filter}
 use Rattle.ing_rows.specs.Rows.{StreamKey}
-use Rattle.ing_diary.specs.Notes.{IsAlike, Note, is_note_at}
+use Rattle.ing_diary.specs.Notes.{IsAlike, IsUnlike, Note, is_note_at}
+
+counted_moved : (p : Note → Bool) (xs ys : List Note) → IsPermutation xs ys → length (filter p ys) ≡ length (filter p xs)
+counted_moved p xs ys same = length-filter p ys ∙ sum_by-IsPermutation (λ n. cond (p n) 1 0) xs ys same ∙ sym (length-filter p xs)
 
 true_is_not : (b : Bool) → b ≡ false → b ≡ true → ⊥
 true_is_not b is_false is_true = let wrong : false ≡ true = sym is_false ∙ is_true in cc
@@ -44,9 +47,7 @@ module _ (p : Note → Bool) (z : Note) where
 
   one_moved : (xs ys : List Note) → IsPermutation xs ys → filter p xs ≡ z ∷ [] → filter p ys ≡ z ∷ []
   one_moved xs ys same one =
-      let count : length (filter p ys) ≡ length (filter p xs) =
-      length-filter p ys ∙ sum_by-IsPermutation (λ n. cond (p n) 1 0) xs ys same ∙ sym (length-filter p xs) in
-      passes_alone ys (All-permutation IsOne xs ys same (one_passes xs one)) (count ∙ ap length one)
+      passes_alone ys (All-permutation IsOne xs ys same (one_passes xs one)) (counted_moved p xs ys same ∙ ap length one)
 
 pub alike_moved : (s : StreamKey) (number : ℕ) (xs xs' ys ys' : List Note) → IsPermutation xs xs' → IsPermutation ys ys' → IsAlike s number xs ys → IsAlike s number xs' ys'
 alike_moved s number xs xs' ys ys' one other alike =
@@ -55,4 +56,20 @@ alike_moved s number xs xs' ys ys' one other alike =
       entry = alike.entry;
       one = one_moved (is_note_at s number) z xs xs' one alike.one;
       other = one_moved (is_note_at s number) z ys ys' other alike.other;
+    }
+
+-- and so does what does not
+pub unlike_moved : (s : StreamKey) (number : ℕ) (xs xs' ys ys' : List Note) → IsPermutation xs xs' → IsPermutation ys ys' → IsUnlike s number xs' ys' → IsUnlike s number xs ys
+unlike_moved s number xs xs' ys ys' one other unlike =
+    let at = is_note_at s number in
+    let count : (ps qs : List Note) → length (filter at (ps ++ qs)) ≡ length (filter at ps) + length (filter at qs) =
+    λ ps qs. ap length (filter-append at ps qs) ∙ length-append (filter at ps) (filter at qs) in
+    let mine = counted_moved at xs xs' one in
+    let theirs = counted_moved at ys ys' other in
+    let was = count xs ys in
+    let is = count xs' ys' in
+    let some = unlike.stands in
+    record {
+      stands = omega (arith, mine, theirs, was, is, some);
+      unlike = λ alike. unlike.unlike (alike_moved s number xs xs' ys ys' one other alike);
     }

@@ -1,6 +1,6 @@
 -- Notes in order, and the first that has not its like.
-use Rattle.std.proofs.Common.{◌==◌, ◌≡◌, ◌≢◌, ◌+◌, ◌<◌, ◌≤◌, ℕ, zero, suc, Bool, true, false, cond, ◌&&◌, nat_eq, nat_lt, bytes_eq, List, [], ◌∷◌, ◌++◌, length, length-append, append-nil, filter, take, drop, Some, None, refl, ap, sym, subst, ◌∙◌, arith}
-use Rattle.std.specs.Prelude.{slice_get, slice_index_or, IsPermutation}
+use Rattle.std.proofs.Common.{◌==◌, ◌≡◌, ◌+◌, ◌<◌, ℕ, zero, suc, Bool, true, false, cond, ◌&&◌, nat_eq, nat_lt, bytes_eq, List, [], ◌∷◌, ◌++◌, length, length-append, append-nil, filter, take, drop, Option, Some, None, refl, ap, sym, subst, ◌∙◌, arith}
+use Rattle.std.specs.Prelude.{slice_get, slice_index_or}
 use Rattle.std.specs.Cmp.Lexicographic.{slice_cmp}
 use Rattle.std.specs.Cmp.{IsStrictWeakOrder, IsTotalOrder}
 use Rattle.std.specs.List.Sorted.{IsSortedBy}
@@ -19,7 +19,7 @@ use Rattle.ing_rows.specs.declared.verdict.Verdict.{Verdict}
 use Rattle.ing_chunk.specs.declared.numbered.Numbered.{Numbered}
 use Rattle.ing_rows.specs.Placement.{shard_of}
 use Rattle.ing_rows.specs.Rows.{StreamKey, same_stream}
-use Rattle.ing_diary.specs.Notes.{IsAlike, Note, is_note_at, note_before, note_cmp, is_in_shard, note_of_numbered, note_under, noted, notes_of, number_told}
+use Rattle.ing_diary.specs.Notes.{IsAlike, IsAmiss, IsUnlike, Note, is_note_at, note_before, note_cmp, is_in_shard, note_of_numbered, note_under, noted, notes_of, number_told}
 
 -- ---- the order
 
@@ -269,6 +269,59 @@ module _ (ours theirs : List Note) (place : ℕ) (same : take place ours ≡ tak
   at_behind_other y at_y all alike =
       amiss_behind_other y (take place ours) (drop (suc place) theirs)
       (alike_as y.stream y.number _ _ (sym all ∙ sym (append-nil (take place ours))) (theirs_are y at_y) alike)
+
+-- ---- what stands somewhere
+
+stands_at : (xs : List Note) (i : ℕ) (x : Note) → slice_get xs i ≡ Some x → 0 < length (filter (is_note_at x.stream x.number) xs)
+stands_at [] i x at = absurd cc
+stands_at (y ∷ ys) zero x at =
+    let same : y ≡ x = cc in
+    let passes = ap (is_note_at x.stream x.number) same ∙ at_own x in
+    subst (λ b. 0 < length (cond b (y ∷ filter (is_note_at x.stream x.number) ys) (filter (is_note_at x.stream x.number) ys))) (sym passes) (omega arith)
+stands_at (y ∷ ys) (suc i) x at = by_cases (is_note_at x.stream x.number y) (stands_at ys i x at) where
+  by_cases : (b : Bool) → 0 < length (filter (is_note_at x.stream x.number) ys) → 0 < length (cond b (y ∷ filter (is_note_at x.stream x.number) ys) (filter (is_note_at x.stream x.number) ys))
+  by_cases true some = omega arith
+  by_cases false some = some
+
+-- in the one list, or in the other
+module _ (x : Note) (xs ys : List Note) where
+  both_count : length (filter (is_note_at x.stream x.number) (xs ++ ys)) ≡ length (filter (is_note_at x.stream x.number) xs) + length (filter (is_note_at x.stream x.number) ys)
+  both_count =
+      let at = is_note_at x.stream x.number in
+      ap length (filter-append at xs ys) ∙ length-append (filter at xs) (filter at ys)
+
+  stands_one : (i : ℕ) → slice_get xs i ≡ Some x → 0 < length (filter (is_note_at x.stream x.number) (xs ++ ys))
+  stands_one i at = let here = stands_at xs i x at in omega (arith, both_count, here)
+
+  stands_other : (i : ℕ) → slice_get ys i ≡ Some x → 0 < length (filter (is_note_at x.stream x.number) (xs ++ ys))
+  stands_other i at = let here = stands_at ys i x at in omega (arith, both_count, here)
+
+read_there : (xs : List Note) (i : ℕ) (x y : Note) → x ≡ slice_index_or xs i x → slice_get xs i ≡ Some y → x ≡ y
+read_there [] i x y is at = absurd cc
+read_there (z ∷ zs) zero x y is at = let same : z ≡ y = cc in is ∙ same
+read_there (z ∷ zs) (suc i) x y is at = read_there zs i x y is at
+
+-- what is amiss at a place stands there
+module _ (ours theirs : List Note) (place : ℕ) (x : Note) where
+  abbrev Stands : Type 0
+  Stands = 0 < length (filter (is_note_at x.stream x.number) (ours ++ theirs))
+
+  unlike_there : (xs : List Note) → (slice_get xs place ≡ Some x → Stands) → x ≡ slice_index_or xs place x → IsAmiss ours theirs (slice_get xs place) → IsUnlike x.stream x.number ours theirs
+  unlike_there xs stands is amiss = by_cases (slice_get xs place) refl amiss where
+    by_cases : (o : Option Note) → slice_get xs place ≡ o → IsAmiss ours theirs o → IsUnlike x.stream x.number ours theirs
+    by_cases None at amiss = absurd amiss
+    by_cases (Some y) at amiss =
+        let same = read_there xs place x y is at in
+        record {
+          stands = stands (at ∙ ap Some (sym same));
+          unlike = subst (λ (n : Note). IsAlike n.stream n.number ours theirs → ⊥) (sym same) amiss;
+        }
+
+  pub unlike_one : x ≡ slice_index_or ours place x → IsAmiss ours theirs (slice_get ours place) → IsUnlike x.stream x.number ours theirs
+  unlike_one = unlike_there ours (stands_one x ours theirs place)
+
+  pub unlike_other : x ≡ slice_index_or theirs place x → IsAmiss ours theirs (slice_get theirs place) → IsUnlike x.stream x.number ours theirs
+  unlike_other = unlike_there theirs (stands_other x ours theirs place)
 
 -- ---- the notes of a shard
 

@@ -1,5 +1,5 @@
 -- What was read of parts and of streams, as notes.
-use Rattle.std.proofs.Common.{◌≡◌, ◌≢◌, ◌<◌, ℕ, zero, suc, Bool, true, false, cond, List, [], ◌∷◌, ◌++◌, length, map, append-nil, take, Some, None, refl, ap, sym, subst, ◌∙◌, arith}
+use Rattle.std.proofs.Common.{◌≡◌, ◌<◌, ℕ, zero, suc, Bool, true, false, cond, List, [], ◌∷◌, ◌++◌, length, map, append-nil, take, Some, None, refl, ap, sym, subst, ◌∙◌, arith}
 use Rattle.std.specs.Option.{option_map}
 use Rattle.ing_shard.specs.declared.listed.Listed.{Listed}
 use Rattle.std.specs.Prelude.{IfOk, IfSome, IsPermutation, Ok, Err, Option, Result, slice_get}

@@ -5,7 +5,7 @@ use Rattle.ing_refusals.specs.declared.refusal.Refusal.TheVariants as refusal
 use Rattle.ing_query.specs.Fetched.{Counts, NotBad}
 use Rattle.ing_query.specs.QueryFaults.{query_refusal_of}
 use Rattle.ing_rows.specs.Rows.{Row, StreamKey}
-use Rattle.ing_diary.specs.Notes.{IsAlike, Note, note_of}
+use Rattle.ing_diary.specs.Notes.{IsUnlike, Note, note_of}
 use Rattle.ing_diary.specs.declared.fault.Unsettled.{Unsettled}
 use Rattle.ing_diary.specs.declared.fault.Unsettled.TheVariants.{Query, Differs}
 use Rattle.ing_diary.specs.declared.fault.Mismatch.{Mismatch}
@@ -26,10 +26,10 @@ IsNoBadObject (Differs mismatch) = Unit {0}
 abbrev pub stream_in : Mismatch → StreamKey
 stream_in mismatch = record { tenant = string_bytes mismatch.tenant; name = string_bytes mismatch.stream }
 
--- what is named does not stand exactly once and alike among the rows and among the notes
+-- what is named stands among the rows or the notes, and not exactly once and alike in both
 abbrev pub NamesOther : List Row → List Note → Unsettled → Type 0
 NamesOther rows notes (Query fault) = Unit {0}
-NamesOther rows notes (Differs mismatch) = IsAlike (stream_in mismatch) mismatch.number (map note_of rows) notes → ⊥
+NamesOther rows notes (Differs mismatch) = IsUnlike (stream_in mismatch) mismatch.number (map note_of rows) notes
 
 -- which refusal it is
 abbrev pub unsettled_refusal_of : Unsettled → Refusal

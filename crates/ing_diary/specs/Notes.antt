@@ -1,5 +1,5 @@
 -- What pushers note of the entries that were accepted, and when the rows of a shard are what was noted (own).
-use Rattle.std.specs.Prelude.{◌≡◌, ℕ, ◌==◌, Bool, ◌&&◌, List, [], ◌∷◌, ◌++◌, filter, map, Option, Some, None, IsPermutation, slice_get}
+use Rattle.std.specs.Prelude.{◌≡◌, ℕ, ◌==◌, ◌<◌, Bool, ◌&&◌, List, [], ◌∷◌, ◌++◌, filter, length, map, Option, Some, None, IsPermutation, slice_get}
 use Rattle.std.specs.Cmp.Lexicographic.{slice_cmp}
 use Rattle.std.specs.Ordering.{is_lt, nat_cmp, ordering_then}
 use Rattle.std.specs.declared.cmp.Ordering.{Ordering}
@@ -93,6 +93,11 @@ pub record IsAlike (s : StreamKey) (number : ℕ) (xs ys : List Note) : Type 0 w
   pub entry : Entry
   pub one : filter (is_note_at s number) xs ≡ record { stream = s; number = number; entry = entry } ∷ []
   pub other : filter (is_note_at s number) ys ≡ record { stream = s; number = number; entry = entry } ∷ []
+
+-- an entry of this number stands in the one or the other, and not the same entry exactly once in both
+pub record IsUnlike (s : StreamKey) (number : ℕ) (xs ys : List Note) : Type 0 where
+  pub stands : 0 < length (filter (is_note_at s number) (xs ++ ys))
+  pub unlike : IsAlike s number xs ys → ⊥
 
 -- where it is: in the one list, or in the other
 abbrev pub amiss_in : List Note → List Note → Amiss → Option Note

@@ -2,7 +2,7 @@
 ghost use Rattle.std.specs.Prelude.{◌≡◌, IfErr, IfNone, IfOk, IfSome, OnOk};
 ghost use Rattle.std.specs.List.Sorted.{IsSortedBy};
 ghost use Rattle.ing_diary.specs.Faults.{AreCounted, IsNoBadObject, NamesOther, stream_in};
-ghost use Rattle.ing_diary.specs.Notes.{AreNoted, IsAlike, IsAmiss, amiss_in, note_before};
+ghost use Rattle.ing_diary.specs.Notes.{AreNoted, IsAmiss, IsUnlike, amiss_in, note_before};
 
 use crate::compare::{NoteRef, compare, is_same_entry, sort, spread};
 use crate::fault::{Mismatch, Unsettled};
@@ -15,7 +15,7 @@ use std::cmp::Ordering;
 /// Reads all entries of a shard back, and compares them with what was noted: it is Ok only where the entries of the shard, each once,
 /// are exactly the notes. It takes memory for all of them. (Own.)
 ///
-/// `Differs` names an entry that does not stand exactly once and alike in both; of several, one. `Query` where not all could be read:
+/// `Differs` names an entry that stands in the one or the other, and not exactly once and alike in both; of several, one. `Query` where not all could be read:
 /// `StoreFault` only where the end has failed, `BadObject` never over an honest end, and `NoMemory`.
 pub fn settle<S: StoreEnd>(
     alloc: Global,
@@ -86,7 +86,7 @@ fn named(
 ) -> Result<Mismatch, AllocError>
     requires { IsAmiss ours.now theirs.now (amiss_in ours.now theirs.now amiss) }
     ensures { IfOk result (λ mismatch.
-        IsAlike (stream_in mismatch) mismatch.number ours.now theirs.now → ⊥) }
+        IsUnlike (stream_in mismatch) mismatch.number ours.now theirs.now) }
 {
     match amiss {
         Amiss::Ours(place) => mismatch_of(alloc, &ours[place]),

@@ -1,7 +1,7 @@
 use Rattle.std.proofs.Common.{◌≡◌, ◌++◌, List, [], OnOk, append-nil, ap, filter, sym, subst, ◌∙◌}
 use Rattle.ing_rows.specs.Placement.{shard_of}
 use Rattle.ing_rows.specs.Rows.{StreamKey}
-use Rattle.ing_diary.specs.Notes.{Note, is_in_shard, notes_of}
+use Rattle.ing_diary.specs.Notes.{Note, is_in_shard}
 use Rattle.ing_diary.proofs.NoteLaws.{all_in, none_in}
 use Rattle.ing_diary.proofs.compare.spread_if.Goals as goal
 

@@ -3,8 +3,8 @@ use Rattle.std.specs.Prelude.{IsPermutation}
 use Rattle.std.specs.List.{flat_map}
 use Rattle.std.proofs.lemmas.List.Sorted.{IsPermutation-sym, IsPermutation-trans}
 use Rattle.ing_diary.specs.Faults.{stream_in}
-use Rattle.ing_diary.specs.Notes.{IsAlike, Note, note_of}
-use Rattle.ing_diary.proofs.MovedLaws.{alike_moved}
+use Rattle.ing_diary.specs.Notes.{IsUnlike, Note, note_of}
+use Rattle.ing_diary.proofs.MovedLaws.{unlike_moved}
 use Rattle.ing_diary.proofs.settling.settle.Goals as goal
 
 pub returns-in-None-clause-settled : goal.returns-in-None-clause-settled
@@ -23,11 +23,10 @@ returns-in-None-clause-settled g c honest =
     IsPermutation-trans rows theirs notes (subst (IsPermutation rows) same mine) (IsPermutation-sym notes theirs c.sort-2.ensures.same)
 
 pub returns-clause-differs : goal.returns-clause-differs
-returns-clause-differs g c honest alike =
+returns-clause-differs g c honest =
     let rows = map note_of c.args.shard.now.state.rows in
     let ours = c.sort.new.notes.items in
     let theirs = c.sort-2.new.notes.items in
-    let notes = c.args.notes.items in
     let mismatch = c.in_ok-named-in-Some.field-0 in
     let spread : c.spread.new.notes.items ≡ flat_map (λ (noted : List Note). noted) c.in_ok-read.read.items =
     c.in_ok-spread.ensures
@@ -35,7 +34,6 @@ returns-clause-differs g c honest alike =
     ∙ ap (flat_map (λ (noted : List Note). noted)) c.deref.ensures.value in
     let read : IsPermutation rows c.spread.new.notes.items = subst (IsPermutation rows) (sym spread) (c.in_ok-read.ensures.all honest) in
     let mine = IsPermutation-trans rows c.spread.new.notes.items ours read c.sort.ensures.same in
-    let moved = alike_moved (stream_in mismatch) mismatch.number rows ours notes theirs mine c.sort-2.ensures.same alike in
-    c.in_ok-named-in-Some.ensures
-    (subst (λ l. IsAlike (stream_in mismatch) mismatch.number l c.deref-in-Some-2.result.now) (sym c.deref-in-Some.ensures.value)
-    (subst (λ l. IsAlike (stream_in mismatch) mismatch.number ours l) (sym c.deref-in-Some-2.ensures.value) moved))
+    unlike_moved (stream_in mismatch) mismatch.number rows ours c.args.notes.items theirs mine c.sort-2.ensures.same
+    (subst (λ l. IsUnlike (stream_in mismatch) mismatch.number l theirs) c.deref-in-Some.ensures.value
+    (subst (λ l. IsUnlike (stream_in mismatch) mismatch.number c.deref-in-Some.result.now l) c.deref-in-Some-2.ensures.value c.in_ok-named-in-Some.ensures))
