@@ -95,6 +95,7 @@ pub(crate) fn hand_out_pushers<N: NodeName>(
         let Pusher {
             told,
             diary: _,
+            places: _,
             of: _,
         } = pusher;
         hand_out_told(lists, told);

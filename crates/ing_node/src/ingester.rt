@@ -13,6 +13,7 @@ use crate::pusher::Pusher;
 use crate::shards::Shards;
 use crate::told::Told;
 use ing_flush::FlusherTally;
+use ing_places::Places;
 use ing_rows::{Gauges, Stamp, Tenant};
 use ing_shard::Due;
 use ing_store::Receipt;
@@ -64,6 +65,7 @@ impl<N: NodeName, R: Receipt> Ingester<N, R> {
         ensures diary { IfOk result (λ pusher. is_some pusher.diary ≡ diary) }
         ensures empty { IfOk result (λ pusher. notes_kept pusher.diary ≡ []) }
     {
+        let places = Places::new(alloc, self.shards.len() as u32)?;
         let mut told = Vec::with_capacity(alloc, self.shards.len())?;
         for place in 0..self.shards.len() {
             match self.shards[place].lock(rt).push_share(place as u32) {
@@ -77,6 +79,7 @@ impl<N: NodeName, R: Receipt> Ingester<N, R> {
         Ok(Pusher {
             told,
             diary: new_diary(alloc, diary),
+            places,
             of: PhantomData,
         })
     }

@@ -19,7 +19,8 @@ use crate::names::NodeName;
 use crate::told::{Told, strand_told};
 use ing_diary::{Diary, NoteRef};
 use ing_labels::Labels;
-use ing_rows::{Entry, Stamp, Tenant, Verdict, shard_of};
+use ing_places::Places;
+use ing_rows::{Entry, Stamp, Tenant, Verdict};
 use ing_shard::Pushed;
 use ing_store::Receipt;
 use std::alloc::{AllocError, Global};
@@ -27,10 +28,12 @@ use std::marker::{Model, PhantomData};
 use std::sync::Wait;
 
 /// Who pushes to one ingester, with a share of what each shard accepted: as many as it was told were accepted there. One that keeps
-/// a diary notes each of these entries. It cannot be dropped. Contracts see the shares, shard by shard, and the notes.
+/// a diary notes each of these entries. It knows the shards of streams that it pushed to lately. It cannot be dropped. Contracts
+/// see the shares, shard by shard, and the notes.
 pub struct Pusher<N: NodeName> {
     pub(crate) told: Vec<Told>,
     pub(crate) diary: Option<Diary>,
+    pub(crate) places: Places,
     pub(crate) of: PhantomData<N>,
 }
 
@@ -47,7 +50,7 @@ impl<N: NodeName> Model for Pusher<N> {
     } };
 
     ghost invariant = { λ pusher. (vec_len pusher.told ≡ N.settings.shards)
-        × AreAcceptedIn N.books pusher.told.items };
+        × AreAcceptedIn N.books pusher.told.items × (pusher.places ≡ N.settings.shards) };
 }
 
 impl<N: NodeName> Pusher<N> {
@@ -98,7 +101,7 @@ impl<N: NodeName> Pusher<N> {
         ensures few { OnOk result (vec_len entries ≤ (rules_for N.settings tenant.now).max_entries_per_push) }
         ensures err { OnErr result (self.new ≡ self.old) }
     {
-        let shard = shard_of(tenant, labels.name(), node.shards.len() as u32);
+        let shard = self.places.of(tenant, labels.name());
         begin_note(&mut self.diary, alloc, tenant, labels, &entries)?;
         let told = &mut self.told;
         let pushed = push_told(told, rt, alloc, node, shard, tenant, labels, entries, now)?;
@@ -135,6 +138,7 @@ impl<N: NodeName> Pusher<N> {
         let Pusher {
             told,
             diary: _,
+            places: _,
             of: _,
         } = self;
         strand_told(told);

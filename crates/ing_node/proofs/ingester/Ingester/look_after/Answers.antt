@@ -43,6 +43,7 @@ loop-place-preserved g c =
       below = subst (λ (ss : List (Snapshot g.row.R.Denot)). AreBelow shards tenant (place + 1) (standing_in ss)) (sym c.push_reserved-in-loop-place.ensures.items) (subst (AreBelow shards tenant (place + 1)) (sym more) both.1);
       all = at.all;
       own = subst (AreAcceptedIn g.N.NodeName.books) (sym kept) at.own;
+      places = at.places;
       snapshots = subst (All P) (sym c.push_reserved-in-loop-place.ensures.items)
           (All-append P c.loop-place.snapshots.items (new ∷ []) at.snapshots (All-cons P new [] c.in_ok-snapshot.ensures.asked (All-nil P)));
       fronts = subst (λ (ns : List ℕ). AreNoLess told ns) (sym c.push_reserved.ensures.items)

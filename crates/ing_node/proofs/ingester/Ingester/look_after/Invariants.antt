@@ -14,6 +14,7 @@ invariant-loop-place g l = record {
   diary : notes_in l.pusher-inside.diary ≡ l.fn.pusher.diary;
   all : vec_len l.pusher-inside.told ≡ g.N.NodeName.settings.shards;
   own : AreAcceptedIn g.N.NodeName.books l.pusher-inside.told.items;
+  places : l.pusher-inside.places ≡ g.N.NodeName.settings.shards;
   snapshots : All (IsAskedOf l.tenant l.selector l.question) l.snapshots.items;
   fronts : AreNoLess l.fn.pusher.told l.fronts.items;
   once : StandApart (standing_in l.snapshots.items);
