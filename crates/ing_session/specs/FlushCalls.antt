@@ -13,11 +13,7 @@ use Rattle.ing_session.specs.Views.{reply_data}
 
 abbrev pub is_flush : Command → Bool
 is_flush (Flush flush) = true
-is_flush (Push push) = false
-is_flush (Sweep sweep) = false
-is_flush (Gauges gauges) = false
-is_flush Board = false
-is_flush (Query query) = false
+is_flush _ = false
 
 -- a flush that leaves this behind, with this result, is obeyed
 pub record ObeysFlush {C S E : Type 0} (m : Manner) (holds : C → m.Held → Type 0) (settings_of : C → StoreSettings) (failures : S → ℕ) (never_fails : S → Type 0)
