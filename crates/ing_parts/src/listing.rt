@@ -2,6 +2,7 @@
 ghost use Rattle.std.specs.Prelude.{◌≡◌, IfOk, filter, true, []};
 ghost use Rattle.ing_labels.specs.Canonical.{canonical_of};
 ghost use Rattle.ing_chunk.specs.Chunks.{in_blocks, is_between};
+ghost use Rattle.ing_codec.specs.RowObjects.{IsExtent};
 ghost use Rattle.ing_parts.specs.Listings.{IsListing, IsSpelt, listed_of, extent_of};
 
 use ing_chunk::spans_bound_stamps;
@@ -88,7 +89,8 @@ impl<R: Receipt> Listing<R> {
 
     /// The numbers, the size and the stamps of its entries.
     pub fn extent(&self) -> Extent
-        ensures { result ≡ extent_of self.now.first self.now.blocks }
+        ensures value { result ≡ extent_of self.now.first self.now.blocks }
+        ensures range { IsExtent result }
     {
         self.kept.row.extent()
     }

@@ -1,17 +1,19 @@
 //! The place of one stream.
-ghost use Rattle.std.specs.Prelude.{◌≡◌, ◌<◌, IfSome, None, Some, string_bytes};
+ghost use Rattle.std.specs.Prelude.{◌≡◌, ◌<◌, IfSome, None, Some};
 ghost use Rattle.ing_rows.specs.Placement as placement;
-ghost use Rattle.ing_places.specs.Slots.{IsOwn};
+ghost use Rattle.ing_places.specs.Slots.{IsOwn, name_in, tenant_in};
 
 use ing_rows::{Tenant, shard_of};
 use std::alloc::Global;
 
-/// A stream and its shard, or nothing, and the mark of the stream that was asked for last. The buffers stay for the streams that
+/// A stream and its shard, or nothing, and the mark of the stream that was asked for last. The buffer stays for the streams that
 /// come after.
 #[derive(Debug, Drop)]
 pub(crate) struct Slot {
-    tenant: String,
-    name: String,
+    /// The stream's tenant, and its name behind it: one text, so that a look-up reads one place.
+    text: String,
+    /// How many bytes the tenant has.
+    split: usize,
     shard: Option<u32>,
     asked: u32,
 }
@@ -22,8 +24,8 @@ impl Slot {
         ensures { result.shard ≡ None }
     {
         Slot {
-            tenant: String::new(alloc),
-            name: String::new(alloc),
+            text: String::new(alloc),
+            split: 0,
             shard: None,
             asked: 0,
         }
@@ -52,9 +54,10 @@ impl Slot {
     /// The shard that it keeps, if it keeps this stream: all bytes are compared. Takes no memory.
     pub(crate) fn kept(&self, tenant: &Tenant, name: &str) -> Option<u32>
         ensures { IfSome result (λ shard. (self.now.shard ≡ Some shard)
-            × (string_bytes self.now.tenant ≡ tenant.now) × (string_bytes self.now.name ≡ name.now)) }
+            × (tenant_in self.now ≡ tenant.now) × (name_in self.now ≡ name.now)) }
     {
-        if self.name.as_str() == name && self.tenant.as_str() == tenant.as_str() {
+        let (kept_tenant, kept_name) = self.text.as_bytes().split_at_checked(self.split)?;
+        if kept_name == name.as_bytes() && kept_tenant == tenant.as_str().as_bytes() {
             self.shard
         } else {
             None
@@ -64,13 +67,13 @@ impl Slot {
     /// Keeps a stream and its shard in place of what it kept. Where memory runs out it keeps nothing.
     fn keep(&mut self, tenant: &Tenant, name: &str, shard: u32)
         ensures { IfSome self.new.shard (λ kept. (kept ≡ shard)
-            × (string_bytes self.new.tenant ≡ tenant.now) × (string_bytes self.new.name ≡ name.now)) }
+            × (tenant_in self.new ≡ tenant.now) × (name_in self.new ≡ name.now)) }
     {
         self.shard = None;
-        self.tenant.clear();
-        self.name.clear();
-        let written = self.tenant.push_str(tenant.as_str());
-        if written.is_ok() && self.name.push_str(name).is_ok() {
+        self.text.clear();
+        let written = self.text.push_str(tenant.as_str());
+        self.split = self.text.len();
+        if written.is_ok() && self.text.push_str(name).is_ok() {
             self.shard = Some(shard);
         }
     }

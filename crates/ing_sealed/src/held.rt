@@ -8,9 +8,11 @@ ghost use Rattle.ing_sealed.specs.Slots.{slot_at, put_at};
 ghost use Rattle.ing_chunk.specs.Chunks.{IsWhole};
 ghost use Rattle.ing_chunk.specs.Chunks.{ChunkContents};
 ghost use Rattle.ing_sealed.specs.KeptSlots.{slot_of, waits, HoldsWhole};
+ghost use Rattle.ing_sealed.specs.Views.{record_of};
 
 use crate::same::is_same;
 use ing_chunk::Chunk;
+use ing_logged::ChunkView;
 use ing_parts::{Listing, Part, Snapshot, StreamName, list_chunk, list_stored};
 use ing_store::Receipt;
 use std::alloc::{AllocError, Global};
@@ -69,6 +71,18 @@ pub(crate) fn add_held<R: Receipt>(
         Held::Waiting(chunk) => snapshot.add_chunk(alloc, name, chunk),
         Held::Shared(chunk) | Held::Flying(_, chunk) => snapshot.add_chunk(alloc, name, chunk),
         Held::Stored(listing) => snapshot.add_stored(name, listing),
+    }
+}
+
+/// What a checkpoint says of one.
+pub(crate) fn view_of<R: Receipt>(held: &Held<R>) -> ChunkView<'_>
+    requires { HoldsWhole held.now }
+    ensures { result ≡ record_of (slot_of held.now) }
+{
+    match held {
+        Held::Waiting(chunk) => ChunkView::of_chunk(chunk),
+        Held::Shared(chunk) | Held::Flying(_, chunk) => ChunkView::of_chunk(chunk),
+        Held::Stored(listing) => ChunkView::of_stored(listing.extent(), listing.key()),
     }
 }
 

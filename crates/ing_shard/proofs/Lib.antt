@@ -9,11 +9,13 @@ mod HeldLaws
 mod JudgeLaws
 mod JudgedLaws
 mod ListedLaws
+mod LastLaws
 mod LiveLaws
 mod LocateLaws
 mod NameLaws
 mod NamedLaws
 mod OnceLaws
+mod OrderLaws
 mod OwnLaws
 mod Parts
 mod PickLaws
@@ -29,5 +31,7 @@ mod StreamLaws
 mod SumLaws
 mod TakeLaws
 mod TenantLaws
+mod ToldLaws
 mod WaitLaws
 mod WholeLaws
+mod WritableLaws

@@ -141,3 +141,10 @@ some_items (x ∷ xs) n is some = omega arith
 -- a list of no length is empty
 pub no_items : {X : Type 0} (xs : List X) (n : ℕ) → n ≡ length xs → (n == 0) ≡ true → xs ≡ []
 no_items xs n is none = let zero_long = eqb-true n 0 none in nil_from_length xs (sym is ∙ zero_long)
+
+pub not_full_chunks : (st : State) (s : StreamKey) (more : ℕ) → is_full st s more ≡ false → length (chunk_starts s st.rows) + more ≤ 2 ^ 32 - 1
+not_full_chunks st s more h =
+    let entries = nat_lt (2 ^ 62) (length st.rows + more) in
+    let streams = (count_of st.rows s == 0) && nat_le (2 ^ 32 - 1) (length (streams_of st.rows)) in
+    let chunks = nat_lt (2 ^ 32 - 1) (length (chunk_starts s st.rows) + more) in
+    ltb-false (2 ^ 32 - 1) (length (chunk_starts s st.rows) + more) (or_parts (entries || streams) chunks h).1

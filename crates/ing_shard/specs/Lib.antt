@@ -24,3 +24,5 @@ pub use Rattle.ing_labels.specs.Labels
 pub use Rattle.ing_labels.specs.Selectors
 pub use Rattle.ing_limits.specs.Settings
 pub use Rattle.ing_limits.specs.Ranges
+pub mod Writable
+pub mod Checkpointed

@@ -26,6 +26,7 @@ use Rattle.ing_shard.specs.declared.tenants.TenantKept.{TenantKept}
 use Rattle.ing_shard.specs.declared.books.Books.{Books}
 use Rattle.ing_shard.specs.declared.streams.Streams.{Streams}
 use Rattle.ing_shard.specs.declared.tenants.Tenants.{Tenants}
+use Rattle.ing_shard.specs.Writable.{AllCanBeWritten}
 use Rattle.ing_shard.specs.Tenants.{Fits, IsWithin, changed, find_of, is_known, kept_by, kept_of, listed_as, posted_of}
 
 abbrev pub key_of : Stream → StreamKey
@@ -209,8 +210,10 @@ counts_of streams = counted_by streams.entries streams.stored (map slots_of stre
 abbrev pub seen_of : Books → BookStates
 seen_of books = record { accepted = books.accepted; flight = books.flight; stored = books.stored; counts = books.counts.name }
 
--- what is kept beside the streams of a shard is what they give, each of them is its own, and the books count them
+-- What is kept beside the streams of a shard is what they give, each of them is its own, the books count them, and a checkpoint can
+-- tell of them.
 pub record IsShard {R : Type 0} (settings : StoreSettings) (number : ℕ) (streams : Streams R) (books : BookStates) : Type 0 where
   pub held : AreHeld streams
   pub own : AreOwn settings.shards number (map key_of streams.list.items)
   pub counted : told_by books ≡ counts_of streams
+  pub writable : AllCanBeWritten settings.rules.chunk_target_size streams.list.items

@@ -2,6 +2,7 @@
 #![tactic(auto)]
 
 mod books;
+mod checkpoints;
 mod claimed;
 mod due;
 mod fault;

@@ -3,8 +3,8 @@ use Rattle.ing_parts.specs.Listings.{extent_of, listed_of}
 use Rattle.ing_parts.proofs.ListingLaws.{listing_extent}
 use Rattle.ing_parts.proofs.listing.Listing.extent.Goals as goal
 
-pub returns : goal.returns
-returns g c =
+pub returns-clause-value : goal.returns-clause-value
+returns-clause-value g c =
     let name = g.R.Receipt.name c.self.inside.kept.value.receipt in
     let bytes = g.R.Receipt.bytes c.self.inside.kept.value.receipt in
     let row = c.self.inside.kept.value.row in

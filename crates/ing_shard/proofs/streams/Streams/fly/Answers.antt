@@ -16,6 +16,7 @@ use Rattle.ing_shard.proofs.FlightLaws.{apart_claimed, apart_same, claims_whole,
 use Rattle.ing_shard.proofs.FlushLaws.{around_here, free_here, key_here, now_here, same_name, can_settle, settled, settled_keys, settled_whole}
 use Rattle.ing_shard.proofs.TenantLaws.{always_on_err}
 use Rattle.ing_shard.proofs.StayLaws.{other_number, stay_changed}
+use Rattle.ing_shard.proofs.WritableLaws.{put_written}
 use Rattle.ing_shard.proofs.streams.Streams.fly.Goals as goal
 
 if_none : {X : Type 0} (o : Option X) (P : Type 0) → ((x : X) → o ≡ Some x → ⊥) → IfNone o P → P
@@ -161,3 +162,12 @@ returns-clause-counts g c =
     counts_flown c.args.self.now now split c.measure-before.ensures.measure c.settle.new.stored c.settle.ensures.stored _ c.vacant_key-flight.result
     (subst (λ o. IfSome o (λ claim. MoreFly (length (in_blocks claim.chunk.value.blocks)) st.chunks.sealed now.chunks.sealed)) c.in-Some.is done.flying)
     (subst (λ o. IfSome o (λ claim. IsPermutation (flights_of now.chunks.sealed) (c.vacant_key-flight.result ∷ flights_of st.chunks.sealed))) c.in-Some.is done.flies)
+
+pub returns-in_err-claim-clause-writable : goal.returns-in_err-claim-clause-writable
+returns-in_err-claim-clause-writable g c target = put_written target (around_here c.args.self.now.list.items _ c.args.number c.index_mut-stream.result.now c.args.self.now.list.ok.0 c.requires.listed c.index_mut-stream.ensures.value) c.claim-claimed.new.self (c.claim-claimed.ensures.writable target)
+
+pub returns-in_default-clause-writable : goal.returns-in_default-clause-writable
+returns-in_default-clause-writable g c target = put_written target (around_here c.args.self.now.list.items _ c.args.number c.index_mut-stream.result.now c.args.self.now.list.ok.0 c.requires.listed c.index_mut-stream.ensures.value) c.claim-claimed.new.self (c.claim-claimed.ensures.writable target)
+
+pub returns-clause-writable : goal.returns-clause-writable
+returns-clause-writable g c target = put_written target (around_here c.args.self.now.list.items _ c.args.number c.index_mut-stream.result.now c.args.self.now.list.ok.0 c.requires.listed c.index_mut-stream.ensures.value) c.claim-claimed.new.self (c.claim-claimed.ensures.writable target)
