@@ -9,7 +9,7 @@ use std::hash::{FoldHasher, Hasher};
 use std::marker::Model;
 
 /// How many streams are kept at most, each in the one slot that its bytes give. Of streams that are asked for in turn one is kept
-/// for each slot that is theirs: 99 in a hundred of 100 streams, 94 of 1,000, 58 of 10,000. Empty slots take 512 KiB.
+/// for each slot that is theirs: 99 in a hundred of 100 streams, 94 of 1,000, 58 of 10,000. Empty slots take 384 KiB.
 const SLOTS: usize = 8192;
 
 /// The places of streams that were asked for lately, at most 8192, with the bytes of their tenants and names: one that is kept is
