@@ -1,5 +1,5 @@
 -- How the rules of tenants are found.
-use Rattle.std.proofs.Common.{◌≡◌, ℕ, cond, Option, List, [], ◌∷◌, Some, None, true, false, Bool, refl, ap, sym, ◌∙◌, String, BTreeMap, string_bytes, nat_cmp}
+use Rattle.std.proofs.Common.{◌≡◌, ℕ, cond, Option, List, [], ◌∷◌, Some, None, true, false, Bool, length, arith, refl, ap, sym, ◌∙◌, String, BTreeMap, string_bytes, nat_cmp}
 use Rattle.std.specs.Ordering.{is_eq}
 use Rattle.std.specs.Cmp.Lexicographic.{slice_cmp}
 use Rattle.std.specs.List.{AllZip}
@@ -31,6 +31,11 @@ pub same_tenants : {Z : Type 0} (tenants : List (List ℕ × Rules)) (held : BTr
 same_tenants tenants held is =
     same_map nat_list_cmp_total (slice_cmp-IsAntisymmetric nat_cmp-IsAntisymmetric) _ _
     (λ tenant. held_get held tenant ∙ is tenant ∙ sym (get-from_entries nat_list_cmp_total tenants tenant))
+
+-- where no tenant is held, none is found
+pub none_held : {Z : Type 0} (es : List (String Z × Rules)) (tenant : List ℕ) → length es ≡ 0 → get (from_entries {R = slice_cmp nat_cmp} (held_tenants es)) tenant ≡ None
+none_held [] tenant none = get-from_entries nat_list_cmp_total [] tenant
+none_held (e ∷ es) tenant none = absurd (omega (arith, none))
 
 -- one more tenant is put into a map, unless it is there already
 chosen : (old new target : Option Rules) (b : Bool) (rules : Rules) (rest : Option Rules) → new ≡ option_or old (cond b (Some rules) None)

@@ -271,11 +271,14 @@ impl Settings {
     }
 
     /// The rules of a tenant: the tenant's own, or those of all tenants where it has no table. Takes no memory, and one
-    /// look-up in an ordered map of the tenants with a table.
+    /// look-up in an ordered map of the tenants with a table; nothing is looked up where none has one.
     pub fn for_tenant(&self, tenant: &Tenant) -> &Rules
         ensures rules { result.now ≡ rules_for self.now tenant.now }
         ensures range { AreRulesInRange result.now }
     {
+        if self.tenants.is_empty() {
+            return &self.rules;
+        }
         match self.tenants.get(tenant.as_str()) {
             Some(rules) => rules,
             None => &self.rules,
