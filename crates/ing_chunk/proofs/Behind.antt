@@ -90,7 +90,7 @@ numbered_push : (n : ℕ) (p : List Entry) (e : Entry) → numbered_from n (p ++
 numbered_push n [] e = ap (λ (k : ℕ). record { number = k; entry = e } ∷ []) (omega arith)
 numbered_push n (x ∷ p) e = ap (λ (l : List Numbered). record { number = n; entry = x } ∷ l) (numbered_push (n + 1) p e ∙ ap (λ (k : ℕ). numbered_from (n + 1) p ++ record { number = k; entry = e } ∷ []) (omega arith))
 
-size_numbered : (n : ℕ) (es : List Entry) → size_of_entries (numbered_from n es) ≡ size_of_all es
+pub size_numbered : (n : ℕ) (es : List Entry) → size_of_entries (numbered_from n es) ≡ size_of_all es
 size_numbered n [] = refl
 size_numbered n (e ∷ es) = omega (arith, sum_by-cons (λ (x : Numbered). size_of x.entry) (record { number = n; entry = e }) (numbered_from (n + 1) es), sum_by-cons size_of e es, size_numbered (n + 1) es)
 

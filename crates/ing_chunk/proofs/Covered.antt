@@ -15,7 +15,7 @@ use Rattle.ing_chunk.proofs.Sums.{some_reordered}
 
 -- ---- each number once
 
-abbrev has : ℕ → Numbered → ℕ
+abbrev pub has : ℕ → Numbered → ℕ
 has n e = cond (nat_eq e.number n) 1 0
 
 untaken : (n : ℕ) (es : List Numbered) → starts n es ≡ 0 → is_taken n es ≡ false
@@ -31,7 +31,7 @@ apart_of (e ∷ es) h = (
   apart_of es (λ n. omega (arith, h n, sum_by-cons (has n) e es)),
 )
 
-none_below : (n from : ℕ) (es : List Numbered) → AreNumbered from es → n < from → starts n es ≡ 0
+pub none_below : (n from : ℕ) (es : List Numbered) → AreNumbered from es → n < from → starts n es ≡ 0
 none_below n from [] h low = refl
 none_below n from (e ∷ es) (is, short, rest) low = grind (arith, nat_tests, is, sum_by-cons (has n) e es, none_below n (from + 1) es rest (omega arith))
 

@@ -7,7 +7,9 @@ mod Drained
 mod Due
 mod Followed
 mod Gauged
+mod Once
 mod Ordered
+mod Restored
 mod Sealed
 mod Sliced
 mod Stands

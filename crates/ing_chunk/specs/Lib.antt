@@ -6,3 +6,4 @@ pub mod KeptHead
 pub mod KeptChunk
 pub mod KeptChunks
 pub mod Behind
+pub mod Restored

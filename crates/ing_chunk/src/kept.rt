@@ -1,8 +1,10 @@
 //! What is kept of entries, so that no look at them is needed.
 ghost use Rattle.std.specs.Prelude.{◌+◌, ◌*◌, ◌^◌, ◌≤◌, ◌∷◌, ◌++◌, [], List, length};
+ghost use Rattle.ing_chunk.specs.Chunks.{in_blocks};
 ghost use Rattle.ing_chunk.specs.Kept.{IsKeptOf};
 ghost use Rattle.ing_chunk.specs.declared.numbered.Numbered.{Numbered};
 
+use super::block::Block;
 use super::numbered::{LAST_STAMP, Numbered, size_of};
 
 /// How many entries there are, their size in bytes, and their least and greatest stamp in nanoseconds.
@@ -44,6 +46,18 @@ impl Kept {
         let mut kept = Kept::NONE;
         for numbered in run {
             kept = kept.and(Kept::of_one(numbered));
+        }
+        kept
+    }
+
+    /// Of the entries of these blocks.
+    pub fn of_blocks(blocks: &[Block]) -> Kept
+        requires { length (in_blocks blocks.now) ≤ 2 ^ 62 }
+        ensures { IsKeptOf result (in_blocks blocks.now) }
+    {
+        let mut kept = Kept::NONE;
+        for block in blocks {
+            kept = kept.and(Kept::of_all(block.entries()));
         }
         kept
     }

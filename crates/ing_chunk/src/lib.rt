@@ -15,5 +15,5 @@ pub use block::Block;
 pub use chunk::Chunk;
 pub use chunks::Chunks;
 pub use head::Head;
-pub use laws::{spans_bound_stamps, stamps_rise};
+pub use laws::{restored_chunks_stand, spans_bound_stamps, stamps_rise};
 pub use numbered::Numbered;

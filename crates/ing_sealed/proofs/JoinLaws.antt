@@ -55,7 +55,7 @@ rising_slots from to (c ∷ ws) whole h =
       rising_slots (from + count_in c) to ws (All-tail IsWhole c ws whole) h.1,
     )
 
-rising_joined : (xs ys : List Slot) → AreRising xs → AreRising ys → All (λ y. AreBelow y.first xs) ys → AreRising (xs ++ ys)
+pub rising_joined : (xs ys : List Slot) → AreRising xs → AreRising ys → All (λ y. AreBelow y.first xs) ys → AreRising (xs ++ ys)
 rising_joined [] ys h k below = k
 rising_joined (x ∷ xs) ys h k below = (
   All-append (λ (y : Slot). x.first < y.first) xs ys h.0 (All-weaker (λ (y : Slot). AreBelow y.first (x ∷ xs)) (λ (y : Slot). x.first < y.first) (λ y b. All-head (λ (z : Slot). z.first < y.first) x xs b) ys below),

@@ -1,19 +1,19 @@
 -- What the sealed chunks of a stream keep beside themselves.
-use Rattle.std.specs.Prelude.{◌≡◌, ◌≤◌, Bool, false, not, All, map, filter, length, take, None}
+use Rattle.std.specs.Prelude.{◌≡◌, ◌≤◌, Bool, false, not, All, map, filter, length, take}
 use Rattle.ing_rows.specs.declared.place.Place.TheVariants as place
 use Rattle.ing_rows.specs.Rows.{is_block, is_stored}
 use Rattle.ing_chunk.specs.Chunks.{IsWhole}
 use Rattle.ing_sealed.specs.declared.held.Held.{Held}
 use Rattle.ing_sealed.specs.declared.held.Held.TheVariants.{Waiting, Shared, Flying, Stored}
 use Rattle.ing_sealed.specs.declared.sealed_chunks.SealedChunks.TheInside.{Inside}
-use Rattle.ing_sealed.specs.Slots.{Slot, slot_at, AreSlots}
+use Rattle.ing_sealed.specs.Slots.{Slot, slot_at, slot_listed, AreSlots}
 
 -- what contracts see of one
 abbrev pub slot_of : {R : Type 0} → Held R → Slot
 slot_of (Waiting c) = slot_at place.Block c
 slot_of (Shared c) = slot_at place.Block c.value
 slot_of (Flying f c) = slot_at (place.Flight f) c.value
-slot_of (Stored l) = record { first = l.first; blocks = l.blocks; last_update = 0; reason = None; place = place.Stored l.key }
+slot_of (Stored l) = slot_listed l
 
 -- a chunk that is held in memory is whole
 abbrev pub HoldsWhole : {R : Type 0} → Held R → Type 0

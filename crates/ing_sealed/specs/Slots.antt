@@ -10,6 +10,7 @@ use Rattle.ing_chunk.specs.declared.numbered.Numbered.{Numbered}
 use Rattle.ing_chunk.specs.Chunks.{ChunkContents, block_rows, in_blocks}
 use Rattle.ing_parts.specs.declared.found.Found.{Found}
 use Rattle.ing_parts.specs.Parts.{found_of}
+use Rattle.ing_parts.specs.Listings.{Listed}
 
 -- A sealed chunk and where it stands: the number of its first entry, the entries of its blocks, its last update and why it
 -- was sealed. Of a stored chunk the last two are not kept.
@@ -32,6 +33,10 @@ put_at place x = record x { place = place }
 -- the same chunk, stored: only its numbers and entries are known of it
 abbrev pub stored_at : List ℕ → Slot → Slot
 stored_at key x = record { first = x.first; blocks = x.blocks; last_update = 0; reason = None; place = Stored key }
+
+-- a chunk that is listed as stored
+abbrev pub slot_listed : Listed → Slot
+slot_listed l = record { first = l.first; blocks = l.blocks; last_update = 0; reason = None; place = Stored l.key }
 
 -- ---- their part of the state of a shard
 

@@ -1,5 +1,5 @@
 //! One sealed chunk, where it stands.
-ghost use Rattle.std.specs.Prelude.{◌≡◌, ℕ, true, false, IfOk, IfErr, OnOk};
+ghost use Rattle.std.specs.Prelude.{◌≡◌, ℕ, true, false, IfOk, IfErr, IfSome, IfNone, OnOk};
 ghost use Rattle.ing_parts.specs.Parts.{Adds, AddsParts};
 ghost use Rattle.ing_sealed.specs.Slots.{found_at_slot};
 ghost use Rattle.ing_rows.specs.declared.place.Place.TheVariants.{Block, Flight};
@@ -39,6 +39,31 @@ impl<R: Receipt> Held<R> {
         match self {
             Held::Waiting(_) | Held::Shared(_) => true,
             Held::Flying(_, _) | Held::Stored(_) => false,
+        }
+    }
+
+    /// The number of its first entry.
+    pub(crate) fn first(&self) -> u64
+        ensures { result ≡ (slot_of self.now).first }
+    {
+        match self {
+            Held::Waiting(chunk) => chunk.first(),
+            Held::Shared(chunk) | Held::Flying(_, chunk) => chunk.first(),
+            Held::Stored(listing) => listing.extent().first,
+        }
+    }
+
+    /// The chunk, where it stands in blocks.
+    pub(crate) fn in_blocks(&self) -> Option<&Chunk>
+        requires { HoldsWhole self.now }
+        ensures some { IfSome result (λ chunk. slot_of self.now ≡ slot_at Block chunk.now) }
+        ensures whole { IfSome result (λ chunk. IsWhole chunk.now) }
+        ensures none { IfNone result (waits self.now ≡ false) }
+    {
+        match self {
+            Held::Waiting(chunk) => Some(chunk),
+            Held::Shared(chunk) => Some(chunk),
+            Held::Flying(_, _) | Held::Stored(_) => None,
         }
     }
 

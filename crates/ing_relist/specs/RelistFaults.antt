@@ -1,0 +1,63 @@
+-- Which refusal a fault of a relisting is, and what it tells of the store (own).
+use Rattle.std.specs.Prelude.{◌≡◌, ℕ, ◌≤◌, List, Option, Some, None, Result, Ok, Err, IfErr}
+use Rattle.ing_codec.specs.RowObjects.{RowObject}
+use Rattle.ing_parts.specs.Listings.{IsListing}
+use Rattle.ing_refusals.specs.Failures.{HasFailed}
+use Rattle.ing_refusals.specs.declared.refusal.Refusal.{Refusal}
+use Rattle.ing_refusals.specs.declared.refusal.Refusal.TheVariants as refusal
+use Rattle.ing_store.specs.declared.fault.StoreFault as store
+use Rattle.ing_store.specs.declared.fault.StoreFault.TheVariants as store_fault
+use Rattle.ing_relist.specs.declared.fault.RelistFault.{RelistFault}
+use Rattle.ing_relist.specs.declared.fault.RelistFault.TheVariants.{NoMemory, StoreFault, Missing, BadObject}
+
+-- the refusal of the same name; a store that was given an object, and has none of its name, has not the bytes that it was given
+abbrev pub relist_refusal_of : RelistFault → Refusal
+relist_refusal_of NoMemory = refusal.NoMemory
+relist_refusal_of (StoreFault key) = refusal.StoreFault
+relist_refusal_of (Missing key) = refusal.Damaged
+relist_refusal_of (BadObject key) = refusal.BadObject
+
+-- what a fault tells of the end's count of failures before and after: it does not fall, a fault of the store comes only where the
+-- end has failed, and it stays where the object is missing or bad
+abbrev pub Counts : ℕ → ℕ → RelistFault → Type 0
+Counts before after NoMemory = before ≤ after
+Counts before after (StoreFault key) = (before ≤ after) × HasFailed before after
+Counts before after (Missing key) = after ≡ before
+Counts before after (BadObject key) = after ≡ before
+
+-- and what an answer tells of it: it stays where the answer is Ok
+abbrev pub IsCounted : {T : Type 0} → ℕ → ℕ → Result T RelistFault → Type 0
+IsCounted before after (Ok answer) = after ≡ before
+IsCounted before after (Err fault) = Counts before after fault
+
+-- the key of a fault, where it has one, is this one
+abbrev pub KeyIs : List ℕ → RelistFault → Type 0
+KeyIs k NoMemory = Unit {0}
+KeyIs k (StoreFault key) = key ≡ k
+KeyIs k (Missing key) = key ≡ k
+KeyIs k (BadObject key) = key ≡ k
+
+abbrev pub HasKey : {T : Type 0} → List ℕ → Result T RelistFault → Type 0
+HasKey k result = IfErr result (KeyIs k)
+
+-- where a fault is a bad object, this holds
+abbrev pub BadMeans : Type 0 → RelistFault → Type 0
+BadMeans P NoMemory = Unit {0}
+BadMeans P (StoreFault key) = Unit {0}
+BadMeans P (Missing key) = Unit {0}
+BadMeans P (BadObject key) = P
+
+abbrev pub HasBad : {T : Type 0} → Type 0 → Result T RelistFault → Type 0
+HasBad P result = IfErr result (BadMeans P)
+
+-- A receipt of an object of this name was given, and the bytes that it means are not the text of a chunk of which this is told.
+abbrev pub WasOther : {R : Type 0} → (R → List ℕ) → (R → List ℕ) → List ℕ → RowObject → Type 0
+WasOther {R} name bytes wanted row = (r : R) × (name r ≡ wanted) × (IsListing (bytes r) row → ⊥)
+
+-- what an end's answer comes to: one of no memory stays that, and any other fault is one of the store
+abbrev pub taken_of : {T : Type 0} → List ℕ → Result (Option T) store.StoreFault → Result T RelistFault
+taken_of key (Ok (Some found)) = Ok found
+taken_of key (Ok None) = Err (Missing key)
+taken_of key (Err store_fault.NoMemory) = Err NoMemory
+taken_of key (Err store_fault.Failed) = Err (StoreFault key)
+taken_of key (Err store_fault.Damaged) = Err (StoreFault key)

@@ -1,0 +1,61 @@
+//! Why a stored chunk is not listed again.
+ghost use Rattle.std.specs.Prelude.{◌≡◌};
+ghost use Rattle.ing_relist.specs.RelistFaults.{relist_refusal_of};
+
+use ing_refusals::Refusal;
+use std::alloc::{AllocError, AllocFailed};
+use thiserror::Error;
+
+/// Why a stored chunk is not listed again.
+#[derive(Clone, Copy, Debug, PartialEq, Eq, Error)]
+pub enum RelistFault {
+    /// Memory ran out.
+    #[error("out of memory")]
+    NoMemory,
+    /// The store did not say whether it has the object of this key.
+    #[error("the store failed")]
+    StoreFault { key: [u8; 32] },
+    /// The store has no object of this key.
+    #[error("a stored object is missing")]
+    Missing { key: [u8; 32] },
+    /// What the store has under this key is not the chunk that is listed.
+    #[error("a stored object is damaged")]
+    BadObject { key: [u8; 32] },
+}
+
+impl RelistFault {
+    /// Which refusal it is: `Damaged` where the object is missing, since the store has not the bytes that it was given; else
+    /// the one of its name. Takes no memory.
+    pub fn refusal(&self) -> Refusal
+        ensures { result ≡ relist_refusal_of self.now }
+    {
+        match self {
+            RelistFault::NoMemory => Refusal::NoMemory,
+            RelistFault::StoreFault { .. } => Refusal::StoreFault,
+            RelistFault::Missing { .. } => Refusal::Damaged,
+            RelistFault::BadObject { .. } => Refusal::BadObject,
+        }
+    }
+}
+
+impl From<AllocError> for RelistFault {
+    ghost use Rattle.std.specs.Prelude.{◌≡◌};
+    ghost use Rattle.ing_relist.specs.declared.fault.RelistFault.TheVariants.{NoMemory};
+
+    ghost from_gives = { λ _ fault. fault ≡ NoMemory };
+
+    fn from(_: AllocError) -> Self {
+        Self::NoMemory
+    }
+}
+
+impl<T: Drop> From<AllocFailed<T>> for RelistFault {
+    ghost use Rattle.std.specs.Prelude.{◌≡◌};
+    ghost use Rattle.ing_relist.specs.declared.fault.RelistFault.TheVariants.{NoMemory};
+
+    ghost from_gives = { λ _ fault. fault ≡ NoMemory };
+
+    fn from(_: AllocFailed<T>) -> Self {
+        Self::NoMemory
+    }
+}
