@@ -1,12 +1,15 @@
 -- Which refusal a fault of a relisting is, and what it tells of the store (own).
-use Rattle.std.specs.Prelude.{◌≡◌, ℕ, ◌≤◌, List, Option, Some, None, Result, Ok, Err, IfErr}
+use Rattle.std.specs.Prelude.{◌≡◌, ℕ, ◌+◌, ◌≤◌, List, Option, Some, None, Result, Ok, Err, IfErr}
+use Rattle.ing_codec.specs.ChunkReading.{read_chunk}
 use Rattle.ing_codec.specs.RowObjects.{RowObject}
-use Rattle.ing_parts.specs.Listings.{IsListing}
+use Rattle.ing_parts.specs.Listings.{IsListing, blocks_in}
 use Rattle.ing_refusals.specs.Failures.{HasFailed}
 use Rattle.ing_refusals.specs.declared.refusal.Refusal.{Refusal}
 use Rattle.ing_refusals.specs.declared.refusal.Refusal.TheVariants as refusal
 use Rattle.ing_store.specs.declared.fault.StoreFault as store
 use Rattle.ing_store.specs.declared.fault.StoreFault.TheVariants as store_fault
+use Rattle.ing_rows.specs.declared.entry.Entry.{Entry}
+use Rattle.ing_relist.specs.Ends.{EndsWith}
 use Rattle.ing_relist.specs.declared.fault.RelistFault.{RelistFault}
 use Rattle.ing_relist.specs.declared.fault.RelistFault.TheVariants.{NoMemory, StoreFault, Missing, BadObject}
 
@@ -50,9 +53,12 @@ BadMeans P (BadObject key) = P
 abbrev pub HasBad : {T : Type 0} → Type 0 → Result T RelistFault → Type 0
 HasBad P result = IfErr result (BadMeans P)
 
--- A receipt of an object of this name was given, and the bytes that it means are not the text of a chunk of which this is told.
-abbrev pub WasOther : {R : Type 0} → (R → List ℕ) → (R → List ℕ) → List ℕ → RowObject → Type 0
-WasOther {R} name bytes wanted row = (r : R) × (name r ≡ wanted) × (IsListing (bytes r) row → ⊥)
+-- A receipt of an object of this name was given, and the bytes that it means are not the text of a chunk of which this is told, or
+-- of one that ends with another entry than this.
+abbrev pub WasOther : {R : Type 0} → (R → List ℕ) → (R → List ℕ) → List ℕ → RowObject → Option Entry → Type 0
+WasOther {R} name bytes wanted row last =
+    (r : R) × (name r ≡ wanted)
+    × (IsListing (bytes r) row → EndsWith last (row.extent.first + row.extent.count) (blocks_in (read_chunk (bytes r))) → ⊥)
 
 -- what an end's answer comes to: one of no memory stays that, and any other fault is one of the store
 abbrev pub taken_of : {T : Type 0} → List ℕ → Result (Option T) store.StoreFault → Result T RelistFault

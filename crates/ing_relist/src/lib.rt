@@ -1,7 +1,9 @@
-//! The listing of a stored chunk, found again in a store by what was noted of it: its stream, its extent and its key.
+//! The listing of a stored chunk, found again in a store by what was noted of it: its stream, its extent, its key and
+//! its last entry.
 #![tactic(auto)]
 
 mod counted;
+mod ends;
 mod fault;
 mod relisting;
 

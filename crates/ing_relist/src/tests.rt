@@ -50,7 +50,7 @@ fn relisted<'a, R: Wait>(
 ) -> Result<Result<Listing<MemoryReceipt<'a>>, RelistFault>, Fail> {
     let tenant = Tenant::of_text(alloc, tenant)?;
     let labels = Labels::parse_canonical(alloc, name)?;
-    Ok(relist(alloc, end, &tenant, &labels, extent, &KEY))
+    Ok(relist(alloc, end, &tenant, &labels, extent, &KEY, None))
 }
 
 /// Why a chunk is not listed again.
