@@ -1,5 +1,7 @@
 -- Which refusal a fault of a relisting is, and what it tells of the store (own).
 use Rattle.std.specs.Prelude.{◌≡◌, ℕ, ◌+◌, ◌≤◌, List, Option, Some, None, Result, Ok, Err, IfErr}
+use Rattle.sha2.specs.Sha256.{sha256}
+use Rattle.ing_codec.specs.ChunkObjects.{ChunkObject, chunk_text}
 use Rattle.ing_codec.specs.ChunkReading.{read_chunk}
 use Rattle.ing_codec.specs.RowObjects.{RowObject}
 use Rattle.ing_parts.specs.Listings.{IsListing, blocks_in}
@@ -11,20 +13,22 @@ use Rattle.ing_store.specs.declared.fault.StoreFault.TheVariants as store_fault
 use Rattle.ing_rows.specs.declared.entry.Entry.{Entry}
 use Rattle.ing_relist.specs.Ends.{EndsWith}
 use Rattle.ing_relist.specs.declared.fault.RelistFault.{RelistFault}
-use Rattle.ing_relist.specs.declared.fault.RelistFault.TheVariants.{NoMemory, StoreFault, Missing, BadObject}
+use Rattle.ing_relist.specs.declared.fault.RelistFault.TheVariants.{NoMemory, Failed, Damaged, Missing, BadObject}
 
--- the refusal of the same name; a store that was given an object, and has none of its name, has not the bytes that it was given
+-- the refusal of the same name; an object that is missing is not the chunk that is listed
 abbrev pub relist_refusal_of : RelistFault → Refusal
 relist_refusal_of NoMemory = refusal.NoMemory
-relist_refusal_of (StoreFault key) = refusal.StoreFault
-relist_refusal_of (Missing key) = refusal.Damaged
+relist_refusal_of (Failed key) = refusal.Failed
+relist_refusal_of (Damaged key) = refusal.Damaged
+relist_refusal_of (Missing key) = refusal.BadObject
 relist_refusal_of (BadObject key) = refusal.BadObject
 
 -- what a fault tells of the end's count of failures before and after: it does not fall, a fault of the store comes only where the
 -- end has failed, and it stays where the object is missing or bad
 abbrev pub Counts : ℕ → ℕ → RelistFault → Type 0
 Counts before after NoMemory = before ≤ after
-Counts before after (StoreFault key) = (before ≤ after) × HasFailed before after
+Counts before after (Failed key) = (before ≤ after) × HasFailed before after
+Counts before after (Damaged key) = (before ≤ after) × HasFailed before after
 Counts before after (Missing key) = after ≡ before
 Counts before after (BadObject key) = after ≡ before
 
@@ -36,7 +40,8 @@ IsCounted before after (Err fault) = Counts before after fault
 -- the key of a fault, where it has one, is this one
 abbrev pub KeyIs : List ℕ → RelistFault → Type 0
 KeyIs k NoMemory = Unit {0}
-KeyIs k (StoreFault key) = key ≡ k
+KeyIs k (Failed key) = key ≡ k
+KeyIs k (Damaged key) = key ≡ k
 KeyIs k (Missing key) = key ≡ k
 KeyIs k (BadObject key) = key ≡ k
 
@@ -46,7 +51,8 @@ HasKey k result = IfErr result (KeyIs k)
 -- where a fault is a bad object, this holds
 abbrev pub BadMeans : Type 0 → RelistFault → Type 0
 BadMeans P NoMemory = Unit {0}
-BadMeans P (StoreFault key) = Unit {0}
+BadMeans P (Failed key) = Unit {0}
+BadMeans P (Damaged key) = Unit {0}
 BadMeans P (Missing key) = Unit {0}
 BadMeans P (BadObject key) = P
 
@@ -60,10 +66,19 @@ WasOther {R} name bytes wanted row last =
     (r : R) × (name r ≡ wanted)
     × (IsListing (bytes r) row → EndsWith last (row.extent.first + row.extent.count) (blocks_in (read_chunk (bytes r))) → ⊥)
 
--- what an end's answer comes to: one of no memory stays that, and any other fault is one of the store
+-- Bytes are the text of a chunk, and this is their key.
+pub record IsTextOf (object : ChunkObject) (key bytes : List ℕ) : Type 0 where
+  pub text : bytes ≡ chunk_text object
+  pub key : key ≡ sha256 bytes
+
+-- A receipt of an object of this name was given, and the bytes that it means are not that.
+abbrev pub WasNoText : {R : Type 0} → (R → List ℕ) → (R → List ℕ) → List ℕ → ChunkObject → List ℕ → Type 0
+WasNoText {R} name bytes wanted object key = (r : R) × (name r ≡ wanted) × (IsTextOf object key (bytes r) → ⊥)
+
+-- what an end's answer comes to
 abbrev pub taken_of : {T : Type 0} → List ℕ → Result (Option T) store.StoreFault → Result T RelistFault
 taken_of key (Ok (Some found)) = Ok found
 taken_of key (Ok None) = Err (Missing key)
 taken_of key (Err store_fault.NoMemory) = Err NoMemory
-taken_of key (Err store_fault.Failed) = Err (StoreFault key)
-taken_of key (Err store_fault.Damaged) = Err (StoreFault key)
+taken_of key (Err store_fault.Failed) = Err (Failed key)
+taken_of key (Err store_fault.Damaged) = Err (Damaged key)

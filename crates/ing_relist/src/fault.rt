@@ -12,28 +12,30 @@ pub enum RelistFault {
     /// Memory ran out.
     #[error("out of memory")]
     NoMemory,
-    /// The store did not say whether it has the object of this key.
+    /// The store failed where it was asked for the object of this key.
     #[error("the store failed")]
-    StoreFault { key: [u8; 32] },
+    Failed { key: [u8; 32] },
+    /// The store has not the bytes that it was given under this key.
+    #[error("a stored object is damaged")]
+    Damaged { key: [u8; 32] },
     /// The store has no object of this key.
     #[error("a stored object is missing")]
     Missing { key: [u8; 32] },
     /// What the store has under this key is not the chunk that is listed.
-    #[error("a stored object is damaged")]
+    #[error("a stored object is not the chunk that is listed")]
     BadObject { key: [u8; 32] },
 }
 
 impl RelistFault {
-    /// Which refusal it is: `Damaged` where the object is missing, since the store has not the bytes that it was given; else
-    /// the one of its name. Takes no memory.
+    /// Which refusal it is: `BadObject` where the object is missing, else the one of its name. Takes no memory.
     pub fn refusal(&self) -> Refusal
         ensures { result ≡ relist_refusal_of self.now }
     {
         match self {
             RelistFault::NoMemory => Refusal::NoMemory,
-            RelistFault::StoreFault { .. } => Refusal::StoreFault,
-            RelistFault::Missing { .. } => Refusal::Damaged,
-            RelistFault::BadObject { .. } => Refusal::BadObject,
+            RelistFault::Failed { .. } => Refusal::Failed,
+            RelistFault::Damaged { .. } => Refusal::Damaged,
+            RelistFault::Missing { .. } | RelistFault::BadObject { .. } => Refusal::BadObject,
         }
     }
 }

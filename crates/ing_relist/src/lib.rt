@@ -8,7 +8,7 @@ mod fault;
 mod relisting;
 
 pub use fault::RelistFault;
-pub use relisting::relist;
+pub use relisting::{relist, relist_chunk};
 
 #[cfg(test)]
 mod tests;

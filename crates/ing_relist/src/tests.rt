@@ -136,7 +136,7 @@ fn what_a_store_has_not_is_not_listed(rt: HostRuntime) -> Result<(), Fail> {
     let store = store_of(&rt, alloc, &CHUNK)?;
     let mut dead = store.dead_end(&rt, 0);
     let failed = fault_of(alloc, &mut dead, "t", "{a=\"1\"}", extent()?)?;
-    assert!(rt; failed == Some(RelistFault::StoreFault { key: KEY }));
+    assert!(rt; failed == Some(RelistFault::Failed { key: KEY }));
     assert_eq!(rt; dead.failures(), 1);
     Ok(())
 }

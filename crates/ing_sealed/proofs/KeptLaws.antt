@@ -190,15 +190,3 @@ module _ {R : Type 0} (c d : Inside R) (f i : ℕ) (chunk : ChunkContents) (kept
       kept_after c d i x (stored_at key) h kept refl (record { some = slot.some; sealed = λ k. absurd (cc); closed = refl }) (λ g flies. absurd (cc)) whole
       (subst (λ n. All Elsewhere (take n (h.front ++ stored_at key x ∷ h.back))) (sym oldest) (all_but Elsewhere c.oldest h.front x (stored_at key x) h.back refl (older_before c d i x (stored_at key) h kept)))
       (omega (arith, oldest, low, all.0)) (omega (arith, waiting)) (omega (arith, unstored))
-
--- a chunk in blocks is stored
-pub settled_kept : {R : Type 0} (c d : Inside R) (i : ℕ) (chunk : ChunkContents) (key : List ℕ) → AreKept c → All HoldsWhole d.slots.items → Changes (stored_at key) i (slot_at Block chunk) (map slot_of c.slots.items) (map slot_of d.slots.items) → d.oldest ≡ c.oldest
-    → d.waiting + 1 ≡ c.waiting → d.unstored + 1 ≡ c.unstored → AreKept d
-settled_kept c d i chunk key kept whole h oldest waiting unstored =
-    let x : Slot = slot_at Block chunk in
-    let slot = slot_before c d i x (stored_at key) h kept in
-    let all = as_long c d i x (stored_at key) h kept in
-    let low = kept.within in
-    kept_after c d i x (stored_at key) h kept refl (record { some = slot.some; sealed = λ k. absurd (cc); closed = refl }) (λ g flies. absurd (cc)) whole
-    (subst (λ n. All Elsewhere (take n (h.front ++ stored_at key x ∷ h.back))) (sym oldest) (all_but Elsewhere c.oldest h.front x (stored_at key x) h.back refl (older_before c d i x (stored_at key) h kept)))
-    (omega (arith, oldest, low, all.0)) (omega (arith, waiting)) (omega (arith, unstored))

@@ -42,31 +42,6 @@ impl<R: Receipt> Held<R> {
         }
     }
 
-    /// The number of its first entry.
-    pub(crate) fn first(&self) -> u64
-        ensures { result ≡ (slot_of self.now).first }
-    {
-        match self {
-            Held::Waiting(chunk) => chunk.first(),
-            Held::Shared(chunk) | Held::Flying(_, chunk) => chunk.first(),
-            Held::Stored(listing) => listing.extent().first,
-        }
-    }
-
-    /// The chunk, where it stands in blocks.
-    pub(crate) fn in_blocks(&self) -> Option<&Chunk>
-        requires { HoldsWhole self.now }
-        ensures some { IfSome result (λ chunk. slot_of self.now ≡ slot_at Block chunk.now) }
-        ensures whole { IfSome result (λ chunk. IsWhole chunk.now) }
-        ensures none { IfNone result (waits self.now ≡ false) }
-    {
-        match self {
-            Held::Waiting(chunk) => Some(chunk),
-            Held::Shared(chunk) => Some(chunk),
-            Held::Flying(_, _) | Held::Stored(_) => None,
-        }
-    }
-
     /// Whether it is this chunk, in the flight of this number.
     pub(crate) fn flies(&self, flight: u64, chunk: &Chunk) -> bool
         requires held { HoldsWhole self.now }
