@@ -1,2 +1,3 @@
 mod CountLaws
+mod EndLaws
 mod ExtentLaws

@@ -69,7 +69,7 @@ WasOther {R} name bytes wanted row last =
 -- Bytes are the text of a chunk, and this is their key.
 pub record IsTextOf (object : ChunkObject) (key bytes : List ℕ) : Type 0 where
   pub text : bytes ≡ chunk_text object
-  pub key : key ≡ sha256 bytes
+  pub hash : key ≡ sha256 bytes
 
 -- A receipt of an object of this name was given, and the bytes that it means are not that.
 abbrev pub WasNoText : {R : Type 0} → (R → List ℕ) → (R → List ℕ) → List ℕ → ChunkObject → List ℕ → Type 0

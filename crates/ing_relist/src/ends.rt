@@ -47,8 +47,8 @@ fn has_other(blocks: &[LentBlock<'_>], end: u64, entry: &Entry) -> bool
 /// Whether blocks end with this entry, where one is given: their numbers are those below this one.
 pub(crate) fn end_with(blocks: &[LentBlock<'_>], end: u64, last: Option<&Entry>) -> bool
     requires { end ≤ 2 ^ 62 }
-    ensures yes { result ≡ true → EndsWith (option_map (λ e. e.now) last) end blocks.now }
-    ensures no { result ≡ false → EndsWith (option_map (λ e. e.now) last) end blocks.now → ⊥ }
+    ensures yes { result ≡ true → EndsWith (option_map (λ e. e.now) last.entry) end blocks.now }
+    ensures no { result ≡ false → EndsWith (option_map (λ e. e.now) last.entry) end blocks.now → ⊥ }
 {
     match last {
         Some(entry) => !has_other(blocks, end, entry),

@@ -3,7 +3,7 @@ use crate::{RelistFault, relist};
 use ing_codec::{Extent, chunk_name, decode_chunk};
 use ing_labels::Labels;
 use ing_parts::Listing;
-use ing_rows::{Stamp, Tenant};
+use ing_rows::{Entry, Line, Stamp, Tenant};
 use ing_store::{Fuse, MemoryEnd, MemoryReceipt, MemoryStore, StoreEnd, put_chunk};
 use std::alloc::Global;
 use std::process::Abort;
@@ -104,6 +104,39 @@ fn a_chunk_is_not_taken_for_another(rt: HostRuntime) -> Result<(), Fail> {
         assert!(rt; fault_of(alloc, &mut end, "t", "{a=\"1\"}", other)? == bad);
     }
     assert!(rt; fault_of(alloc, &mut end, "t", "{a=\"1\"}", x)?.is_none());
+    Ok(())
+}
+
+/// The last entry of that chunk is the one of number 1, `yz` at stamp 3.
+#[test]
+fn a_chunk_ends_with_its_last_entry(rt: HostRuntime) -> Result<(), Fail> {
+    let alloc = rt.alloc();
+    let store = store_of(&rt, alloc, &CHUNK)?;
+    let mut end = store.end(&rt, Fuse::None);
+    let tenant = Tenant::of_text(alloc, "t")?;
+    let labels = Labels::parse_canonical(alloc, "{a=\"1\"}")?;
+    for (stamp, line, ends) in [
+        (3, "yz", true),
+        (4, "yz", false),
+        (3, "y", false),
+        (5, "x", false),
+    ] {
+        let last = Entry {
+            stamp: Stamp::of_nanoseconds(stamp).ok_or("a stamp")?,
+            line: Line::of_text(alloc, line)?,
+        };
+        let listed = relist(
+            alloc,
+            &mut end,
+            &tenant,
+            &labels,
+            extent()?,
+            &KEY,
+            Some(&last),
+        );
+        assert_eq!(rt; listed.is_ok(), ends);
+        assert!(rt; ends || listed.err() == Some(RelistFault::BadObject { key: KEY }));
+    }
     Ok(())
 }
 
