@@ -233,7 +233,7 @@ same_whole front st now back same =
     (beside_left (part_of now) (part_of st) rest same) (from_front front st back))
 
 -- the others around a stream are others
-others_around : (front : List Stream) (st : Stream) (back : List Stream)
+pub others_around : (front : List Stream) (st : Stream) (back : List Stream)
     → AreDistinct (front ++ st ∷ back) → AreOthers (key_of st) (front ++ back)
 others_around [] st back distinct = distinct.0
 others_around (g ∷ front) st back distinct =

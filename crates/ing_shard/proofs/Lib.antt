@@ -1,8 +1,11 @@
 mod Alike
+mod BegunLaws
 mod BookLaws
 mod ChangeLaws
+mod CheckpointLaws
 mod CountLaws
 mod FlightLaws
+mod FlownLaws
 mod FlownRowsLaws
 mod FlushLaws
 mod HeldLaws
@@ -14,6 +17,8 @@ mod LiveLaws
 mod LocateLaws
 mod NameLaws
 mod NamedLaws
+mod NamedSeals
+mod NamedWholeLaws
 mod OnceLaws
 mod OrderLaws
 mod OwnLaws
@@ -22,6 +27,8 @@ mod PickLaws
 mod PositionLaws
 mod PushLaws
 mod ReadLaws
+mod RecoveryLaws
+mod RestoredLaws
 mod RowLaws
 mod SealLaws
 mod ShardLaws

@@ -26,3 +26,6 @@ pub use Rattle.ing_limits.specs.Settings
 pub use Rattle.ing_limits.specs.Ranges
 pub mod Writable
 pub mod Checkpointed
+pub mod OneRecovery
+pub mod Recovered
+pub mod ReplayFaults

@@ -52,7 +52,7 @@ pub struct Tenants {
 }
 
 /// Of a tenant without streams.
-const NOTHING: TenantKept = TenantKept {
+pub(crate) const NOTHING: TenantKept = TenantKept {
     live: 0,
     head_entries: 0,
     head_bytes: 0,
