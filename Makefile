@@ -10,7 +10,7 @@ sources = crates.txt $(shell find crates -name out -prune -o \( -name '*.rt' -o 
 
 help:
 	@echo 'make try      runs the program on standard input before anything is proved, within a minute or two; SETTINGS=FILE'
-	@echo 'make run      runs the program on standard input, with all that it calls proved first; SETTINGS=FILE'
+	@echo 'make run      runs the program on standard input, with all that it calls proved first; SETTINGS=FILE, FOLDER=FOLDER'
 	@echo 'make build    builds it, with all that it calls proved'
 	@echo 'make check    proves what has changed, while you edit'
 	@echo 'make test     the whole gate: every proof, test and case, and the wrong bodies of each crate'
@@ -25,7 +25,7 @@ try:
 	@cd crates/ingestd && rt try $(if $(SETTINGS),--data settings.toml="$(abspath $(SETTINGS))") -- $(if $(SETTINGS),settings.toml)
 
 run: $(program)
-	@$(program) $(if $(SETTINGS),"$(SETTINGS)")
+	@$(program) $(if $(SETTINGS)$(FOLDER),"$(or $(SETTINGS),/dev/null)") $(if $(FOLDER),"$(FOLDER)")
 
 build: $(program)
 

@@ -20,6 +20,7 @@ pub data Command : Type 0 where
   Flush : FlushCommand → Command
   Gauges : GaugesCommand → Command
   Board : Command
+  Checkpoint : Command
   Query : QueryCommand → Command
 
 abbrev pub pushed : PushCommand → Result Command LineFault
@@ -49,6 +50,7 @@ said_as cmd d =
     else if bytes_eq cmd (codes "flush") then flush_of d >>= flushed
     else if bytes_eq cmd (codes "gauges") then gauges_of d >>= asked
     else if bytes_eq cmd (codes "board") then Ok Board
+    else if bytes_eq cmd (codes "checkpoint") then Ok Checkpoint
     else if bytes_eq cmd (codes "query") then query_of d >>= queried
     else Err BadCommand
 

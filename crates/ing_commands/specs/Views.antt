@@ -20,7 +20,7 @@ use Rattle.ing_commands.specs.SweepCommands.{SweepCommand}
 use Rattle.ing_commands.specs.FlushCommands.{FlushCommand}
 use Rattle.ing_commands.specs.GaugesCommands.{GaugesCommand}
 use Rattle.ing_commands.specs.QueryCommands.{RawQuery, QueryCommand}
-use Rattle.ing_commands.specs.Commands.{Command, Push, Sweep, Flush, Gauges, Board, Query}
+use Rattle.ing_commands.specs.Commands.{Command, Push, Sweep, Flush, Gauges, Board, Checkpoint, Query}
 
 -- the bytes of a label and its value
 abbrev pub label_view : Bor (List ℕ) × Bor (List ℕ) → List ℕ × List ℕ
@@ -73,4 +73,5 @@ command_view (variants.Sweep s) = Sweep (sweep_view s)
 command_view (variants.Flush f) = Flush (flush_view f)
 command_view (variants.Gauges g) = Gauges (gauges_view g)
 command_view variants.Board = Board
+command_view variants.Checkpoint = Checkpoint
 command_view (variants.Query q) = Query (query_view q)

@@ -1,5 +1,5 @@
 -- Lists whose last item is taken, and what is closed.
-use Rattle.std.proofs.Common.{◌≡◌, ◌≢◌, ◌<◌, ◌≤◌, ◌+◌, ◌-◌, ◌⊎◌, inl, inr, ℕ, zero, suc, List, [], ◌∷◌, ◌++◌, length, Some, true, false, refl, sym, ap, subst, ◌∙◌, arith, slice_set}
+use Rattle.std.proofs.Common.{◌≡◌, ◌≢◌, ◌<◌, ◌≤◌, ◌+◌, ◌-◌, ◌⊎◌, inl, inr, ℕ, zero, suc, List, [], ◌∷◌, ◌++◌, length, Some, true, false, refl, sym, ap, subst, ◌∙◌, arith, slice_index_or, slice_set, Bool}
 use Rattle.std.specs.Prelude.{slice_get}
 use Rattle.std.specs.Global.{Vec}
 use Rattle.std.proofs.lemmas.List.Sorted.{IsPermutation-refl}
@@ -8,7 +8,7 @@ use Rattle.ing_tally.specs.Books.{ShareState}
 use Rattle.ing_shard.specs.Contents.{Contents, flying_count, stored_count}
 use Rattle.ing_node.specs.declared.report.ShardReport.{ShardReport}
 use Rattle.ing_node.specs.Closing.{IsComplete, shares_at, shares_in}
-use Rattle.ing_node.specs.Reports.{CountRowsFrom, CountsRows, IsClosed}
+use Rattle.ing_node.specs.Reports.{CountRowsFrom, CountsRows, IsClosed, IsGathered, recovered_at, recovered_in}
 
 -- ---- lists
 
@@ -57,18 +57,18 @@ front_shares rest x i below = ap shares_in (front_get rest x i below)
 pub same_state : (state : State) → IsSame state state
 same_state state = record { rows = IsPermutation-refl state.rows; marks = IsPermutation-refl state.marks }
 
-pub closed_by : (accepted stored told counted : ℕ) → accepted ≡ told → stored ≡ counted → stored ≤ accepted
-    → IsClosed told counted (record { accepted = accepted; recovered = 0; stored = stored; kept = accepted - stored })
-closed_by accepted stored told counted is_told is_counted within = record {
-  accepted = is_told;
+pub gathered_by : (recovered accepted stored told counted : ℕ) → accepted ≡ told → stored ≡ counted → stored ≤ accepted → recovered ≤ told
+    → IsGathered recovered told counted (record { accepted = accepted - recovered; recovered = recovered; stored = stored; kept = accepted - stored })
+gathered_by recovered accepted stored told counted is_told is_counted within before = record {
+  accepted = omega (arith, is_told, before);
   stored = is_counted;
-  recovered = refl;
-  all = omega (arith, within);
+  recovered_are = refl;
+  all = omega (arith, within, is_told, before);
 }
 
-pub counted_by : (shard : Contents) (accepted stored : ℕ) → accepted ≡ length shard.state.rows → stored ≡ stored_count shard.state.rows → flying_count shard.state.rows ≡ 0
-    → CountsRows shard (record { accepted = accepted; recovered = 0; stored = stored; kept = accepted - stored })
-counted_by shard accepted stored all some none = record { accepted = all; stored = some; landed = none }
+pub counted_by : (shard : Contents) (recovered accepted stored : ℕ) → recovered ≤ accepted → accepted ≡ length shard.state.rows → stored ≡ stored_count shard.state.rows → flying_count shard.state.rows ≡ 0
+    → CountsRows shard (record { accepted = accepted - recovered; recovered = recovered; stored = stored; kept = accepted - stored })
+counted_by shard recovered accepted stored before all some none = record { all = omega (arith, before, all); stored = some; landed = none }
 
 -- an item at a place
 pub there : {X : Type 0} (xs : List X) (i : ℕ) → i < length xs → (x : X) × (slice_get xs i ≡ Some x)
@@ -77,8 +77,22 @@ there (y ∷ xs) zero below = (y, refl)
 there (y ∷ xs) (suc i) below = there xs i (omega (arith, below))
 
 -- with equal counts
-pub closed_as : (told counted more less : ℕ) (r : ShardReport) → told ≡ more → counted ≡ less → IsClosed told counted r → IsClosed more less r
-closed_as told counted more less r t c is = subst (λ n. IsClosed n less r) t (subst (λ n. IsClosed told n r) c is)
+pub gathered_as : (recovered told counted before more less : ℕ) (r : ShardReport) → recovered ≡ before → told ≡ more → counted ≡ less → IsGathered recovered told counted r → IsGathered before more less r
+gathered_as recovered told counted before more less r b t c is =
+    subst (λ n. IsGathered n more less r) b (subst (λ n. IsGathered recovered n less r) t (subst (λ n. IsGathered recovered told n r) c is))
+
+-- what all shares tell is what was there before, and the rest
+pub closed_by : (recovered restored told counted all_accepted all_stored : ℕ) (r : ShardReport) → all_accepted ≡ told + recovered → all_stored ≡ counted + restored
+    → IsGathered recovered all_accepted all_stored r → IsClosed recovered restored told counted r
+closed_by recovered restored told counted all_accepted all_stored r accepted stored is =
+    let has = is.accepted in
+    let some = is.stored in
+    record {
+      accepted = omega (arith, has, accepted);
+      stored = omega (arith, some, stored);
+      recovered_are = is.recovered_are;
+      all = is.all;
+    }
 
 pub complete_as : (place number pushing tallies more less : ℕ) (shard : Contents) → place ≡ number → pushing ≡ more → tallies ≡ less
     → IsComplete place pushing tallies shard → IsComplete number more less shard
@@ -118,11 +132,64 @@ rows_set {H} shard_in helds reports place r held at_held counts beyond i h repor
       subst (λ (x : H). CountsRows (shard_in x) report) (sym is) (subst (λ x. CountsRows (shard_in held) x) (sym there.1) counts)
   by (inr other) = beyond i h report (omega (arith, past, other.0)) at_h other.1
 
--- the reports from a place on are closed, once the one at the place is
-pub closed_set : (told counted : ℕ → ℕ) (reports : List ShardReport) (place : ℕ) (r : ShardReport) → IsClosed (told place) (counted place) r
-    → ((i : ℕ) (report : ShardReport) → place < i → slice_get reports i ≡ Some report → IsClosed (told i) (counted i) report)
-    → (i : ℕ) (report : ShardReport) → place ≤ i → slice_get (slice_set reports place r) i ≡ Some report → IsClosed (told i) (counted i) report
-closed_set told counted reports place r done beyond i report past at = by (set_get reports place r i report at) where
-  by : ((i ≡ place) × (report ≡ r)) ⊎ ((i ≢ place) × (slice_get reports i ≡ Some report)) → IsClosed (told i) (counted i) report
-  by (inl there) = subst (λ x. IsClosed (told i) (counted i) x) (sym there.1) (subst (λ n. IsClosed (told n) (counted n) r) (sym there.0) done)
+-- the reports from a place on are gathered, once the one at the place is
+pub gathered_set : (before told counted : ℕ → ℕ) (reports : List ShardReport) (place : ℕ) (r : ShardReport) → IsGathered (before place) (told place) (counted place) r
+    → ((i : ℕ) (report : ShardReport) → place < i → slice_get reports i ≡ Some report → IsGathered (before i) (told i) (counted i) report)
+    → (i : ℕ) (report : ShardReport) → place ≤ i → slice_get (slice_set reports place r) i ≡ Some report → IsGathered (before i) (told i) (counted i) report
+gathered_set before told counted reports place r done beyond i report past at = by (set_get reports place r i report at) where
+  by : ((i ≡ place) × (report ≡ r)) ⊎ ((i ≢ place) × (slice_get reports i ≡ Some report)) → IsGathered (before i) (told i) (counted i) report
+  by (inl there) = subst (λ x. IsGathered (before i) (told i) (counted i) x) (sym there.1) (subst (λ n. IsGathered (before n) (told n) (counted n) r) (sym there.0) done)
   by (inr other) = beyond i report (omega (arith, past, other.0)) other.1
+
+-- what stands below a place stays
+pub below_set : {X : Type 0} (xs : List X) (place : ℕ) (y : X) (i : ℕ) → i < place → slice_get (slice_set xs place y) i ≡ slice_get xs i
+below_set [] place y i below = refl
+below_set (z ∷ zs) zero y i below = absurd (omega (arith, below))
+below_set (z ∷ zs) (suc place) y zero below = refl
+below_set (z ∷ zs) (suc place) y (suc i) below = below_set zs place y i (omega (arith, below))
+
+-- what is not no is yes
+pub is_yes : (b : Bool) → (b ≡ false → ⊥) → b ≡ true
+is_yes true not = refl
+is_yes false not = absurd (not refl)
+
+-- ---- what an index gives
+
+pub get_there : {X : Type 0} (xs : List X) (i : ℕ) (d : X) → i < length xs → slice_get xs i ≡ Some (slice_index_or xs i d)
+get_there [] i d below = absurd (omega (arith, below))
+get_there (x ∷ xs) zero d below = refl
+get_there (x ∷ xs) (suc i) d below = get_there xs i d (omega (arith, below))
+
+-- how many a report at a place says had been there
+pub recovered_there : (reports initial : List ShardReport) (place : ℕ) (r : ShardReport) → place < length reports → r ≡ slice_index_or reports place r
+    → slice_get reports place ≡ slice_get initial place → r.recovered ≡ recovered_at place initial
+recovered_there reports initial place r below is same =
+    ap (λ (q : ShardReport). q.recovered) is ∙ ap recovered_in (sym (get_there reports place r below)) ∙ ap recovered_in same
+
+meets : (i j : ℕ) → (i ≡ j) ⊎ (i ≢ j)
+meets zero zero = inl refl
+meets zero (suc j) = inr (λ same. omega (arith, same))
+meets (suc i) zero = inr (λ same. omega (arith, same))
+meets (suc i) (suc j) = further (meets i j) where
+  further : (i ≡ j) ⊎ (i ≢ j) → (suc i ≡ suc j) ⊎ (suc i ≢ suc j)
+  further (inl same) = inl (ap suc same)
+  further (inr other) = inr (λ same. other (omega (arith, same)))
+
+-- the first shards are complete, and so is the next
+pub complete_next : {H : Type 0} (shard_in : H → Contents) (helds : List H) (place pushers tallies : ℕ) (x : H) → place < length helds → x ≡ slice_index_or helds place x
+    → IsComplete place pushers tallies (shard_in x)
+    → ((i : ℕ) (held : H) → i < place → slice_get helds i ≡ Some held → IsComplete i pushers tallies (shard_in held))
+    → (i : ℕ) (held : H) → i < place + 1 → slice_get helds i ≡ Some held → IsComplete i pushers tallies (shard_in held)
+complete_next {H} shard_in helds place pushers tallies x below is this before i held next at = by (meets i place) where
+  by : (i ≡ place) ⊎ (i ≢ place) → IsComplete i pushers tallies (shard_in held)
+  by (inl same) =
+      let there : Some held ≡ Some (slice_index_or helds place x) = sym at ∙ ap (slice_get helds) same ∙ get_there helds place x below in
+      let one : held ≡ slice_index_or helds place x = cc in
+      subst (λ n. IsComplete n pushers tallies (shard_in held)) (sym same)
+      (subst (λ (h : H). IsComplete place pushers tallies (shard_in h)) (is ∙ sym one) this)
+  by (inr other) = before i held (omega (arith, next, other)) at
+
+-- a list of no length
+pub no_item : {X : Type 0} (xs : List X) → length xs ≡ 0 → xs ≡ []
+no_item [] none = refl
+no_item (x ∷ xs) none = absurd (omega (arith, none))

@@ -1,14 +1,16 @@
 -- Shards that stand at their places.
-use Rattle.std.proofs.Common.{◌≡◌, ◌⊎◌, inl, inr, ℕ, zero, suc, List, [], ◌∷◌, ◌++◌, length, Some, refl, sym, ap, ◌∙◌}
-use Rattle.std.specs.Prelude.{All, slice_get}
-use Rattle.std.proofs.lemmas.List.Elements.{All-nil, All-cons}
+use Rattle.std.proofs.Common.{◌≡◌, ◌⊎◌, inl, inr, ℕ, zero, suc, ◌+◌, List, [], ◌∷◌, ◌++◌, length, Some, refl, sym, ap, subst, ◌∙◌, arith, reverse}
+use Rattle.std.proofs.lemmas.List.{reverse-append}
+use Rattle.std.specs.Prelude.{slice_get}
 use Rattle.ing_limits.specs.Settings.{StoreSettings}
-use Rattle.ing_shard.specs.Books.{BookNames}
-use Rattle.ing_shard.specs.Contents.{Contents}
-use Rattle.ing_node.specs.Names.{AreInPlace, AreNamed, IsNamed}
+use Rattle.ing_shard.specs.Books.{BookNames, names_of}
+use Rattle.ing_tally.specs.Books.{ShareState}
+use Rattle.ing_flush.specs.Tallies.{AreStoredIn}
+use Rattle.ing_node.specs.Begun.{AreBegunFrom, BegunState, IsBegunAs}
+use Rattle.ing_node.specs.Names.{AreAcceptedIn}
 
 -- what stands at a place once one more is put behind a list
-push_get : {X : Type 0} (xs : List X) (x : X) (i : ℕ) (y : X) → slice_get (xs ++ x ∷ []) i ≡ Some y → ((i ≡ length xs) × (y ≡ x)) ⊎ (slice_get xs i ≡ Some y)
+pub push_get : {X : Type 0} (xs : List X) (x : X) (i : ℕ) (y : X) → slice_get (xs ++ x ∷ []) i ≡ Some y → ((i ≡ length xs) × (y ≡ x)) ⊎ (slice_get xs i ≡ Some y)
 push_get [] x zero y at = let same : x ≡ y = cc in inl (refl, sym same)
 push_get [] x (suc i) y at = absurd cc
 push_get (z ∷ xs) x zero y at = inr at
@@ -17,21 +19,45 @@ push_get (z ∷ xs) x (suc i) y at = further (push_get xs x i y at) where
   further (inl there) = inl (ap suc there.0, there.1)
   further (inr before) = inr before
 
--- one more shard is put at its place
-pub placed_push : (settings : StoreSettings) (shards : List Contents) (shard : Contents) → AreInPlace settings shards
-    → shard.number ≡ length shards → shard.settings ≡ settings → AreInPlace settings (shards ++ shard ∷ [])
-placed_push settings shards shard placed number same i s at = by (push_get shards shard i s at) where
-  by : ((i ≡ length shards) × (s ≡ shard)) ⊎ (slice_get shards i ≡ Some s) → (s.number ≡ i) × (s.settings ≡ settings)
-  by (inl there) = (ap (λ (t : Contents). t.number) there.1 ∙ number ∙ sym there.0, ap (λ (t : Contents). t.settings) there.1 ∙ same)
-  by (inr before) = placed i s before
+-- one more share is put at its place
+pub accepted_push : (books : ℕ → BookNames) (ss : List ShareState) (s : ShareState) → AreAcceptedIn books ss → s.book ≡ (books (length ss)).accepted → AreAcceptedIn books (ss ++ s ∷ [])
+accepted_push books ss s own is i t at = by (push_get ss s i t at) where
+  by : ((i ≡ length ss) × (t ≡ s)) ⊎ (slice_get ss i ≡ Some t) → t.book ≡ (books i).accepted
+  by (inl there) = ap (λ (u : ShareState). u.book) there.1 ∙ is ∙ ap (λ n. (books n).accepted) (sym there.0)
+  by (inr before) = own i t before
 
-all_got : {X : Type 0} (P : X → Type 0) (xs : List X) → ((i : ℕ) (x : X) → slice_get xs i ≡ Some x → P x) → All P xs
-all_got P [] holds = All-nil P
-all_got P (x ∷ xs) holds = All-cons P x xs (holds 0 x refl) (all_got P xs (λ i. holds (suc i)))
+pub stored_push : (books : ℕ → BookNames) (ss : List ShareState) (s : ShareState) → AreStoredIn books ss → s.book ≡ (books (length ss)).stored → AreStoredIn books (ss ++ s ∷ [])
+stored_push books ss s own is i t at = by (push_get ss s i t at) where
+  by : ((i ≡ length ss) × (t ≡ s)) ⊎ (slice_get ss i ≡ Some t) → t.book ≡ (books i).stored
+  by (inl there) = ap (λ (u : ShareState). u.book) there.1 ∙ is ∙ ap (λ n. (books n).stored) (sym there.0)
+  by (inr before) = own i t before
 
--- each has the settings and the books that are named for its number
-pub all_named : (settings named : StoreSettings) (books : ℕ → BookNames) (shards : List Contents) → settings ≡ named → AreInPlace settings shards → AreNamed books shards
-    → All (IsNamed named books) shards
-all_named settings named books shards same placed are =
-    all_got (IsNamed named books) shards
-    (λ i s at. record { settings = (placed i s at).1 ∙ same; books = are i s at ∙ ap books (sym (placed i s at).0) })
+-- each has the books that are named for the numbers from this one on
+abbrev pub AreNamedFrom : {D : Type 0} → (ℕ → BookNames) → ℕ → List (BegunState D) → Type 0
+AreNamedFrom books number [] = Unit {0}
+AreNamedFrom books number (b ∷ bs) = (names_of b.shard.memory.books ≡ books number) × AreNamedFrom books (number + 1) bs
+
+pub named_from : {D : Type 0} (books : ℕ → BookNames) (number : ℕ) (bs : List (BegunState D))
+    → ((i : ℕ) (b : BegunState D) → slice_get bs i ≡ Some b → names_of b.shard.memory.books ≡ books (number + i)) → AreNamedFrom books number bs
+named_from books number [] named = tt
+named_from books number (b ∷ bs) named =
+    (named 0 b refl ∙ ap books (omega arith), named_from books (number + 1) bs (λ i c at. named (suc i) c at ∙ ap books (omega arith)))
+
+-- one more in front
+pub begun_cons : {D : Type 0} (settings : StoreSettings) (number : ℕ) (b : BegunState D) (bs : List (BegunState D))
+    → IsBegunAs settings number b → AreBegunFrom settings (number + 1) bs → AreBegunFrom settings number (b ∷ bs)
+begun_cons settings number b bs is are zero c at =
+    let same : b ≡ c = cc in
+    subst (λ x. IsBegunAs settings (number + 0) x) same (subst (λ n. IsBegunAs settings n b) (omega arith) is)
+begun_cons settings number b bs is are (suc i) c at = subst (λ n. IsBegunAs settings n c) (omega arith) (are i c at)
+
+-- the first, and the others
+pub begun_first : {D : Type 0} (settings : StoreSettings) (number : ℕ) (b : BegunState D) (bs : List (BegunState D)) → AreBegunFrom settings number (b ∷ bs) → IsBegunAs settings number b
+begun_first settings number b bs are = subst (λ n. IsBegunAs settings n b) (omega arith) (are 0 b refl)
+
+pub begun_others : {D : Type 0} (settings : StoreSettings) (number : ℕ) (b : BegunState D) (bs : List (BegunState D)) → AreBegunFrom settings number (b ∷ bs) → AreBegunFrom settings (number + 1) bs
+begun_others settings number b bs are i c at = subst (λ n. IsBegunAs settings n c) (omega arith) (are (suc i) c at)
+
+-- the last of a list is the first of the turned one
+pub turned_last : {X : Type 0} (xs : List X) (x : X) → reverse (xs ++ x ∷ []) ≡ x ∷ reverse xs
+turned_last xs x = reverse-append xs (x ∷ [])

@@ -1,5 +1,5 @@
 -- What the pushers of one ingester note, and when the shards are what was noted (own).
-use Rattle.std.specs.Prelude.{◌≡◌, ◌++◌, ℕ, true, List, [], Option, Some, None, is_some, filter, length, slice_get}
+use Rattle.std.specs.Prelude.{◌≡◌, ◌+◌, ◌++◌, ℕ, true, List, [], Option, Some, None, is_some, filter, length, slice_get}
 use Rattle.std.specs.List.{flat_map}
 use Rattle.std.specs.Option.{option_map}
 use Rattle.ing_rows.specs.declared.entry.Entry.{Entry}
@@ -45,12 +45,12 @@ abbrev pub HaveNoted : {H : Type 0} → (H → Contents) → (ℕ → List Note)
 HaveNoted {H = H} shard_in notes helds =
     (i : ℕ) (held : H) → slice_get helds i ≡ Some held → AreNoted (shard_in held).state.rows (notes i)
 
--- A shard had rows of which so many are accepted, so many stored and none in flight; without where they stand, they are exactly
+-- A shard had rows, as many as are accepted or had been there before, so many of them stored and none in flight; without where they stand, they are exactly
 -- these notes, each once.
 pub record IsSettled (notes : List Note) (r : ShardReport) : Type 0 where
   pub rows : List Row
   pub noted : AreNoted rows notes
-  pub accepted : r.accepted ≡ length rows
+  pub all : r.accepted + r.recovered ≡ length rows
   pub stored : r.stored ≡ stored_count rows
   pub landed : flying_count rows ≡ 0
 

@@ -9,3 +9,5 @@ pub mod Closing
 pub mod AnswerFaults
 pub mod Sweeps
 pub mod Diaries
+pub mod Begun
+pub mod Earlier

@@ -6,6 +6,7 @@ use Rattle.ing_limits.specs.Settings.{StoreSettings}
 use Rattle.ing_tally.specs.Books.{ShareState, no_book}
 use Rattle.ing_shard.specs.Books.{BookNames, names_of}
 use Rattle.ing_shard.specs.Contents.{Contents}
+use Rattle.ing_node.specs.Begun.{BegunState}
 use Rattle.ing_flush.specs.Tallies.{AreStoredIn}
 
 -- each share is of the accepted entries of the shard whose number is its place
@@ -17,11 +18,6 @@ pub record IsNamed (named : StoreSettings) (names : ℕ → BookNames) (shard : 
   pub settings : shard.settings ≡ named
   pub books : names_of shard.books ≡ names shard.number
 
--- each shard of a list has its place as its number, and these settings
-abbrev pub AreInPlace : StoreSettings → List Contents → Type 0
-AreInPlace settings shards =
-    (i : ℕ) (s : Contents) → slice_get shards i ≡ Some s → (s.number ≡ i) × (s.settings ≡ settings)
-
 -- names and settings for where there are none
 abbrev pub no_names : BookNames
 no_names = record { accepted = no_book; flight = no_book; stored = no_book; counts = no_book }
@@ -30,16 +26,16 @@ abbrev pub no_settings : StoreSettings
 no_settings = record { shards = 1; flushers = 1; flush_queue_length = 1; rules = defaults; tenants = from_entries [] }
 
 -- the books of the shard at a place of a list
-abbrev pub names_in : Option Contents → BookNames
+abbrev pub names_in : {D : Type 0} → Option (BegunState D) → BookNames
 names_in None = no_names
-names_in (Some s) = names_of s.books
+names_in (Some b) = names_of b.shard.memory.books
 
-abbrev pub names_at : List Contents → ℕ → BookNames
-names_at shards i = names_in (slice_get shards i)
+abbrev pub names_at : {D : Type 0} → List (BegunState D) → ℕ → BookNames
+names_at begun i = names_in (slice_get begun i)
 
 -- the shard at each place of a list has the books that are named for the place
-abbrev pub AreNamed : (ℕ → BookNames) → List Contents → Type 0
-AreNamed books shards = (i : ℕ) (s : Contents) → slice_get shards i ≡ Some s → names_of s.books ≡ books i
+abbrev pub AreNamed : {D : Type 0} → (ℕ → BookNames) → List (BegunState D) → Type 0
+AreNamed {D = D} books begun = (i : ℕ) (b : BegunState D) → slice_get begun i ≡ Some b → names_of b.shard.memory.books ≡ books i
 
 -- a tally of the stored entries of all shards
 abbrev pub IsTallyOf : ℕ → (ℕ → BookNames) → List ShareState → Type 0

@@ -1,19 +1,21 @@
 -- What a closing tells of a shard (own).
-use Rattle.std.specs.Prelude.{◌≡◌, ◌+◌, ◌<◌, ◌≤◌, ℕ, List, Some, Err, length, slice_get}
+use Rattle.std.specs.Prelude.{◌≡◌, ◌+◌, ◌<◌, ◌≤◌, ℕ, List, Option, Some, None, Err, length, slice_get}
 use Rattle.ing_refusals.specs.declared.refusal.Refusal.{Refusal}
 use Rattle.ing_refusals.specs.declared.refusal.Refusal.TheVariants as refusal
 use Rattle.ing_shard.specs.Contents.{Contents, flying_count, stored_count}
+use Rattle.ing_flush.specs.Tallies.{amount_at}
+use Rattle.ing_node.specs.Earlier.{EarlierState}
 use Rattle.ing_diary.specs.Faults.{AreCounted, IsNoBadObject, unsettled_refusal_of}
 use Rattle.ing_node.specs.declared.report.ShardReport.{ShardReport}
 use Rattle.ing_node.specs.declared.report.CloseRefusal.{CloseRefusal}
 use Rattle.ing_node.specs.declared.report.CloseRefusal.TheVariants.{NoMemory, StillOut, Misplaced, Unsettled}
 
--- As many entries were accepted as the pushers were told, as many are stored as the flushers counted, and each of them is stored
--- or kept; none had been there before.
-pub record IsClosed (told counted : ℕ) (r : ShardReport) : Type 0 where
+-- Of so many that had been there before, and so many of them stored: as many entries were accepted as the pushers were told, as many are
+-- stored as the flushers counted besides, and each of all is stored or kept.
+pub record IsClosed (recovered restored told counted : ℕ) (r : ShardReport) : Type 0 where
   pub accepted : r.accepted ≡ told
-  pub stored : r.stored ≡ counted
-  pub recovered : r.recovered ≡ 0
+  pub stored : r.stored ≡ restored + counted
+  pub recovered_are : r.recovered ≡ recovered
   pub all : r.accepted + r.recovered ≡ r.stored + r.kept
 
 -- shares are said to be missing only where one is
@@ -40,7 +42,7 @@ IsCausedClose before after _ = after ≡ before
 
 -- It has as many entries as a shard has rows, as many of them stored, and none in flight.
 pub record CountsRows (shard : Contents) (r : ShardReport) : Type 0 where
-  pub accepted : r.accepted ≡ length shard.state.rows
+  pub all : r.accepted + r.recovered ≡ length shard.state.rows
   pub stored : r.stored ≡ stored_count shard.state.rows
   pub landed : flying_count shard.state.rows ≡ 0
 
@@ -54,10 +56,36 @@ abbrev pub CountRows : {H : Type 0} → (H → Contents) → List H → List Sha
 CountRows {H = H} shard_in helds reports =
     (i : ℕ) (held : H) (report : ShardReport) → slice_get helds i ≡ Some held → slice_get reports i ≡ Some report → CountsRows (shard_in held) report
 
--- each shard is, with what its pushers were told and what its flushers counted
-abbrev pub AreClosed : (ℕ → ℕ) → (ℕ → ℕ) → List ShardReport → Type 0
-AreClosed told counted reports =
-    (i : ℕ) (report : ShardReport) → slice_get reports i ≡ Some report → IsClosed (told i) (counted i) report
+-- each shard is, with what it began with, what its pushers were told and what its flushers counted
+abbrev pub AreClosed : EarlierState → (ℕ → ℕ) → (ℕ → ℕ) → List ShardReport → Type 0
+AreClosed earlier told counted reports =
+    (i : ℕ) (report : ShardReport) → slice_get reports i ≡ Some report → IsClosed (amount_at i earlier.told) (amount_at i earlier.stored) (told i) (counted i) report
+
+-- ---- for private clauses
+
+-- All shares of the accepted entries tell so many, of which so many had been there before, and all shares of the stored ones so many.
+pub record IsGathered (recovered all_accepted all_stored : ℕ) (r : ShardReport) : Type 0 where
+  pub accepted : r.accepted + recovered ≡ all_accepted
+  pub stored : r.stored ≡ all_stored
+  pub recovered_are : r.recovered ≡ recovered
+  pub all : r.accepted + r.recovered ≡ r.stored + r.kept
+
+-- how many a report says had been there before
+abbrev pub recovered_in : Option ShardReport → ℕ
+recovered_in None = 0
+recovered_in (Some r) = r.recovered
+
+abbrev pub recovered_at : ℕ → List ShardReport → ℕ
+recovered_at i reports = recovered_in (slice_get reports i)
+
+-- each is, with what the reports before said had been there
+abbrev pub AreGathered : List ShardReport → (ℕ → ℕ) → (ℕ → ℕ) → List ShardReport → Type 0
+AreGathered before all_accepted all_stored reports =
+    (i : ℕ) (report : ShardReport) → slice_get reports i ≡ Some report → IsGathered (recovered_at i before) (all_accepted i) (all_stored i) report
+
+-- no more had been there before than all shares tell
+abbrev pub AreWithin : (ℕ → ℕ) → List ShardReport → Type 0
+AreWithin all_accepted before = (i : ℕ) → i < length before → recovered_at i before ≤ all_accepted i
 
 -- the refusal of the same name
 abbrev pub close_refusal_of : CloseRefusal → Refusal

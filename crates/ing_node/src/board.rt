@@ -7,6 +7,7 @@ use crate::ingester::Ingester;
 use crate::names::NodeName;
 use ing_store::Receipt;
 use ing_tally::{Counts, CountsReader};
+use ing_wal::LogDisk;
 use std::alloc::Global;
 use std::marker::{Model, PhantomData};
 use std::sync::Wait;
@@ -47,7 +48,7 @@ impl<N: NodeName> BoardReader<N> {
     }
 }
 
-impl<N: NodeName, R: Receipt> Ingester<N, R> {
+impl<N: NodeName, D: LogDisk, R: Receipt> Ingester<N, D, R> {
     /// A new reader of all shards, which knows of each what it counts now: each lock is taken once, for this. `Misplaced`, and
     /// `NoMemory`. (Own.)
     pub fn reader<W: Wait>(&self, rt: &W, alloc: Global) -> Result<BoardReader<N>, NodeFault>

@@ -1,13 +1,15 @@
 //! The end of an ingester.
-ghost use Rattle.std.specs.Prelude.{◌≡◌, [], ℕ, ◌<◌, ◌≤◌, ◌^◌, All, IfOk, IfErr, OnOk, Some, length, slice_get, sum_by, vec_capacity, vec_len};
+ghost use Rattle.std.specs.Prelude.{◌≡◌, [], ℕ, ◌+◌, ◌<◌, ◌≤◌, ◌^◌, All, IfOk, IfErr, OnOk, length, sum_by, true, vec_capacity, vec_len};
 ghost use Rattle.ing_tally.specs.Books.{AreOf, amount_of};
 ghost use Rattle.ing_flush.specs.Tallies.{amount_at};
 ghost use Rattle.ing_node.specs.Closing.{AreComplete, HaveRoom, IsComplete, shares_at};
 ghost use Rattle.ing_node.specs.Diaries.{AreSettled, HaveNoted, KeepsDiary, notes_at};
 ghost use Rattle.ing_node.specs.Names.{IsTallyOf};
-ghost use Rattle.ing_node.specs.Reports.{AreClosed, CountRows, CountsRows, HasReason, IsClosed, IsCausedClose, IsNoBadClose, IsUnsettled};
+ghost use Rattle.ing_node.specs.Earlier.{HasNone};
+ghost use Rattle.ing_node.specs.Reports.{AreClosed, AreGathered, AreWithin, CountRows, CountsRows, HasReason, IsGathered, IsCausedClose, IsNoBadClose, IsUnsettled};
 
-use crate::gathering::{empty_lists, hand_out_pushers, hand_out_tallies, let_go};
+use crate::earlier::Earlier;
+use crate::gathering::{empty_lists, hand_out_earlier, hand_out_pushers, hand_out_tallies, let_go};
 use crate::held::Held;
 use crate::ingester::Ingester;
 use crate::names::NodeName;
@@ -18,15 +20,18 @@ use ing_flush::FlusherTally;
 use ing_shard::{Gathered, Missing};
 use ing_store::{Receipt, StoreEnd};
 use ing_tally::{Share, strand_each};
+use ing_wal::LogDisk;
 use std::alloc::{AllocError, Global};
 use std::sync::Mutex;
 
 /// An ingester that was not closed, with all that was handed over, and why. It cannot be dropped.
-pub struct CloseFault<N: NodeName, R: Receipt> {
+pub struct CloseFault<N: NodeName, D: LogDisk, R: Receipt> {
     /// Why.
     pub why: CloseRefusal,
     /// The ingester.
-    pub ingester: Ingester<N, R>,
+    pub ingester: Ingester<N, D, R>,
+    /// The shares of what it began with, as they were.
+    pub earlier: Earlier<N>,
     /// The pushers, as they were.
     pub pushers: Vec<Pusher<N>>,
     /// The flushers' tallies, as they were.
@@ -34,10 +39,10 @@ pub struct CloseFault<N: NodeName, R: Receipt> {
 }
 
 /// All the room that a closing takes.
-struct Room<N: NodeName, R: Receipt> {
+struct Room<N: NodeName, D: LogDisk, R: Receipt> {
     // For the shards, out of their locks, and for the locks, where they go back.
-    helds: Vec<Held<N, R>>,
-    locks: Vec<Mutex<Held<N, R>>>,
+    helds: Vec<Held<N, D, R>>,
+    locks: Vec<Mutex<Held<N, D, R>>>,
     // For the shares of each shard's books.
     pushing: Vec<Vec<Share>>,
     stored: Vec<Vec<Share>>,
@@ -45,14 +50,14 @@ struct Room<N: NodeName, R: Receipt> {
     reports: Vec<ShardReport>,
 }
 
-impl<N: NodeName, R: Receipt> Room<N, R> {
-    /// For so many shards, and a share of each for so many pushers and tallies.
+impl<N: NodeName, D: LogDisk + Drop, R: Receipt> Room<N, D, R> {
+    /// For so many shards, and so many shares of each of the accepted and of the stored entries.
     fn new(
         alloc: Global,
         shards: usize,
         pushers: usize,
         tallies: usize,
-    ) -> Result<Room<N, R>, AllocError>
+    ) -> Result<Room<N, D, R>, AllocError>
         ensures helds { IfOk result (λ room. (vec_len room.helds ≡ 0) × (shards ≤ vec_capacity room.helds)) }
         ensures locks { IfOk result (λ room. (vec_len room.locks ≡ 0) × (shards ≤ vec_capacity room.locks)) }
         ensures pushing { IfOk result (λ room. (vec_len room.pushing ≡ shards)
@@ -81,11 +86,12 @@ impl<N: NodeName, R: Receipt> Room<N, R> {
     }
 }
 
-impl<N: NodeName, R: Receipt> Ingester<N, R> {
-    /// Closes the ingester with all of its pushers and with the tallies of all of its flushers. Of each shard as many entries were
-    /// accepted as the pushers were told, as many are stored as the flushers counted, and each that was accepted is stored or kept:
-    /// none is lost, and none counts twice. Where every pusher kept a diary, all entries are read back, by `end`, and the entries of
-    /// each shard are exactly those that the pushers noted, each once.
+impl<N: NodeName, D: LogDisk + Drop, R: Receipt> Ingester<N, D, R> {
+    /// Closes the ingester with all of its pushers, with the tallies of all of its flushers, and with the shares of what it began with. Of
+    /// each shard as many entries were accepted as the pushers were told, as many are stored as the flushers counted and had been stored
+    /// before, and each that was accepted or had been there before is stored or kept: none is lost, and none counts twice. Where every
+    /// pusher kept a diary and no entry had been there before, all entries are read back, by `end`, and the entries of each shard are
+    /// exactly those that the pushers noted, each once.
     ///
     /// `StillOut` where a share is missing, so that a pusher, a flusher or a ticket is still out somewhere or was given up; `Misplaced`;
     /// `Unsettled` as `laws::settle`, and only where every pusher kept a diary; and `NoMemory`. Then everything comes back as it was.
@@ -93,17 +99,18 @@ impl<N: NodeName, R: Receipt> Ingester<N, R> {
         self,
         alloc: Global,
         end: &mut S,
+        earlier: Earlier<N>,
         pushers: Vec<Pusher<N>>,
         tallies: Vec<FlusherTally>,
-    ) -> Result<Report, CloseFault<N, R>>
+    ) -> Result<Report, CloseFault<N, D, R>>
         requires { All (IsTallyOf N.settings.shards N.books) tallies.items }
         ensures all { IfOk result (λ report. vec_len report.shards ≡ N.settings.shards) }
-        ensures closed { IfOk result (λ report. AreClosed (λ i. sum_by (λ p. amount_at i p.told) pushers.items)
+        ensures closed { IfOk result (λ report. AreClosed N.earlier (λ i. sum_by (λ p. amount_at i p.told) pushers.items)
             (λ i. sum_by (amount_at i) tallies.items) report.shards.items) }
         ensures pushers { IfErr result (λ fault. fault.pushers ≡ pushers) }
         ensures tallies { IfErr result (λ fault. fault.tallies ≡ tallies) }
-        // Where diaries were kept, the shards have exactly the entries that were noted.
-        ensures settled { S.is_honest → IfOk result (λ report. All KeepsDiary pushers.items →
+        // Where diaries were kept of all that there is, the shards have exactly the entries that were noted.
+        ensures settled { S.is_honest → IfOk result (λ report. All KeepsDiary pushers.items → HasNone N.earlier →
             AreSettled (λ i. notes_at N.settings.shards i pushers.items) report.shards.items) }
         ensures why { IfErr result (λ fault. HasReason fault.why) }
         ensures asked { IfErr result (λ fault. IsUnsettled fault.why → All KeepsDiary pushers.items) }
@@ -114,10 +121,13 @@ impl<N: NodeName, R: Receipt> Ingester<N, R> {
         ensures sure { S.never_fails end.old → (S.never_fails end.new)
             × (S.failure_count end.new ≡ S.failure_count end.old) }
     {
-        let Ok(room) = Room::new(alloc, self.shards.len(), pushers.len(), tallies.len()) else {
+        // One of each is of what it began with.
+        let (told, counted) = (pushers.len() + 1, tallies.len() + 1);
+        let Ok(room) = Room::new(alloc, self.shards.len(), told, counted) else {
             return Err(CloseFault {
                 why: CloseRefusal::NoMemory,
                 ingester: self,
+                earlier,
                 pushers,
                 tallies,
             });
@@ -129,31 +139,36 @@ impl<N: NodeName, R: Receipt> Ingester<N, R> {
             mut stored,
             reports,
         } = room;
+        let kept_alloc = self.alloc;
         let helds = self.into_shards(helds);
-        if let Err(why) = is_closable(alloc, end, &helds, &pushers, tallies.len() as u64) {
+        let is_new = earlier.is_none();
+        if let Err(why) = is_closable(alloc, end, &helds, is_new, &pushers, counted as u64) {
             let_go(pushing);
             let_go(stored);
             return Err(CloseFault {
                 why,
-                ingester: Ingester::of_shards(helds, locks),
+                ingester: Ingester::of_shards(kept_alloc, helds, locks),
+                earlier,
                 pushers,
                 tallies,
             });
         }
+        let reports = earlier.note(reports);
         hand_out_pushers(&mut pushing, pushers);
         hand_out_tallies::<N>(&mut stored, tallies);
+        hand_out_earlier(&mut pushing, &mut stored, earlier);
         Ok(Report {
             shards: gather_all(helds, pushing, stored, reports),
         })
     }
 
     /// Its shards, out of their locks, in a list with room for them.
-    fn into_shards(self, mut helds: Vec<Held<N, R>>) -> Vec<Held<N, R>>
+    fn into_shards(self, mut helds: Vec<Held<N, D, R>>) -> Vec<Held<N, D, R>>
         requires empty { vec_len helds ≡ 0 }
         requires room { vec_len self.shards ≤ vec_capacity helds }
         ensures { vec_len result ≡ vec_len self.shards }
     {
-        let Ingester { shards } = self;
+        let Ingester { alloc: _, shards } = self;
         for lock in shards {
             helds.push_reserved(lock.into_inner());
         }
@@ -161,7 +176,11 @@ impl<N: NodeName, R: Receipt> Ingester<N, R> {
     }
 
     /// These shards, in locks again, in a list with room for them.
-    fn of_shards(helds: Vec<Held<N, R>>, mut locks: Vec<Mutex<Held<N, R>>>) -> Ingester<N, R>
+    fn of_shards(
+        alloc: Global,
+        helds: Vec<Held<N, D, R>>,
+        mut locks: Vec<Mutex<Held<N, D, R>>>,
+    ) -> Ingester<N, D, R>
         requires all { vec_len helds ≡ N.settings.shards }
         requires some { 0 < vec_len helds }
         requires few { vec_len helds < 2 ^ 32 }
@@ -171,24 +190,28 @@ impl<N: NodeName, R: Receipt> Ingester<N, R> {
         for held in helds {
             locks.push_reserved(Mutex::new(held));
         }
-        Ingester { shards: locks }
+        Ingester {
+            alloc,
+            shards: locks,
+        }
     }
 }
 
-/// Whether shards can be closed with these pushers and so many tallies: all shares are there, and where every pusher kept a diary, the
-/// entries are those that were noted.
-fn is_closable<N: NodeName, S: StoreEnd>(
+/// Whether shards can be closed with these pushers and one share more, and so many shares of the stored entries: all shares are there,
+/// and where every pusher kept a diary and there was no entry before, the entries are those that were noted.
+fn is_closable<N: NodeName, D: LogDisk + Drop, S: StoreEnd>(
     alloc: Global,
     end: &mut S,
-    helds: &[Held<N, S::Receipt>],
+    helds: &[Held<N, D, S::Receipt>],
+    is_new: bool,
     pushers: &[Pusher<N>],
     tallies: u64,
 ) -> Result<(), CloseRefusal>
     requires few { length helds.now < 2 ^ 32 }
     requires all { length helds.now ≡ N.settings.shards }
-    ensures complete { OnOk result (AreComplete (λ held. held.shard) (λ _. length pushers.now) (λ _. tallies) helds.now) }
-    ensures settled { S.is_honest → OnOk result (All KeepsDiary pushers.now →
-        HaveNoted (λ held. held.shard) (λ i. notes_at N.settings.shards i pushers.now) helds.now) }
+    ensures complete { OnOk result (AreComplete (λ held. held.shard.memory) (λ _. length pushers.now + 1) (λ _. tallies) helds.now) }
+    ensures settled { S.is_honest → is_new ≡ true → OnOk result (All KeepsDiary pushers.now →
+        HaveNoted (λ held. held.shard.memory) (λ i. notes_at N.settings.shards i pushers.now) helds.now) }
     ensures why { IfErr result HasReason }
     ensures asked { IfErr result (λ why. IsUnsettled why → All KeepsDiary pushers.now) }
     ensures honest { S.is_honest → IfErr result IsNoBadClose }
@@ -197,22 +220,22 @@ fn is_closable<N: NodeName, S: StoreEnd>(
     ensures sure { S.never_fails end.old → (S.never_fails end.new)
         × (S.failure_count end.new ≡ S.failure_count end.old) }
 {
-    are_complete(helds, pushers.len() as u64, tallies)?;
-    if keep_diaries(pushers) {
+    are_complete(helds, pushers.len() as u64 + 1, tallies)?;
+    if is_new && keep_diaries(pushers) {
         settle_all(alloc, end, helds, pushers)?;
     }
     Ok(())
 }
 
 /// Whether each shard stands at its place, has no chunk in flight, and no more shares of its books out than these.
-fn are_complete<N: NodeName, R: Receipt>(
-    helds: &[Held<N, R>],
+fn are_complete<N: NodeName, D: LogDisk + Drop, R: Receipt>(
+    helds: &[Held<N, D, R>],
     pushers: u64,
     tallies: u64,
 ) -> Result<(), CloseRefusal>
     requires { length helds.now < 2 ^ 32 }
     ensures complete { OnOk result
-        (AreComplete (λ held. held.shard) (λ _. pushers) (λ _. tallies) helds.now) }
+        (AreComplete (λ held. held.shard.memory) (λ _. pushers) (λ _. tallies) helds.now) }
     ensures why { IfErr result (λ why. HasReason why × (IsUnsettled why → ⊥)) }
 {
     let mut all = Missing {
@@ -221,13 +244,7 @@ fn are_complete<N: NodeName, R: Receipt>(
         stored: 0,
     };
     for place in 0..helds.len() {
-        let shard = &helds[place].shard;
-        if shard.number() != place as u32 {
-            return Err(CloseRefusal::Misplaced {
-                shard: place as u32,
-            });
-        }
-        let missing = shard.missing(pushers, tallies);
+        let missing = helds[place].missing(place as u32, pushers, tallies)?;
         all.accepted = all.accepted.saturating_add(missing.accepted);
         all.flight = all.flight.saturating_add(missing.flight);
         all.stored = all.stored.saturating_add(missing.stored);
@@ -238,9 +255,9 @@ fn are_complete<N: NodeName, R: Receipt>(
     Ok(())
 }
 
-/// Gathers the books of each shard, which are complete with these shares.
-fn gather_all<N: NodeName, R: Receipt>(
-    mut helds: Vec<Held<N, R>>,
+/// Gathers the books of each shard, which are complete with these shares. The reports say how many entries each had before.
+fn gather_all<N: NodeName, D: LogDisk + Drop, R: Receipt>(
+    mut helds: Vec<Held<N, D, R>>,
     mut pushing: Vec<Vec<Share>>,
     mut stored: Vec<Vec<Share>>,
     mut reports: Vec<ShardReport>,
@@ -248,19 +265,23 @@ fn gather_all<N: NodeName, R: Receipt>(
     requires pushing { vec_len pushing ≡ vec_len helds }
     requires stored { vec_len stored ≡ vec_len helds }
     requires reports { vec_len reports ≡ vec_len helds }
+    requires recovered { AreWithin (λ i. amount_of (shares_at i pushing.items)) reports.items }
     requires own_pushing { (i : ℕ) → AreOf (N.books i).accepted (shares_at i pushing.items) }
     requires own_stored { (i : ℕ) → AreOf (N.books i).stored (shares_at i stored.items) }
-    requires complete { AreComplete (λ held. held.shard) (λ i. length (shares_at i pushing.items))
+    requires complete { AreComplete (λ held. held.shard.memory) (λ i. length (shares_at i pushing.items))
         (λ i. length (shares_at i stored.items)) helds.items }
     ensures all { vec_len result ≡ vec_len reports }
-    ensures closed { AreClosed (λ i. amount_of (shares_at i pushing.items))
+    ensures closed { AreGathered reports.items (λ i. amount_of (shares_at i pushing.items))
         (λ i. amount_of (shares_at i stored.items)) result.items }
-    ensures rows { CountRows (λ held. held.shard) helds.items result.items }
+    ensures rows { CountRows (λ held. held.shard.memory) helds.items result.items }
 {
     while let Some(held) = helds.pop() {
         let place = helds.len();
         match (pushing.pop(), stored.pop()) {
-            (Some(pushers), Some(tallies)) => reports[place] = gather(held, pushers, tallies),
+            (Some(pushers), Some(tallies)) => {
+                let recovered = reports[place].recovered;
+                reports[place] = gather(held, pushers, tallies, recovered);
+            }
             _ => unreachable!(),
         }
     }
@@ -269,22 +290,25 @@ fn gather_all<N: NodeName, R: Receipt>(
     reports
 }
 
-/// Gathers the books of a shard, which are complete with these shares.
-fn gather<N: NodeName, R: Receipt>(
-    held: Held<N, R>,
+/// Gathers the books of a shard, which are complete with these shares. So many of its entries had been there before.
+fn gather<N: NodeName, D: LogDisk + Drop, R: Receipt>(
+    held: Held<N, D, R>,
     pushing: Vec<Share>,
     tallies: Vec<Share>,
+    recovered: u64,
 ) -> ShardReport
-    requires own_pushing { AreOf (N.books held.shard.number).accepted pushing.items }
-    requires own_tallies { AreOf (N.books held.shard.number).stored tallies.items }
-    requires complete { IsComplete held.shard.number (vec_len pushing) (vec_len tallies) held.shard }
-    ensures closed { IsClosed (amount_of pushing.items) (amount_of tallies.items) result }
-    ensures rows { CountsRows held.shard result }
+    requires own_pushing { AreOf (N.books held.shard.memory.number).accepted pushing.items }
+    requires own_tallies { AreOf (N.books held.shard.memory.number).stored tallies.items }
+    requires complete { IsComplete held.shard.memory.number (vec_len pushing) (vec_len tallies) held.shard.memory }
+    requires recovered { recovered ≤ amount_of pushing.items }
+    ensures closed { IsGathered recovered (amount_of pushing.items) (amount_of tallies.items) result }
+    ensures rows { CountsRows held.shard.memory result }
 {
-    match held.into_shard().gather_books(pushing, tallies) {
+    let (memory, _log) = held.into_shard().into_parts();
+    match memory.gather_books(pushing, tallies) {
         Ok(Gathered { accepted, stored }) => ShardReport {
-            accepted,
-            recovered: 0,
+            accepted: accepted - recovered,
+            recovered,
             stored,
             kept: accepted - stored,
         },

@@ -10,10 +10,11 @@ use ing_sealed::Flushed;
 use ing_shard::{FinishFault, Finished, Op, Stranger, Stray, Ticket};
 use ing_store::Receipt;
 use ing_tally::Share;
+use ing_wal::LogDisk;
 use std::alloc::{AllocError, Global};
 use std::sync::Wait;
 
-impl<N: NodeName, R: Receipt> Door<Flushed<R>> for Ingester<N, R> {
+impl<N: NodeName, D: LogDisk, R: Receipt> Door<Flushed<R>> for Ingester<N, D, R> {
     ghost shards = { N.settings.shards };
 
     ghost books = { N.books };
@@ -49,7 +50,10 @@ impl<N: NodeName, R: Receipt> Door<Flushed<R>> for Ingester<N, R> {
         ensures err { OnErr result (tally.new ≡ tally.old) }
     {
         let place = ticket.claimed().shard() as usize;
-        match self.shards[place].lock(rt).finish(ticket, uploaded, tally) {
+        let finished = self.shards[place]
+            .lock(rt)
+            .finish(self.alloc, ticket, uploaded, tally);
+        match finished {
             Ok(finished) => Ok(finished),
             Err(FinishFault::NoMemory { ticket, flushed }) => Err(Unfinished::NoMemory {
                 ticket,

@@ -11,6 +11,7 @@ use ing_flush::{FlushQueue, Flusher, Gate, QueuePass, Worker};
 use ing_limits::Settings;
 use ing_shard::Op;
 use ing_store::{Receipt, StoreEnd};
+use ing_wal::LogDisk;
 use std::alloc::{AllocError, Global};
 use std::marker::PhantomData;
 use std::sync::Wait;
@@ -84,16 +85,17 @@ impl<N: NodeName> Flushing<N> {
 
     /// A flusher of an ingester, which has stored nothing yet, with a pass of its queue. `CounterFull` where 2^62 shares of a shard
     /// are out, `Misplaced`, and `NoMemory`: then end and gate come back, and no share more is out.
-    pub fn flusher<R, S, G, W>(
+    pub fn flusher<D, R, S, G, W>(
         &self,
         rt: &W,
         alloc: Global,
-        node: &Ingester<N, R>,
+        node: &Ingester<N, D, R>,
         sweeper: &mut Sweeper,
         end: S,
         gate: G,
     ) -> Result<Worker<S, G>, FlusherFault<S, G>>
     where
+        D: LogDisk,
         R: Receipt,
         S: StoreEnd<Receipt = R>,
         G: Gate,

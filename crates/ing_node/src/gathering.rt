@@ -5,6 +5,7 @@ ghost use Rattle.ing_flush.specs.Tallies.{AreStoredIn, amount_at};
 ghost use Rattle.ing_node.specs.Names.{IsTallyOf};
 ghost use Rattle.ing_node.specs.Closing.{HaveRoom, one_at, shares_at};
 
+use crate::earlier::Earlier;
 use crate::names::NodeName;
 use crate::pusher::Pusher;
 use crate::told::Told;
@@ -90,6 +91,7 @@ pub(crate) fn hand_out_pushers<N: NodeName>(
     ensures own { (i : ℕ) → AreOf (N.books i).accepted (shares_at i lists.new.items) }
     ensures count { (i : ℕ) → i < N.settings.shards → length (shares_at i lists.new.items) ≡ vec_len pushers }
     ensures sum { (i : ℕ) → amount_of (shares_at i lists.new.items) ≡ sum_by (λ p. amount_at i p.told) pushers.items }
+    ensures room { (n : ℕ) → HaveRoom (vec_len pushers + n) lists.old.items → HaveRoom n lists.new.items }
 {
     while let Some(pusher) = pushers.pop() {
         let Pusher {
@@ -116,9 +118,44 @@ pub(crate) fn hand_out_tallies<N: NodeName>(
     ensures own { (i : ℕ) → AreOf (N.books i).stored (shares_at i lists.new.items) }
     ensures count { (i : ℕ) → i < N.settings.shards → length (shares_at i lists.new.items) ≡ vec_len tallies }
     ensures sum { (i : ℕ) → amount_of (shares_at i lists.new.items) ≡ sum_by (amount_at i) tallies.items }
+    ensures room { (n : ℕ) → HaveRoom (vec_len tallies + n) lists.old.items → HaveRoom n lists.new.items }
 {
     while let Some(tally) = tallies.pop() {
         hand_out(lists, tally.into_shares());
     }
     tallies.destroy_empty();
+}
+
+/// Puts the shares of what an ingester began with into lists, one for each shard.
+pub(crate) fn hand_out_earlier<N: NodeName>(
+    pushing: &mut Vec<Vec<Share>>,
+    stored: &mut Vec<Vec<Share>>,
+    earlier: Earlier<N>,
+)
+    requires pushing { vec_len pushing.old ≡ N.settings.shards }
+    requires stored { vec_len stored.old ≡ N.settings.shards }
+    requires pushing_room { HaveRoom 1 pushing.old.items }
+    requires stored_room { HaveRoom 1 stored.old.items }
+    requires pushing_own { (i : ℕ) → AreOf (N.books i).accepted (shares_at i pushing.old.items) }
+    requires stored_own { (i : ℕ) → AreOf (N.books i).stored (shares_at i stored.old.items) }
+    ensures pushing { vec_len pushing.new ≡ N.settings.shards }
+    ensures stored { vec_len stored.new ≡ N.settings.shards }
+    ensures pushing_own { (i : ℕ) → AreOf (N.books i).accepted (shares_at i pushing.new.items) }
+    ensures stored_own { (i : ℕ) → AreOf (N.books i).stored (shares_at i stored.new.items) }
+    ensures pushing_count { (i : ℕ) → i < N.settings.shards →
+        length (shares_at i pushing.new.items) ≡ length (shares_at i pushing.old.items) + 1 }
+    ensures stored_count { (i : ℕ) → i < N.settings.shards →
+        length (shares_at i stored.new.items) ≡ length (shares_at i stored.old.items) + 1 }
+    ensures pushing_sum { (i : ℕ) → amount_of (shares_at i pushing.new.items)
+        ≡ amount_of (shares_at i pushing.old.items) + amount_at i N.earlier.told }
+    ensures stored_sum { (i : ℕ) → amount_of (shares_at i stored.new.items)
+        ≡ amount_of (shares_at i stored.old.items) + amount_at i N.earlier.stored }
+{
+    let Earlier {
+        told,
+        stored: tally,
+        of: _,
+    } = earlier;
+    hand_out_told(pushing, told);
+    hand_out(stored, tally.into_shares());
 }

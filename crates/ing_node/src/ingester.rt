@@ -1,14 +1,19 @@
 //! The shards behind their locks.
-ghost use Rattle.std.specs.Prelude.{◌≡◌, ◌+◌, ◌<◌, ◌≤◌, ◌^◌, [], All, IfOk, IfErr, OnOk, is_some, length, vec_len};
+ghost use Rattle.std.specs.Prelude.{◌≡◌, ◌⊎◌, ◌+◌, ◌<◌, ◌≤◌, ◌^◌, [], All, IfOk, IfErr, OnOk, false, true, is_some, length, reverse, vec_len};
+ghost use Rattle.std.specs.List.{AllByRecursion};
 ghost use Rattle.ing_flush.specs.Tallies.{AreStoredIn};
+ghost use Rattle.ing_node.specs.Begun.{HasTornLog};
+ghost use Rattle.ing_node.specs.Earlier.{earlier_of};
 ghost use Rattle.ing_node.specs.Diaries.{notes_kept};
 ghost use Rattle.ing_node.specs.Queries.{AreGauges};
 ghost use Rattle.ing_node.specs.Names.{AreAcceptedIn, AreNamed};
 
 use crate::diaries::new_diary;
+use crate::earlier::Earlier;
 use crate::fault::NodeFault;
 use crate::held::Held;
 use crate::names::NodeName;
+use crate::opening::Opening;
 use crate::pusher::Pusher;
 use crate::shards::Shards;
 use crate::told::Told;
@@ -18,6 +23,7 @@ use ing_rows::{Gauges, Stamp, Tenant};
 use ing_shard::Due;
 use ing_store::Receipt;
 use ing_tally::Share;
+use ing_wal::LogDisk;
 use std::alloc::Global;
 use std::marker::PhantomData;
 use std::sync::{Mutex, Wait};
@@ -25,32 +31,54 @@ use std::sync::{Mutex, Wait};
 /// The shards of one ingester, each behind a lock at the place of its number. Any number of threads may push, flush and query
 /// through it.
 #[derive(Drop)]
-pub struct Ingester<N: NodeName, R: Receipt> {
-    pub(crate) shards: Vec<Mutex<Held<N, R>>>,
+pub struct Ingester<N: NodeName, D: LogDisk, R: Receipt> {
+    /// What its locks' holders take memory of, where a call does not say.
+    pub(crate) alloc: Global,
+    pub(crate) shards: Vec<Mutex<Held<N, D, R>>>,
     ghost all: { vec_len shards ≡ N.settings.shards },
     ghost some: { 0 < vec_len shards },
     ghost few: { vec_len shards < 2 ^ 32 },
 }
 
-impl<N: NodeName, R: Receipt> Ingester<N, R> {
-    /// The ingester of these shards, which N has to name: their settings, and their books by number. Where memory runs out they
-    /// come back.
-    pub fn open(alloc: Global, shards: Shards<R>) -> Result<Ingester<N, R>, Shards<R>>
+impl<N: NodeName, D: LogDisk, R: Receipt> Ingester<N, D, R> {
+    /// The ingester of these shards, which N has to name: their settings, their books by number, and the shares of what they began with,
+    /// which stand beside it; and where N says that there are no logs, each is torn. Where memory runs out the shards come back.
+    pub fn open(
+        alloc: Global,
+        shards: Shards<D, R>,
+    ) -> Result<(Ingester<N, D, R>, Earlier<N>), Shards<D, R>>
         requires settings { shards.settings ≡ N.settings }
-        requires named { AreNamed N.books shards.shards.items }
+        requires named { AreNamed N.books (reverse shards.last_first.items) }
+        requires earlier { N.earlier ≡ earlier_of (reverse shards.last_first.items) }
+        requires torn { N.has_logs ≡ false → AllByRecursion HasTornLog (reverse shards.last_first.items) }
         ensures back { IfErr result (λ back. back ≡ shards) }
     {
-        let Ok(mut locks) = Vec::with_capacity(alloc, shards.shards.len()) else {
+        let Ok(mut opening) = Opening::new(alloc, shards.last_first.len()) else {
             return Err(shards);
         };
         let Shards {
             settings: _,
-            shards,
+            mut last_first,
         } = shards;
-        for shard in shards {
-            locks.push_reserved(Mutex::new(Held::new(shard)));
+        while let Some(begun) = last_first.pop() {
+            opening.add(begun);
         }
-        Ok(Ingester { shards: locks })
+        last_first.destroy_empty();
+        let Opening {
+            locks,
+            told,
+            stored,
+        } = opening;
+        let ingester = Ingester {
+            alloc,
+            shards: locks,
+        };
+        let earlier = Earlier {
+            told,
+            stored: FlusherTally::of_shares(stored),
+            of: PhantomData,
+        };
+        Ok((ingester, earlier))
     }
 
     /// A new pusher, which was told nothing yet, and which keeps a diary where that is asked for: then a closing can compare each
@@ -169,5 +197,19 @@ impl<N: NodeName, R: Receipt> Ingester<N, R> {
         ensures fault { IfErr result (λ fault. fault ≡ NodeFault.Misplaced shard) }
     {
         self.shards[shard as usize].lock(rt).gauges(shard, tenant)
+    }
+
+    /// Puts a checkpoint of a shard in the place of all that its log has, torn or not, and says whether that is done, as
+    /// `DurableShard::checkpoint`. Of an ingester with logs. `Misplaced`, and `NoMemory`: then the log is as it was. (Loki
+    /// documentation: write-ahead log, checkpoints.)
+    pub fn checkpoint<W: Wait>(&self, rt: &W, alloc: Global, shard: u32) -> Result<bool, NodeFault>
+        requires shard { shard < N.settings.shards }
+        requires logs { N.has_logs ≡ true }
+        ensures fault { IfErr result (λ fault. (fault ≡ NodeFault.NoMemory)
+            ⊎ (fault ≡ NodeFault.Misplaced shard)) }
+    {
+        self.shards[shard as usize]
+            .lock(rt)
+            .checkpoint(shard, alloc)
     }
 }

@@ -2,10 +2,12 @@
 #![tactic(auto)]
 
 mod abandon;
+mod begun;
 mod board;
 mod closing;
 mod diaries;
 mod door;
+mod earlier;
 mod fault;
 mod flushing;
 mod gathering;
@@ -14,6 +16,7 @@ mod ingester;
 mod laws;
 mod names;
 mod no_store;
+mod opening;
 mod pusher;
 mod query;
 mod report;
@@ -24,8 +27,10 @@ mod swept;
 mod told;
 
 pub use abandon::{strand_pushers, strand_tallies};
+pub use begun::Begun;
 pub use board::BoardReader;
 pub use closing::CloseFault;
+pub use earlier::Earlier;
 pub use fault::NodeFault;
 pub use flushing::{FlusherFault, Flushing, Sweeper};
 pub use ingester::Ingester;

@@ -23,6 +23,7 @@ use ing_places::Places;
 use ing_rows::{Entry, Stamp, Tenant, Verdict};
 use ing_shard::Pushed;
 use ing_store::Receipt;
+use ing_wal::LogDisk;
 use std::alloc::{AllocError, Global};
 use std::marker::{Model, PhantomData};
 use std::sync::Wait;
@@ -68,11 +69,11 @@ impl<N: NodeName> Pusher<N> {
     ///
     /// `TooManyEntries` where there are more than the tenant's rules allow; `CounterFull` where a count would pass its last value,
     /// as for `Shard::push`; `Misplaced`, and `NoMemory`. After an error everything is as it was.
-    pub fn push<R: Receipt, W: Wait>(
+    pub fn push<D: LogDisk, R: Receipt, W: Wait>(
         &mut self,
         rt: &W,
         alloc: Global,
-        node: &Ingester<N, R>,
+        node: &Ingester<N, D, R>,
         tenant: &Tenant,
         labels: &Labels,
         entries: Vec<Entry>,
@@ -85,7 +86,7 @@ impl<N: NodeName> Pusher<N> {
             entries.items pushed.verdicts.items) }
         ensures verdicts { IfOk result (λ pushed. AreTold (rules_for N.settings tenant.now)
             entries.items pushed.verdicts.items) }
-        ensures durable { IfOk result (λ pushed. pushed.durable ≡ false) }
+        ensures durable { IfOk result (λ pushed. N.has_logs ≡ false → pushed.durable ≡ false) }
         // It was told of as many more of the stream's shard as were accepted, and of no more of the others.
         ensures told { let shard = shard_of tenant.now (canonical_of labels.now) N.settings.shards in
             IfOk result (λ pushed. amount_at shard self.new.told
@@ -146,11 +147,11 @@ impl<N: NodeName> Pusher<N> {
 }
 
 /// A push, as `Pusher::push`, with the shares of a pusher: what it was told of the stream's shard rises by the accepted entries.
-fn push_told<N: NodeName, R: Receipt, W: Wait>(
+fn push_told<N: NodeName, D: LogDisk, R: Receipt, W: Wait>(
     told: &mut Vec<Told>,
     rt: &W,
     alloc: Global,
-    node: &Ingester<N, R>,
+    node: &Ingester<N, D, R>,
     shard: u32,
     tenant: &Tenant,
     labels: &Labels,
@@ -169,7 +170,7 @@ fn push_told<N: NodeName, R: Receipt, W: Wait>(
         entries.items pushed.verdicts.items) }
     ensures verdicts { IfOk result (λ pushed. AreTold (rules_for N.settings tenant.now)
         entries.items pushed.verdicts.items) }
-    ensures durable { IfOk result (λ pushed. pushed.durable ≡ false) }
+    ensures durable { IfOk result (λ pushed. N.has_logs ≡ false → pushed.durable ≡ false) }
     ensures told { IfOk result (λ pushed. amount_at shard told.new.items
         ≡ amount_at shard told.old.items + length (accepted_among entries.items pushed.verdicts.items)) }
     ensures others { (i : ℕ) → i ≢ shard → slice_get told.new.items i ≡ slice_get told.old.items i }

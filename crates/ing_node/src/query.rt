@@ -19,6 +19,7 @@ use ing_query::{QueryFault, run_query};
 use ing_refusals::Refusal;
 use ing_rows::Tenant;
 use ing_store::{Receipt, StoreEnd};
+use ing_wal::LogDisk;
 use std::alloc::Global;
 use std::sync::Wait;
 
@@ -74,7 +75,7 @@ impl From<QueryFault> for AnswerFault {
     }
 }
 
-impl<N: NodeName, R: Receipt> Ingester<N, R> {
+impl<N: NodeName, D: LogDisk, R: Receipt> Ingester<N, D, R> {
     /// The entries of a tenant whose labels the selector matches and whose stamp is in the question's range: the first ones in its
     /// order, at most so many. It looks at one shard after the other, each under its lock, and not at one moment; each has then at
     /// least as many entries as the pusher was told of, so that who pushed finds what was accepted. The answer is never a partial one.

@@ -11,7 +11,7 @@ use ing_shard::Missing;
 pub struct ShardReport {
     /// How many entries the pushers were told were accepted.
     pub accepted: u64,
-    /// How many it had from an earlier run: none, since there is no log yet.
+    /// How many it had from an earlier run.
     pub recovered: u64,
     /// How many are stored.
     pub stored: u64,

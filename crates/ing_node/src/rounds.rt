@@ -16,6 +16,7 @@ use ing_flush::{Gate, Round, Worker, flush_queued};
 use ing_rows::Stamp;
 use ing_shard::Due;
 use ing_store::{Receipt, StoreEnd};
+use ing_wal::LogDisk;
 use std::alloc::Global;
 use std::sync::Wait;
 use std::thread::{self, Threads};
@@ -32,11 +33,11 @@ enum Sealing {
 impl<N: NodeName> Flushing<N> {
     /// Sweeps each shard, as `Ingester::sweep`, and puts the operations into the queue, as `queue_left`. After an error nothing is
     /// queued, and the shards before the one that was refused stay swept.
-    pub fn sweep_round<R: Receipt, W: Wait>(
+    pub fn sweep_round<D: LogDisk, R: Receipt, W: Wait>(
         &self,
         rt: &W,
         alloc: Global,
-        node: &Ingester<N, R>,
+        node: &Ingester<N, D, R>,
         sweeper: &mut Sweeper,
         now: Stamp,
     ) -> Result<Swept, NodeFault>
@@ -52,11 +53,11 @@ impl<N: NodeName> Flushing<N> {
 
     /// Seals every growing chunk of each shard, as `Ingester::seal_all`, and puts the operations into the queue, as `queue_left`.
     /// After an error nothing is queued, and the shards before the one that was refused stay sealed.
-    pub fn seal_round<R: Receipt, W: Wait>(
+    pub fn seal_round<D: LogDisk, R: Receipt, W: Wait>(
         &self,
         rt: &W,
         alloc: Global,
-        node: &Ingester<N, R>,
+        node: &Ingester<N, D, R>,
         sweeper: &mut Sweeper,
     ) -> Result<Swept, NodeFault>
         requires { sweeper.old.pass.queue ≡ self.now.queue.name }
@@ -70,11 +71,11 @@ impl<N: NodeName> Flushing<N> {
     }
 
     /// Seals chunks of each shard, and puts the operations into the queue.
-    fn round<R: Receipt, W: Wait>(
+    fn round<D: LogDisk, R: Receipt, W: Wait>(
         &self,
         rt: &W,
         alloc: Global,
-        node: &Ingester<N, R>,
+        node: &Ingester<N, D, R>,
         sweeper: &mut Sweeper,
         which: &Sealing,
     ) -> Result<Swept, NodeFault>
@@ -104,14 +105,15 @@ impl<N: NodeName> Flushing<N> {
 impl<N: NodeName + Send + Sync> Flushing<N> {
     /// Each worker takes and flushes, as `flush_queued`, until it finds the queue empty: in as many threads as there are workers, or
     /// one after the other where no thread can be made. It says what all of their rounds came to. (Own.)
-    pub fn flush_round<R, S, G, W>(
+    pub fn flush_round<D, R, S, G, W>(
         &self,
         rt: &W,
         alloc: Global,
-        node: &Ingester<N, R>,
+        node: &Ingester<N, D, R>,
         workers: &mut [Worker<S, G>],
     ) -> Round
     where
+        D: LogDisk + Send,
         R: Receipt + Send + Sync,
         S: StoreEnd<Receipt = R> + Send,
         G: Gate + Send,
@@ -166,10 +168,10 @@ fn sum_of<S: StoreEnd, G: Gate>(workers: &[Worker<S, G>]) -> Round
 }
 
 /// Seals chunks of a shard.
-fn seal<N: NodeName, R: Receipt, W: Wait>(
+fn seal<N: NodeName, D: LogDisk, R: Receipt, W: Wait>(
     rt: &W,
     alloc: Global,
-    node: &Ingester<N, R>,
+    node: &Ingester<N, D, R>,
     shard: u32,
     which: &Sealing,
 ) -> Result<Due, NodeFault>

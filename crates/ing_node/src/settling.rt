@@ -10,6 +10,7 @@ use crate::names::NodeName;
 use crate::pusher::Pusher;
 use crate::report::CloseRefusal;
 use ing_store::StoreEnd;
+use ing_wal::LogDisk;
 use std::alloc::Global;
 
 /// Whether each of them keeps a diary.
@@ -26,17 +27,17 @@ pub(crate) fn keep_diaries<N: NodeName>(pushers: &[Pusher<N>]) -> bool
 }
 
 /// Whether each shard, which stands at its place, has exactly the entries that these pushers noted, as `laws::settle`.
-pub(crate) fn settle_all<N: NodeName, S: StoreEnd>(
+pub(crate) fn settle_all<N: NodeName, D: LogDisk, S: StoreEnd>(
     alloc: Global,
     end: &mut S,
-    helds: &[Held<N, S::Receipt>],
+    helds: &[Held<N, D, S::Receipt>],
     pushers: &[Pusher<N>],
 ) -> Result<(), CloseRefusal>
     requires few { length helds.now < 2 ^ 32 }
     requires all { length helds.now ≡ N.settings.shards }
-    requires placed { AreInPlaces (λ held. held.shard) helds.now }
+    requires placed { AreInPlaces (λ held. held.shard.memory) helds.now }
     ensures settled { S.is_honest → OnOk result
-        (HaveNoted (λ held. held.shard) (λ i. notes_at N.settings.shards i pushers.now) helds.now) }
+        (HaveNoted (λ held. held.shard.memory) (λ i. notes_at N.settings.shards i pushers.now) helds.now) }
     ensures why { IfErr result HasReason }
     ensures honest { S.is_honest → IfErr result IsNoBadClose }
     ensures count { OnOk result (S.failure_count end.new ≡ S.failure_count end.old) }
@@ -46,7 +47,7 @@ pub(crate) fn settle_all<N: NodeName, S: StoreEnd>(
 {
     for place in 0..helds.len() {
         let shards = helds.len() as u32;
-        if let Err(why) = settle(&helds[place].shard, shards, alloc, end, pushers) {
+        if let Err(why) = settle(helds[place].shard.memory(), shards, alloc, end, pushers) {
             return Err(CloseRefusal::Unsettled {
                 shard: place as u32,
                 why,

@@ -1,5 +1,6 @@
 //! What no call from outside brings about: locks that are swapped, and a ticket that is handed to another shard.
-ghost use Rattle.std.specs.Prelude.{◌≡◌, ◌∷◌, [], All, IfOk};
+ghost use Rattle.std.specs.Prelude.{◌≡◌, ◌∷◌, [], All, IfOk, reverse, true};
+ghost use Rattle.ing_node.specs.Earlier.{earlier_of};
 ghost use Rattle.ing_node.specs.Names.{AreNamed, IsTallyOf};
 
 use super::*;
@@ -9,6 +10,7 @@ use ing_limits::Settings;
 use ing_rows::{Entry, Line, Stamp, Tenant};
 use ing_shard::{Missing, Ticket};
 use ing_store::DigestReceipt;
+use ing_wal::NoLog;
 use std::alloc::Global;
 use std::marker::Brand;
 use std::sync::Wait;
@@ -20,9 +22,10 @@ const LIMITS: LabelLimits = LabelLimits {
     value_bytes: 2048,
 };
 
-/// An ingester with all shares of its books, of one who pushes and one who flushes.
+/// An ingester with all shares of its books, of what it began with, of one who pushes and one who flushes.
 struct Whole<N: NodeName> {
-    node: Ingester<N, DigestReceipt>,
+    node: Ingester<N, NoLog, DigestReceipt>,
+    earlier: Earlier<N>,
     pushers: Vec<Pusher<N>>,
     tallies: Vec<FlusherTally>,
     ghost own: { All (IsTallyOf N.settings.shards N.books) tallies.items },
@@ -46,26 +49,58 @@ fn alone<T>(alloc: Global, one: T) -> Result<Vec<T>, T>
 }
 
 /// Two shards without entries.
-fn two(alloc: Global) -> Result<Shards<DigestReceipt>, Fail> {
-    Ok(Shards::fresh(alloc, Settings::from_toml(alloc, "shards = 2\n")?)?)
+fn two(alloc: Global) -> Result<Shards<NoLog, DigestReceipt>, Fail> {
+    let settings = Settings::from_toml(alloc, "shards = 2\n")?;
+    let logs = vec![in alloc; NoLog::new(), NoLog::new()]?;
+    if settings.shards() as usize != logs.len() {
+        return Err("two shards".into());
+    }
+    match Shards::fresh(alloc, settings, logs) {
+        Ok(shards) => Ok(shards),
+        Err(_) => Err("memory".into()),
+    }
 }
 
 /// An ingester of these shards, one who pushes and one who flushes.
 fn opened<N: NodeName, W: Wait>(
     rt: &W,
     alloc: Global,
-    shards: Shards<DigestReceipt>,
+    shards: Shards<NoLog, DigestReceipt>,
 ) -> Result<Whole<N>, Fail>
     requires settings { shards.settings ≡ N.settings }
-    requires named { AreNamed N.books shards.shards.items }
+    requires named { AreNamed N.books (reverse shards.last_first.items) }
+    requires earlier { N.earlier ≡ earlier_of (reverse shards.last_first.items) }
+    requires logs { N.has_logs ≡ true }
 {
-    let node = match Ingester::open(alloc, shards) {
-        Ok(node) => node,
+    let (node, earlier) = match Ingester::open(alloc, shards) {
+        Ok(opened) => opened,
         Err(shards) => {
             shards.abandon();
             return Err("memory".into());
         }
     };
+    match hands(rt, alloc, &node) {
+        Ok((pushers, tallies)) => Ok(Whole {
+            node,
+            earlier,
+            pushers,
+            tallies,
+        }),
+        Err(fault) => {
+            earlier.strand();
+            Err(fault)
+        }
+    }
+}
+
+/// One who pushes and one who flushes, each alone in a list.
+fn hands<N: NodeName, W: Wait>(
+    rt: &W,
+    alloc: Global,
+    node: &Ingester<N, NoLog, DigestReceipt>,
+) -> Result<(Vec<Pusher<N>>, Vec<FlusherTally>), Fail>
+    ensures { IfOk result (λ hands. All (IsTallyOf N.settings.shards N.books) hands.1.items) }
+{
     let pushers = match alone(alloc, node.pusher(rt, alloc, false)?) {
         Ok(pushers) => pushers,
         Err(pusher) => {
@@ -73,12 +108,8 @@ fn opened<N: NodeName, W: Wait>(
             return Err("memory".into());
         }
     };
-    match tallies(rt, alloc, &node) {
-        Ok(tallies) => Ok(Whole {
-            node,
-            pushers,
-            tallies,
-        }),
+    match tallies(rt, alloc, node) {
+        Ok(tallies) => Ok((pushers, tallies)),
         Err(fault) => {
             strand_pushers(pushers);
             Err(fault)
@@ -90,7 +121,7 @@ fn opened<N: NodeName, W: Wait>(
 fn tallies<N: NodeName, W: Wait>(
     rt: &W,
     alloc: Global,
-    node: &Ingester<N, DigestReceipt>,
+    node: &Ingester<N, NoLog, DigestReceipt>,
 ) -> Result<Vec<FlusherTally>, Fail>
     ensures { IfOk result (λ list. All (IsTallyOf N.settings.shards N.books) list.items) }
 {
@@ -108,15 +139,17 @@ impl<N: NodeName> Whole<N> {
     fn close(self, alloc: Global) -> Closing<N> {
         let Whole {
             node,
+            earlier,
             pushers,
             tallies,
         } = self;
-        match node.close(alloc, &mut NoStore::new(), pushers, tallies) {
+        match node.close(alloc, &mut NoStore::new(), earlier, pushers, tallies) {
             Ok(report) => Closing::Closed(report.shards.len()),
             Err(fault) => {
                 let CloseFault {
                     why,
                     ingester: node,
+                    earlier,
                     pushers,
                     tallies,
                 } = fault;
@@ -124,6 +157,7 @@ impl<N: NodeName> Whole<N> {
                     why,
                     Whole {
                         node,
+                        earlier,
                         pushers,
                         tallies,
                     },
@@ -136,13 +170,15 @@ impl<N: NodeName> Whole<N> {
     fn swapped(self) -> Whole<N> {
         let Whole {
             node,
+            earlier,
             pushers,
             tallies,
         } = self;
-        let Ingester { mut shards } = node;
+        let Ingester { alloc, mut shards } = node;
         shards.reverse();
         Whole {
-            node: Ingester { shards },
+            node: Ingester { alloc, shards },
+            earlier,
             pushers,
             tallies,
         }
@@ -152,10 +188,11 @@ impl<N: NodeName> Whole<N> {
     fn abandon(self) {
         let Whole {
             node,
+            earlier,
             pushers,
             tallies,
         } = self;
-        node.abandon(pushers, tallies);
+        node.abandon(earlier, pushers, tallies);
     }
 }
 
@@ -193,10 +230,12 @@ type Answers = (
 fn swapped<N: NodeName, W: Wait>(
     rt: &W,
     alloc: Global,
-    shards: Shards<DigestReceipt>,
+    shards: Shards<NoLog, DigestReceipt>,
 ) -> Result<Answers, Fail>
     requires settings { shards.settings ≡ N.settings }
-    requires named { AreNamed N.books shards.shards.items }
+    requires named { AreNamed N.books (reverse shards.last_first.items) }
+    requires earlier { N.earlier ≡ earlier_of (reverse shards.last_first.items) }
+    requires logs { N.has_logs ≡ true }
 {
     let whole: Whole<N> = opened(rt, alloc, shards)?;
     let whole = whole.swapped();
@@ -225,7 +264,7 @@ fn swapped_locks_are_noticed(rt: HostRuntime) -> Result<(), Fail> {
 fn claimed<N: NodeName, W: Wait>(
     rt: &W,
     alloc: Global,
-    node: &Ingester<N, DigestReceipt>,
+    node: &Ingester<N, NoLog, DigestReceipt>,
     pushers: &mut Vec<Pusher<N>>,
 ) -> Result<Ticket, Fail>
     ensures { IfOk result (λ ticket.
@@ -263,19 +302,23 @@ fn claimed<N: NodeName, W: Wait>(
 fn strayed<N: NodeName, W: Wait>(
     rt: &W,
     alloc: Global,
-    shards: Shards<DigestReceipt>,
+    shards: Shards<NoLog, DigestReceipt>,
 ) -> Result<(bool, Result<usize, CloseRefusal>), Fail>
     requires settings { shards.settings ≡ N.settings }
-    requires named { AreNamed N.books shards.shards.items }
+    requires named { AreNamed N.books (reverse shards.last_first.items) }
+    requires earlier { N.earlier ≡ earlier_of (reverse shards.last_first.items) }
+    requires logs { N.has_logs ≡ true }
 {
     let Whole {
         node,
+        earlier,
         mut pushers,
         tallies,
     } = opened(rt, alloc, shards)?;
     let strange = is_strange(rt, alloc, &node, &mut pushers);
     let whole = Whole::<N> {
         node,
+        earlier,
         pushers,
         tallies,
     };
@@ -286,7 +329,7 @@ fn strayed<N: NodeName, W: Wait>(
 fn is_strange<N: NodeName, W: Wait>(
     rt: &W,
     alloc: Global,
-    node: &Ingester<N, DigestReceipt>,
+    node: &Ingester<N, NoLog, DigestReceipt>,
     pushers: &mut Vec<Pusher<N>>,
 ) -> Result<bool, Fail> {
     let second = node.shards.get(1).ok_or("two shards")?;

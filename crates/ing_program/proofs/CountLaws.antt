@@ -1,5 +1,6 @@
 -- What flushers have counted, all together.
 use Rattle.std.proofs.Common.{◌≡◌, ℕ, zero, suc, ◌+◌, ◌-◌, ◌^◌, List, [], ◌∷◌, ◌++◌, length, refl, sym, ap, subst, ◌∙◌, arith, Ok}
+use Rattle.std.proofs.lemmas.List.Elements.{All-cons}
 use Rattle.std.proofs.lemmas.List.Sums.{sum_by-cons}
 use Rattle.std.specs.Prelude.{◌⊎◌, All, Some, drop, min, slice_get, sum_by, take}
 use Rattle.std.specs.List.{AllZip}
@@ -14,7 +15,7 @@ use Rattle.ing_commands.specs.Commands.{Flush}
 use Rattle.ing_commands.specs.FlushCommands.{FlushCommand}
 use Rattle.ing_session.specs.Runs.{IsObeyed}
 use Rattle.ing_session.proofs.CausesLaws.{no_failure}
-use Rattle.ing_program.specs.ByLedger.{Held, IsFlushReply, IsRefused, by_ledger, stored_in}
+use Rattle.ing_program.specs.ByLedger.{Began, Held, IsFlushReply, IsRefused, by_ledger, stored_in}
 use Rattle.ing_program.specs.Counted.{IsHeld, RisesBy}
 
 -- ---- of all shards
@@ -60,6 +61,14 @@ pub stored_is_counted : (shards : ℕ) (tallies : List (List ShareState)) (repor
 stored_is_counted shards tallies reports long all each =
     stored_upto reports (λ i. sum_by (amount_at i) tallies) each ∙ ap (upto (λ i. sum_by (amount_at i) tallies)) long ∙ tallies_upto shards tallies all
 
+-- the same where one that counts what was stored before stands beside them
+pub stored_beside : (shards : ℕ) (earlier : List ShareState) (tallies : List (List ShareState)) (reports : List ShardReport) → length reports ≡ shards → length earlier ≡ shards → All (λ t. length t ≡ shards) tallies
+    → ((i : ℕ) (r : ShardReport) → slice_get reports i ≡ Some r → r.stored ≡ amount_at i earlier + sum_by (amount_at i) tallies) → stored_in reports ≡ amount_of earlier + sum_by amount_of tallies
+stored_beside shards earlier tallies reports long first all each =
+    stored_is_counted shards (earlier ∷ tallies) reports long (All-cons (λ (t : List ShareState). length t ≡ shards) earlier tallies first all)
+    (λ i r at. each i r at ∙ sym (sum_by-cons (amount_at i) earlier tallies))
+    ∙ sum_by-cons amount_of earlier tallies
+
 -- shares of nothing
 pub none_counted : (ss : List ShareState) → All (λ s. s.amount ≡ 0) ss → amount_of ss ≡ 0
 none_counted [] all = refl
@@ -92,10 +101,10 @@ held_on pusher readers held chunks before after is rises = record {
 }
 
 -- a flush told so many chunks stored, or a lock was not passed
-pub told_flush : (settings : StoreSettings) (p q : PusherState) (r s : List ReaderState) (before after stored count : ℕ) (flush : FlushCommand) (held : Held) (reply : Data) → q ≡ p → s ≡ r
+pub told_flush : (began : Began) (settings : StoreSettings) (p q : PusherState) (r s : List ReaderState) (before after stored count : ℕ) (flush : FlushCommand) (held : Held) (reply : Data) → q ≡ p → s ≡ r
     → RisesBy stored before after → IsFlushReply stored reply ⊎ (IsRefused reply × (stored ≡ 0)) → IsHeld p before r held
-    → IsObeyed (by_ledger settings.shards) settings (Ok (Flush flush)) held (IsHeld q after s) count count reply
-told_flush settings p q r s before after stored count flush held reply same same_board rises may_be is = record {
+    → IsObeyed (by_ledger began settings.shards) settings (Ok (Flush flush)) held (IsHeld q after s) count count reply
+told_flush began settings p q r s before after stored count flush held reply same same_board rises may_be is = record {
   failed = 0;
   left = record { told = held.told; chunks = held.chunks + stored; board = held.board };
   obeys = record { stored = stored; may_be = may_be; chunks = refl; board = refl; left = λ i. refl; failures = refl };

@@ -1,5 +1,5 @@
 -- What was told of each shard, from one stream of a push to the next.
-use Rattle.std.proofs.Common.{◌≡◌, ◌≢◌, ℕ, zero, suc, ◌+◌, List, [], ◌∷◌, ◌++◌, refl, sym, ap, ◌∙◌, arith, Ok, Err, inl, inr}
+use Rattle.std.proofs.Common.{◌≡◌, ◌≢◌, Bool, ℕ, zero, suc, ◌+◌, List, [], ◌∷◌, ◌++◌, refl, sym, ap, ◌∙◌, arith, Ok, Err, inl, inr}
 use Rattle.std.proofs.lemmas.Result.{IfOk-from_err}
 use Rattle.std.specs.Prelude.{◌⊎◌, All, IfOk, IsErr, Result, slice_get, sum_by}
 use Rattle.serde_json.specs.Data.{Data}
@@ -38,15 +38,17 @@ raises_from shard n a b c same r = record {
 stays_from : (a b c : Told) → Stays a b → Stays a c → Stays b c
 stays_from a b c same stays = λ i. stays i ∙ sym (same i)
 
-module _ (settings : StoreSettings) (tenant : List ℕ) (now : ℕ) where
-  as_from : (entries : List Entry) (a b c : Told) (reply : Data) (read : Result LabelMap LabelFault) → Stays a b → PushesAs settings tenant now entries a c reply read
-      → PushesAs settings tenant now entries b c reply read
+module _ (logs : Bool) (settings : StoreSettings) (tenant : List ℕ) (now : ℕ) where
+  as_from : (entries : List Entry) (a b c : Told) (reply : Data) (read : Result LabelMap LabelFault) → Stays a b → PushesAs logs settings tenant now entries a c reply read
+      → PushesAs logs settings tenant now entries b c reply read
   as_from entries a b c reply (Err fault) same (told, left) = (told, stays_from a b c same left)
   as_from entries a b c reply (Ok labels) same (inl judged) =
       inl (record {
         verdicts = judged.verdicts;
         judged = judged.judged;
         few = judged.few;
+        durable = judged.durable;
+        lasts = judged.lasts;
         told = judged.told;
         raised = raises_from _ _ a b c same judged.raised;
       })
@@ -59,18 +61,18 @@ module _ (settings : StoreSettings) (tenant : List ℕ) (now : ℕ) where
         left = stays_from a b c same refused.left;
       })
 
-  stream_from : (s : StreamEntries) (a b c : Told) (reply : Data) → Stays a b → PushesStream settings tenant now s a c reply → PushesStream settings tenant now s b c reply
+  stream_from : (s : StreamEntries) (a b c : Told) (reply : Data) → Stays a b → PushesStream logs settings tenant now s a c reply → PushesStream logs settings tenant now s b c reply
   stream_from s a b c reply same pushed = as_from s.entries a b c reply (labels_of (limits_of (rules_for settings tenant)) s.labels) same pushed
 
-  pub streams_from : (ss : List StreamEntries) (replies : List Data) (a b c : Told) → Stays a b → PushesStreams settings tenant now ss replies a c → PushesStreams settings tenant now ss replies b c
+  pub streams_from : (ss : List StreamEntries) (replies : List Data) (a b c : Told) → Stays a b → PushesStreams logs settings tenant now ss replies a c → PushesStreams logs settings tenant now ss replies b c
   streams_from [] [] a b c same pushed = stays_from a b c same pushed
   streams_from [] (r ∷ rs) a b c same pushed = absurd pushed
   streams_from (s ∷ ss) [] a b c same pushed = absurd pushed
   streams_from (s ∷ ss) (r ∷ rs) a b c same (mid, this, others) = (mid, stream_from s a b mid r same this, others)
 
   -- one more stream
-  pub streams_more : (ss : List StreamEntries) (replies : List Data) (s : StreamEntries) (reply : Data) (a b c : Told) → PushesStreams settings tenant now ss replies a b
-      → PushesStream settings tenant now s b c reply → PushesStreams settings tenant now (ss ++ s ∷ []) (replies ++ reply ∷ []) a c
+  pub streams_more : (ss : List StreamEntries) (replies : List Data) (s : StreamEntries) (reply : Data) (a b c : Told) → PushesStreams logs settings tenant now ss replies a b
+      → PushesStream logs settings tenant now s b c reply → PushesStreams logs settings tenant now (ss ++ s ∷ []) (replies ++ reply ∷ []) a c
   streams_more [] [] s reply a b c same this = (c, stream_from s b a c reply (λ i. sym (same i)) this, λ i. refl)
   streams_more [] (r ∷ rs) s reply a b c before this = absurd before
   streams_more (x ∷ ss) [] s reply a b c before this = absurd before

@@ -1,3 +1,4 @@
+pub mod BeganLaws
 pub mod CountLaws
 pub mod HeldLaws
 pub mod LedgerLaws

@@ -1,6 +1,6 @@
 -- What the bytes of a settings file come to.
-use Rattle.std.proofs.Common.{◌≡◌, ℕ, Bool, List, None, Some, Ok, Err, ap, sym, subst, ◌∙◌}
-use Rattle.std.specs.Prelude.{if◌then◌else◌, Option, Result, IfSome, IfErr, string_bytes}
+use Rattle.std.proofs.Common.{◌≡◌, ◌<◌, ◌≤◌, ℕ, Bool, List, [], ◌∷◌, None, Some, Ok, Err, ap, arith, false, inl, inr, length, refl, sym, subst, true, ◌∙◌}
+use Rattle.std.specs.Prelude.{◌⊎◌, if◌then◌else◌, IsTrue, Option, Result, IfSome, IfErr, string_bytes}
 use Rattle.std.specs.Result.{IsErrAnd}
 use Rattle.std.specs.Str.{is_utf8, IsUtf8}
 use Rattle.std.proofs.lemmas.Bool.{false_from_ne_true}
@@ -11,8 +11,11 @@ use Rattle.ing_limits.specs.declared.fault.SettingsFault.{SettingsFault}
 use Rattle.ing_limits.specs.declared.fault.SettingsFault.TheVariants.{NoMemory, NotToml, UnknownSetting, BadSetting}
 use Rattle.ing_session.specs.Manners.{Manner}
 use Rattle.ing_session.specs.declared.ending.Ending.{Ending}
-use Rattle.ing_session.specs.Endings.{ending_of_settings, refusal_of}
-use Rattle.ing_program.specs.Starting.{GiveSettings, NamesFile, is_alone, manner_in, manner_of, started_by}
+use Rattle.ing_durable.specs.declared.recover_fault.RecoverFault.{RecoverFault}
+use Rattle.ing_durable.specs.declared.recover_fault.RecoverFault.TheVariants as recover
+use Rattle.ing_relist.specs.declared.fault.RelistFault.TheVariants as relist
+use Rattle.ing_session.specs.Endings.{IsNotOpened, IsNotRecovered, ending_of_recover, ending_of_settings, is_of_run, refusal_of}
+use Rattle.ing_program.specs.Starting.{BeginSettings, GiveSettings, InManner, IsOverFolder, NamesFile, is_alone, manner_in, manner_of, started_by}
 
 -- bytes that are no UTF-8 are no TOML
 pub started_unread : (file : List ℕ) → (IsUtf8 file → ⊥) → started_by file ≡ Err not_toml
@@ -51,11 +54,58 @@ at_zero P a b first last p = subst (λ x. P x 0) first (subst (λ x. P a x) last
 
 -- ---- what is said by the bytes of a file
 
--- it is said by the words that name the file
-pub give : (words : List (List ℕ)) (file bytes : List ℕ) (P : StoreSettings → Type 0) → NamesFile words file → bytes ≡ file → ((x : StoreSettings) × (started_by bytes ≡ Ok x) × P x) → GiveSettings words P
-give words file bytes P named same (x, is, p) = (file, named, x, subst (λ b. started_by b ≡ Ok x) same is, p)
+module _ (words : List (List ℕ)) (file bytes : List ℕ) (named : NamesFile words file) (same : bytes ≡ file) where
+  in_manner : (settings : StoreSettings) (P : Manner → ℕ → Type 0) → length words ≤ 1 → P (manner_of settings) 0 → InManner words settings P
+  in_manner settings P few p = by_words words few where
+    by_words : (ws : List (List ℕ)) → length ws ≤ 1 → InManner ws settings P
+    by_words [] few = p
+    by_words (path ∷ []) few = p
+    by_words (path ∷ folder ∷ more) few = absurd (omega (arith, few))
 
-pub give_known : (words : List (List ℕ)) (file bytes : List ℕ) (P : List ℕ → StoreSettings → Type 0) → NamesFile words file → bytes ≡ file → (known : Option (List ℕ))
-    → IfSome known (λ input. (x : StoreSettings) × (started_by bytes ≡ Ok x) × P input x) → IfSome known (λ input. GiveSettings words (P input))
-give_known words file bytes P named same None said = tt
-give_known words file bytes P named same (Some input) said = give words file bytes (P input) named same said
+  over_manner : (settings : StoreSettings) (P : Manner → ℕ → Type 0) → 1 < length words → IsOverFolder settings P → InManner words settings P
+  over_manner settings P some p = by_words words some where
+    by_words : (ws : List (List ℕ)) → 1 < length ws → InManner ws settings P
+    by_words [] some = absurd (omega (arith, some))
+    by_words (path ∷ []) some = absurd (omega (arith, some))
+    by_words (path ∷ folder ∷ more) some = p
+
+  -- it is said by the words that name the file
+  pub give_memory : (P : Manner → StoreSettings → ℕ → Type 0) → length words ≤ 1
+      → ((x : StoreSettings) × (started_by bytes ≡ Ok x) × P (manner_of x) x 0) → GiveSettings words P
+  give_memory P few (x, is, p) = (file, named, x, subst (λ b. started_by b ≡ Ok x) same is, in_manner x (λ m failed. P m x failed) few p)
+
+  pub give_over : (P : Manner → StoreSettings → ℕ → Type 0) → 1 < length words
+      → ((x : StoreSettings) × (started_by bytes ≡ Ok x) × IsOverFolder x (λ m failed. P m x failed)) → GiveSettings words P
+  give_over P some (x, is, p) = (file, named, x, subst (λ b. started_by b ≡ Ok x) same is, over_manner x (λ m failed. P m x failed) some p)
+
+  pub give_begun : ((x : StoreSettings) × (started_by bytes ≡ Ok x)) → BeginSettings words
+  give_begun (x, is) = (file, named, x, subst (λ b. started_by b ≡ Ok x) same is)
+
+  -- where the input is known
+  pub known_memory : (P : List ℕ → Manner → StoreSettings → ℕ → Type 0) → length words ≤ 1 → (known : Option (List ℕ))
+      → IfSome known (λ input. (x : StoreSettings) × (started_by bytes ≡ Ok x) × P input (manner_of x) x 0) → IfSome known (λ input. GiveSettings words (P input))
+  known_memory P few None said = tt
+  known_memory P few (Some input) said = give_memory (P input) few said
+
+  pub known_over : (P : List ℕ → Manner → StoreSettings → ℕ → Type 0) → 1 < length words → (known : Option (List ℕ))
+      → IfSome known (λ input. (x : StoreSettings) × (started_by bytes ≡ Ok x) × IsOverFolder x (λ m failed. P input m x failed)) → IfSome known (λ input. GiveSettings words (P input))
+  known_over P some None said = tt
+  known_over P some (Some input) said = give_over (P input) some said
+
+-- ---- how a run ends
+
+-- one that has begun does not end as one that was not opened
+pub of_run_opened : (e : Ending) → IsTrue (is_of_run e) → IsNotOpened e → ⊥
+of_run_opened e run (fault, is) = let wrong : false ≡ true = subst (λ x. is_of_run x ≡ true) is run in absurd cc
+
+-- how a recovery that is refused ends
+pub recover_ending : (fault : RecoverFault) → IsTrue (is_of_run (ending_of_recover fault)) ⊎ IsNotOpened (ending_of_recover fault) ⊎ IsNotRecovered (ending_of_recover fault)
+recover_ending recover.NoMemory = inl refl
+recover_ending recover.LogFault = inr (inr (recover.LogFault, refl))
+recover_ending (recover.Damaged at) = inr (inr (recover.Damaged at, refl))
+recover_ending recover.OtherSettings = inr (inr (recover.OtherSettings, refl))
+recover_ending (recover.Relist relist.NoMemory) = inl refl
+recover_ending (recover.Relist (relist.Failed key)) = inr (inr (recover.Relist (relist.Failed key), refl))
+recover_ending (recover.Relist (relist.Damaged key)) = inr (inr (recover.Relist (relist.Damaged key), refl))
+recover_ending (recover.Relist (relist.Missing key)) = inr (inr (recover.Relist (relist.Missing key), refl))
+recover_ending (recover.Relist (relist.BadObject key)) = inr (inr (recover.Relist (relist.BadObject key), refl))

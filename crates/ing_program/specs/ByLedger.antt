@@ -1,7 +1,7 @@
 -- What each command does to shards that lie behind locks. What lies there nobody knows, so this says what is known outside: what a
 -- line says, the form of its reply, how many entries were told accepted, by the number of their shard, and how many chunks were told
 -- stored.
-use Rattle.std.specs.Prelude.{◌≡◌, ◌≢◌, ◌⊎◌, ℕ, ◌+◌, ◌≤◌, false, List, [], ◌∷◌, None, Some, Result, Ok, Err, length, slice_get, sum_by}
+use Rattle.std.specs.Prelude.{◌≡◌, ◌≢◌, ◌⊎◌, ℕ, ◌+◌, ◌≤◌, All, Bool, false, List, [], ◌∷◌, None, Some, Result, Ok, Err, length, slice_get, sum_by}
 use Rattle.std.specs.List.{AllPass}
 use Rattle.std.specs.List.Sorted.{IsSortedBy}
 use Rattle.serde_json.specs.Data.{Data}
@@ -22,6 +22,7 @@ use Rattle.ing_parts.specs.Answers.{StandApart, precedes}
 use Rattle.ing_parts.specs.Parts.{is_within}
 use Rattle.ing_query.specs.declared.fault.QueryFault.TheVariants as queries
 use Rattle.ing_shard.specs.Contents.{stream_of}
+use Rattle.ing_tally.specs.Books.{amount_of}
 use Rattle.ing_tally.specs.declared.counts.Counts.{Counts}
 use Rattle.ing_flush.specs.Tallies.{amount_at}
 use Rattle.ing_node.specs.declared.fault.NodeFault.{NodeFault}
@@ -36,6 +37,7 @@ use Rattle.ing_node.specs.Boards.{IsNoLess, no_counts}
 use Rattle.ing_node.specs.Pushes.{AreJudged, IsPushRefusal}
 use Rattle.ing_node.specs.Queries.{AreSelected}
 use Rattle.ing_node.specs.Diaries.{PusherState}
+use Rattle.ing_node.specs.Earlier.{EarlierState}
 use Rattle.ing_node.specs.Reports.{HasReason, close_refusal_of, IsUnsettled}
 use Rattle.ing_commands.specs.Commands as commands
 use Rattle.ing_commands.specs.Commands.{Command}
@@ -45,7 +47,22 @@ use Rattle.ing_session.specs.ByRows.{label_fault, limits_of}
 use Rattle.ing_session.specs.Causes.{HaveCause}
 use Rattle.ing_session.specs.Manners.{Manner}
 use Rattle.ing_session.specs.Queries.{Reads}
-use Rattle.ing_session.specs.Replies.{fault_data, judged_data, push_data, sweep_data, flush_data, gauges_data, board_data, query_data, report_data}
+use Rattle.ing_session.specs.Replies.{fault_data, judged_data, push_data, sweep_data, flush_data, gauges_data, board_data, checkpoint_data, query_data, report_data}
+
+-- What shards begin with: whether they may have logs, how many entries each has from an earlier run, and how many of all these are
+-- stored.
+pub record Began : Type 0 where
+  pub logs : Bool
+  pub recovered : ℕ → ℕ
+  pub stored : ℕ
+
+-- new ones, without logs
+abbrev pub began_new : Began
+began_new = record { logs = false; recovered = λ _. 0; stored = 0 }
+
+-- by the shares of what they begin with
+abbrev pub began_with : Bool → EarlierState → Began
+began_with logs earlier = record { logs = logs; recovered = λ i. amount_at i earlier.told; stored = amount_of earlier.stored }
 
 -- how many entries were told accepted, by the number of their shard
 abbrev pub Told : Type 0
@@ -71,12 +88,14 @@ abbrev pub place_of : StoreSettings → List ℕ → LabelMap → ℕ
 place_of settings tenant labels = shard_of tenant (canonical_of labels) settings.shards
 
 -- Its entries are judged: the verdicts are the model's, in whatever state the shard was, and of that shard so many more are told as
--- they accept.
-pub record JudgesStream (settings : StoreSettings) (tenant : List ℕ) (now : ℕ) (labels : LabelMap) (entries : List Entry) (old new : Told) (reply : Data) : Type 0 where
+-- they accept. Without logs they are not told durable.
+pub record JudgesStream (logs : Bool) (settings : StoreSettings) (tenant : List ℕ) (now : ℕ) (labels : LabelMap) (entries : List Entry) (old new : Told) (reply : Data) : Type 0 where
   pub verdicts : List Verdict
   pub judged : AreJudged (rules_for settings tenant) (stream_of tenant labels) now entries verdicts
   pub few : length entries ≤ (rules_for settings tenant).max_entries_per_push
-  pub told : reply ≡ judged_data (canonical_of labels) false verdicts
+  pub durable : Bool
+  pub lasts : logs ≡ false → durable ≡ false
+  pub told : reply ≡ judged_data (canonical_of labels) durable verdicts
   pub raised : Raises (place_of settings tenant labels) (length (accepted_among entries verdicts)) old new
 
 -- It is refused, and nothing changes.
@@ -88,27 +107,27 @@ pub record RefusesStream (settings : StoreSettings) (tenant : List ℕ) (labels 
   pub left : Stays old new
 
 -- by what its labels are found to be
-abbrev pub PushesAs : StoreSettings → List ℕ → ℕ → List Entry → Told → Told → Data → Result LabelMap LabelFault → Type 0
-PushesAs settings tenant now entries old new reply (Err fault) = (reply ≡ label_fault fault) × Stays old new
-PushesAs settings tenant now entries old new reply (Ok labels) =
-    JudgesStream settings tenant now labels entries old new reply ⊎ RefusesStream settings tenant labels entries old new reply
+abbrev pub PushesAs : Bool → StoreSettings → List ℕ → ℕ → List Entry → Told → Told → Data → Result LabelMap LabelFault → Type 0
+PushesAs logs settings tenant now entries old new reply (Err fault) = (reply ≡ label_fault fault) × Stays old new
+PushesAs logs settings tenant now entries old new reply (Ok labels) =
+    JudgesStream logs settings tenant now labels entries old new reply ⊎ RefusesStream settings tenant labels entries old new reply
 
-abbrev pub PushesStream : StoreSettings → List ℕ → ℕ → StreamEntries → Told → Told → Data → Type 0
-PushesStream settings tenant now s old new reply =
-    PushesAs settings tenant now s.entries old new reply (labels_of (limits_of (rules_for settings tenant)) s.labels)
+abbrev pub PushesStream : Bool → StoreSettings → List ℕ → ℕ → StreamEntries → Told → Told → Data → Type 0
+PushesStream logs settings tenant now s old new reply =
+    PushesAs logs settings tenant now s.entries old new reply (labels_of (limits_of (rules_for settings tenant)) s.labels)
 
 -- the streams of a push, one after another
-abbrev pub PushesStreams : StoreSettings → List ℕ → ℕ → List StreamEntries → List Data → Told → Told → Type 0
-PushesStreams settings tenant now [] [] old new = Stays old new
-PushesStreams settings tenant now (s ∷ ss) (reply ∷ replies) old new =
-    (mid : Told) × PushesStream settings tenant now s old mid reply × PushesStreams settings tenant now ss replies mid new
-PushesStreams settings tenant now [] (reply ∷ replies) old new = ⊥
-PushesStreams settings tenant now (s ∷ ss) [] old new = ⊥
+abbrev pub PushesStreams : Bool → StoreSettings → List ℕ → ℕ → List StreamEntries → List Data → Told → Told → Type 0
+PushesStreams logs settings tenant now [] [] old new = Stays old new
+PushesStreams logs settings tenant now (s ∷ ss) (reply ∷ replies) old new =
+    (mid : Told) × PushesStream logs settings tenant now s old mid reply × PushesStreams logs settings tenant now ss replies mid new
+PushesStreams logs settings tenant now [] (reply ∷ replies) old new = ⊥
+PushesStreams logs settings tenant now (s ∷ ss) [] old new = ⊥
 
 -- a push is obeyed
-pub record ObeysPush (settings : StoreSettings) (push : PushCommand) (old new : Told) (failed : ℕ) (reply : Data) : Type 0 where
+pub record ObeysPush (logs : Bool) (settings : StoreSettings) (push : PushCommand) (old new : Told) (failed : ℕ) (reply : Data) : Type 0 where
   pub replies : List Data
-  pub streams : PushesStreams settings push.tenant push.now push.streams replies old new
+  pub streams : PushesStreams logs settings push.tenant push.now push.streams replies old new
   pub told : reply ≡ push_data replies
   pub failures : failed ≡ 0
 
@@ -129,6 +148,13 @@ pub record IsGaugesReply (settings : StoreSettings) (reply : Data) : Type 0 wher
   pub shards : List Gauges
   pub all : length shards ≡ settings.shards
   pub told : reply ≡ gauges_data shards
+
+-- of each shard whether a checkpoint has replaced its log; without logs none has
+pub record IsCheckpointReply (logs : Bool) (settings : StoreSettings) (reply : Data) : Type 0 where
+  pub published : List Bool
+  pub all : length published ≡ settings.shards
+  pub none : logs ≡ false → All (λ p. p ≡ false) published
+  pub told : reply ≡ checkpoint_data published
 
 -- a reply of this form, or that a lock was not passed
 abbrev pub IsForm : (Data → Type 0) → Data → Type 0
@@ -246,17 +272,19 @@ pub record ObeysQuery (settings : StoreSettings) (query : QueryCommand) (old new
 -- ---- one command
 
 -- From old, a command may be obeyed, with this reply and so many failed queries, and leave new.
-abbrev pub ObeysCommand : StoreSettings → Held → Held → ℕ → Data → Command → Type 0
-ObeysCommand settings old new failed reply (commands.Push push) =
-    ObeysPush settings push old.told new.told failed reply × KeepsElse old new
-ObeysCommand settings old new failed reply (commands.Sweep sweep) =
+abbrev pub ObeysCommand : Bool → StoreSettings → Held → Held → ℕ → Data → Command → Type 0
+ObeysCommand logs settings old new failed reply (commands.Push push) =
+    ObeysPush logs settings push old.told new.told failed reply × KeepsElse old new
+ObeysCommand logs settings old new failed reply (commands.Sweep sweep) =
     ObeysBy IsSweepReply old.told new.told failed reply × KeepsElse old new
-ObeysCommand settings old new failed reply (commands.Flush flush) = ObeysFlush old new failed reply
-ObeysCommand settings old new failed reply (commands.Gauges gauges) =
+ObeysCommand logs settings old new failed reply (commands.Flush flush) = ObeysFlush old new failed reply
+ObeysCommand logs settings old new failed reply (commands.Gauges gauges) =
     ObeysBy (IsGaugesReply settings) old.told new.told failed reply × KeepsElse old new
-ObeysCommand settings old new failed reply commands.Board =
+ObeysCommand logs settings old new failed reply commands.Board =
     ObeysBoard settings old new failed reply
-ObeysCommand settings old new failed reply (commands.Query query) =
+ObeysCommand logs settings old new failed reply commands.Checkpoint =
+    ObeysBy (IsCheckpointReply logs settings) old.told new.told failed reply × KeepsElse old new
+ObeysCommand logs settings old new failed reply (commands.Query query) =
     ObeysQuery settings query old.told new.told failed reply × KeepsElse old new
 
 -- ---- the report
@@ -265,20 +293,21 @@ ObeysCommand settings old new failed reply (commands.Query query) =
 abbrev pub stored_in : List ShardReport → ℕ
 stored_in reports = sum_by (λ r. r.stored) reports
 
--- Of each shard as many entries are reported accepted as were told, and each of them is stored or kept. For each chunk that was told
--- stored an entry at least is reported so, and none where no chunk was.
-pub record IsReport (shards : ℕ) (held : Held) (reports : List ShardReport) : Type 0 where
+-- Of each shard as many entries are reported accepted as were told, and recovered as it began with, and each of them is stored or kept.
+-- Besides those that were stored at the beginning, for each chunk that was told stored an entry at least is reported so, and none where no
+-- chunk was.
+pub record IsReport (began : Began) (shards : ℕ) (held : Held) (reports : List ShardReport) : Type 0 where
   pub all : length reports ≡ shards
   pub accepted : (i : ℕ) (r : ShardReport) → slice_get reports i ≡ Some r → r.accepted ≡ held.told i
-  pub chunks : held.chunks ≤ stored_in reports
-  pub none : held.chunks ≡ 0 → stored_in reports ≡ 0
-  pub recovered : (i : ℕ) (r : ShardReport) → slice_get reports i ≡ Some r → r.recovered ≡ 0
+  pub chunks : began.stored + held.chunks ≤ stored_in reports
+  pub none : held.chunks ≡ 0 → stored_in reports ≡ began.stored
+  pub recovered : (i : ℕ) (r : ShardReport) → slice_get reports i ≡ Some r → r.recovered ≡ began.recovered i
   pub whole : (i : ℕ) (r : ShardReport) → slice_get reports i ≡ Some r → r.accepted + r.recovered ≡ r.stored + r.kept
 
 -- what is reported
-pub record ReportsAll (shards : ℕ) (held : Held) (report : Data) : Type 0 where
+pub record ReportsAll (began : Began) (shards : ℕ) (held : Held) (report : Data) : Type 0 where
   pub reports : List ShardReport
-  pub are : IsReport shards held reports
+  pub are : IsReport began shards held reports
   pub told : report ≡ report_data reports
 
 -- In place of a report a refusal stands where a share of a shard's books is missing, or a shard is misplaced; no diary is kept, so
@@ -289,15 +318,15 @@ pub record RefusesReport (report : Data) : Type 0 where
   pub counted : IsUnsettled why → ⊥
   pub told : report ≡ fault_data (close_refusal_of why) None
 
-abbrev pub Reports : ℕ → Held → Data → Type 0
-Reports shards held report = ReportsAll shards held report ⊎ RefusesReport report
+abbrev pub Reports : Began → ℕ → Held → Data → Type 0
+Reports began shards held report = ReportsAll began shards held report ⊎ RefusesReport report
 
--- ---- so many shards behind locks
+-- ---- so many shards behind locks, which begin with this
 
-abbrev pub by_ledger : ℕ → Manner
-by_ledger shards = record {
+abbrev pub by_ledger : Began → ℕ → Manner
+by_ledger began shards = record {
   Held = Held;
   nothing = nothing_held;
-  obeys = ObeysCommand;
-  reports = Reports shards;
+  obeys = ObeysCommand began.logs;
+  reports = Reports began shards;
 }

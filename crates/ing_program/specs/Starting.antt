@@ -1,10 +1,13 @@
 -- With which settings the program starts (own).
-use Rattle.std.specs.Prelude.{◌≡◌, ℕ, ◌==◌, ◌&&◌, Bool, true, false, List, [], ◌∷◌, if◌then◌else◌, Result, Ok, Err, ⊤}
+use Rattle.std.specs.Prelude.{◌≡◌, ◌⊎◌, ℕ, ◌==◌, ◌&&◌, Bool, true, false, List, [], ◌∷◌, if◌then◌else◌, Result, Ok, Err, ⊤}
 use Rattle.std.specs.Str.{is_utf8}
 use Rattle.ing_limits.specs.Settings.{StoreSettings, Refusal, not_toml, settings_of}
 use Rattle.ing_session.specs.ByRows.{by_rows}
+use Rattle.ing_session.specs.Endings.{IsNotRecovered}
 use Rattle.ing_session.specs.Manners.{Manner}
-use Rattle.ing_program.specs.ByLedger.{by_ledger}
+use Rattle.ing_session.specs.declared.ending.Ending.{Ending}
+use Rattle.ing_session.specs.declared.ending.Ending.TheVariants.{NoFolder, NoObjects}
+use Rattle.ing_program.specs.ByLedger.{Began, began_new, by_ledger}
 
 -- the settings with which the program starts by the bytes of its settings file: what is not UTF-8 is no TOML
 abbrev pub started_by : List ℕ → Result StoreSettings Refusal
@@ -17,18 +20,37 @@ is_alone settings = settings.shards == 1 && settings.flushers == 1
 -- A shard with one flusher is nobody else's, and all that it holds is known; others lie behind locks.
 abbrev pub manner_in : Bool → ℕ → Manner
 manner_in true shards = by_rows ⊤
-manner_in false shards = by_ledger shards
+manner_in false shards = by_ledger began_new shards
 
 abbrev pub manner_of : StoreSettings → Manner
 manner_of settings = manner_in (is_alone settings) settings.shards
 
--- these argument words name a settings file of these bytes: without a word an empty one, with one the file of that path,
+-- these argument words name a settings file of these bytes: without a word an empty one, else the file of the path that the first is,
 -- whose bytes no contract knows
 abbrev pub NamesFile : List (List ℕ) → List ℕ → Type 0
 NamesFile [] file = file ≡ []
 NamesFile (path ∷ []) file = ⊤
-NamesFile (path ∷ next ∷ more) file = ⊥
+NamesFile (path ∷ folder ∷ []) file = ⊤
+NamesFile (path ∷ folder ∷ next ∷ more) file = ⊥
 
--- these argument words name a settings file, and its bytes give settings of which this is said
-abbrev pub GiveSettings : List (List ℕ) → (StoreSettings → Type 0) → Type 0
-GiveSettings words P = (file : List ℕ) × NamesFile words file × (settings : StoreSettings) × (started_by file ≡ Ok settings) × P settings
+-- over a folder: what the shards begin with is what lies there, which no contract knows, and no more how often its store fails
+abbrev pub IsOverFolder : StoreSettings → (Manner → ℕ → Type 0) → Type 0
+IsOverFolder settings P = (began : Began) × (began.logs ≡ true) × (failed : ℕ) × P (by_ledger began settings.shards) failed
+
+-- the words have a folder, or it is as the settings say, over a store that does not fail
+abbrev pub InManner : List (List ℕ) → StoreSettings → (Manner → ℕ → Type 0) → Type 0
+InManner (path ∷ folder ∷ more) settings P = IsOverFolder settings P
+InManner words settings P = P (manner_of settings) 0
+
+-- these argument words name a settings file, and its bytes give settings with which this is said of a run
+abbrev pub GiveSettings : List (List ℕ) → (Manner → StoreSettings → ℕ → Type 0) → Type 0
+GiveSettings words P =
+    (file : List ℕ) × NamesFile words file × (settings : StoreSettings) × (started_by file ≡ Ok settings) × InManner words settings (λ m failed. P m settings failed)
+
+-- they begin so, whatever the run comes to
+abbrev pub BeginSettings : List (List ℕ) → Type 0
+BeginSettings words = (file : List ℕ) × NamesFile words file × (settings : StoreSettings) × (started_by file ≡ Ok settings)
+
+-- the folder was not opened, or a shard was not made again from its log
+abbrev pub IsOfFolder : Ending → Type 0
+IsOfFolder ending = (ending ≡ NoFolder) ⊎ (ending ≡ NoObjects) ⊎ IsNotRecovered ending

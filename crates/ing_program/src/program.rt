@@ -1,15 +1,18 @@
 //! From argument words and a settings file to a run.
-ghost use Rattle.std.specs.Prelude.{◌≡◌, ◌≢◌, ◌↔◌, ◌<◌, ◌⊎◌, List, ℕ, IfOk, IfErr, OnOk, OnErr, IsErrOf, IfSome, Ok, Err, None, map, length, vec_len, true, ⊤};
+ghost use Rattle.std.specs.Prelude.{◌≡◌, ◌≢◌, ◌↔◌, ◌<◌, ◌≤◌, ◌⊎◌, List, ℕ, IfOk, IfErr, OnOk, OnErr, IsErrOf, IfSome, Ok, Err, None, map, length, vec_len, true, ⊤};
 ghost use Rattle.std.specs.String.{string_bytes};
 ghost use Rattle.ing_limits.specs.Settings.{StoreSettings};
 ghost use Rattle.ing_session.specs.Endings.{IsNotOpened, ending_status, refusal_of};
 ghost use Rattle.ing_session.specs.Runs.{AnswersAll, AnswersWhatWasRead, AnswersFirstLines, AnswersFront};
-ghost use Rattle.ing_program.specs.Starting.{GiveSettings, NamesFile, is_alone, manner_of, started_by};
+ghost use Rattle.ing_program.specs.Starting.{BeginSettings, GiveSettings, IsOfFolder, NamesFile, is_alone, manner_of, started_by};
 
+use crate::folders::Folders;
+use crate::over::start_over;
 use crate::shards::run_shards;
 use ing_limits::Settings;
 use ing_session::{Ending, run};
-use ing_store::{Fuse, MemoryEnd, MemoryStore};
+use ing_store::{Fuse, MemoryEnd, MemoryStore, Receipt, StoreEnd};
+use ing_wal::LogDisk;
 use std::alloc::{AllocError, Global};
 use std::fs;
 use std::io::{ErrorKind, Read, Write};
@@ -17,58 +20,66 @@ use std::rt::Files;
 use std::sync::Wait;
 use std::thread::Threads;
 
-/// Reads the argument words, `[SETTINGS]`, and runs: with the settings of the TOML file at that path, or without a word
-/// with all defaults.
+/// Reads the argument words, `[SETTINGS [FOLDER]]`, and runs: with the settings of the TOML file at the first path, or without a word
+/// with all defaults; and over the logs and the store in the folder at the second, or without it over a store in memory, which ends with
+/// the run.
 ///
-/// `BadArguments` where there are more words, then `NoSettings` where the file cannot be read; the others as `start_on`
-/// says. `NoMemory` may stand in place of any. (Own.)
-pub fn start<F: Files + AllocGlobal + Threads + Wait + Sync, R: Read, W: Write>(
-    rt: &F,
-    words: &[String],
-    reader: &mut R,
-    writer: &mut W,
-) -> Result<(), Ending>
+/// `BadArguments` where there are more words, then `NoSettings` where the file cannot be read; the others as `start_on` and `start_over`
+/// say. `NoMemory` may stand in place of any. (Own.)
+pub fn start<
+    H: Files + AllocGlobal + Threads + Wait + Sync,
+    D: LogDisk + Drop + Send,
+    Q: Receipt + Send + Sync,
+    E: StoreEnd<Receipt = Q> + Drop + Send,
+    X: Folders<D, E>,
+    R: Read,
+    W: Write,
+>(rt: &H, folders: &X, words: &[String], reader: &mut R, writer: &mut W) -> Result<(), Ending>
     ensures output { OnOk result (IfSome (R.remaining reader.old) (λ input.
-        GiveSettings (map string_bytes words.now) (λ settings.
-        AnswersAll (manner_of settings) settings input 0 0 (W.contents writer.old) (W.contents writer.new)))) }
+        GiveSettings (map string_bytes words.now) (λ manner settings failed.
+        AnswersAll manner settings input 0 failed (W.contents writer.old) (W.contents writer.new)))) }
     ensures input_fault { IsErrOf result Ending.InputFault →
         IfSome (R.remaining reader.old) (λ input.
-        GiveSettings (map string_bytes words.now) (λ settings.
-        AnswersWhatWasRead (manner_of settings) settings input (R.remaining reader.new) 0 0
+        GiveSettings (map string_bytes words.now) (λ manner settings failed.
+        AnswersWhatWasRead manner settings input (R.remaining reader.new) 0 failed
         (W.contents writer.old) (W.contents writer.new))) }
     ensures no_memory { IsErrOf result Ending.NoMemory → (writer.new ≡ writer.old)
         ⊎ IfSome (R.remaining reader.old) (λ input.
-        GiveSettings (map string_bytes words.now) (λ settings.
-        AnswersFirstLines (manner_of settings) settings input 0 0 (W.contents writer.old) (W.contents writer.new))) }
+        GiveSettings (map string_bytes words.now) (λ manner settings failed.
+        AnswersFirstLines manner settings input 0 failed (W.contents writer.old) (W.contents writer.new))) }
     ensures output_fault { IsErrOf result Ending.OutputFault →
         IfSome (R.remaining reader.old) (λ input.
-        GiveSettings (map string_bytes words.now) (λ settings.
-        AnswersFront (manner_of settings) settings input 0 0 (W.contents writer.old) (W.contents writer.new))) }
-    ensures begun { IsErrOf result Ending.OutputFault →
-        GiveSettings (map string_bytes words.now) (λ settings. ⊤) }
+        GiveSettings (map string_bytes words.now) (λ manner settings failed.
+        AnswersFront manner settings input 0 failed (W.contents writer.old) (W.contents writer.new))) }
+    ensures begun { IsErrOf result Ending.OutputFault → BeginSettings (map string_bytes words.now) }
     ensures refused { IfErr result (λ e. IfSome (refusal_of e) (λ refusal.
         (file : List ℕ) × NamesFile (map string_bytes words.now) file × (started_by file ≡ Err refusal))) }
-    ensures words { IsErrOf result Ending.BadArguments ↔ (1 < length words.now) }
-    ensures named { IsErrOf result Ending.NoSettings → length words.now ≡ 1 }
+    ensures words { IsErrOf result Ending.BadArguments ↔ (2 < length words.now) }
+    ensures named { IsErrOf result Ending.NoSettings → 0 < length words.now }
     ensures silent { IfErr result (λ e. ending_status e ≡ 1 → writer.new ≡ writer.old) }
     ensures not_opened { IfErr result (λ e. IsNotOpened e → writer.new ≡ writer.old) }
+    ensures not_recovered { IfErr result (λ e. IsOfFolder e → (writer.new ≡ writer.old) × (length words.now ≡ 2)) }
 {
     let file = settings_file(rt, words)?;
-    start_on(rt, &file, reader, writer)
+    if words.len() < 2 {
+        return start_on(rt, &file, reader, writer);
+    }
+    start_over(rt, folders, words[1].as_str(), &file, reader, writer)
 }
 
 /// The bytes of the settings file that the argument words name; none without a word.
 fn settings_file<F: Files + AllocGlobal>(rt: &F, words: &[String]) -> Result<Vec<u8>, Ending>
     ensures file { IfOk result (λ file. NamesFile (map string_bytes words.now) file.items) }
-    ensures words { IsErrOf result Ending.BadArguments ↔ (1 < length words.now) }
-    ensures named { IsErrOf result Ending.NoSettings → length words.now ≡ 1 }
+    ensures words { IsErrOf result Ending.BadArguments ↔ (2 < length words.now) }
+    ensures few { OnOk result (length words.now ≤ 2) }
+    ensures named { IsErrOf result Ending.NoSettings → 0 < length words.now }
     ensures refused { IfErr result (λ e. refusal_of e ≡ None) }
     ensures ending { IfErr result (λ e. (e ≡ Ending.NoMemory) ⊎ (e ≡ Ending.NoSettings)
         ⊎ (e ≡ Ending.BadArguments)) }
 {
     match words {
         [] => Ok(Vec::new(rt.alloc())),
-        [path] => read_file(rt, path.as_str()),
+        [path] | [path, _] => read_file(rt, path.as_str()),
         _ => Err(Ending::BadArguments),
     }
 }
@@ -115,6 +126,7 @@ pub fn start_on<T: AllocGlobal + Threads + Wait + Sync, R: Read, W: Write>(
     ensures begun { IsErrOf result Ending.OutputFault →
         (settings : StoreSettings) × (started_by file.now ≡ Ok settings) }
     ensures file_read { IfErr result (λ e. (e ≢ Ending.BadArguments) × (e ≢ Ending.NoSettings)) }
+    ensures no_folder { IfErr result (λ e. IsOfFolder e → ⊥) }
     ensures silent { IfErr result (λ e. ending_status e ≡ 1 → writer.new ≡ writer.old) }
     ensures not_opened { IfErr result (λ e. IsNotOpened e → writer.new ≡ writer.old) }
 {
@@ -152,7 +164,7 @@ fn ends_of<'a, T: AllocGlobal + Wait>(
 }
 
 /// The settings that the bytes of a file give.
-fn settings_of_file(alloc: Global, file: &[u8]) -> Result<Settings, Ending>
+pub(crate) fn settings_of_file(alloc: Global, file: &[u8]) -> Result<Settings, Ending>
     ensures settings { IfOk result (λ settings. started_by file.now ≡ Ok settings) }
     ensures refused { IfErr result (λ e. IfSome (refusal_of e) (λ refusal.
         started_by file.now ≡ Err refusal)) }

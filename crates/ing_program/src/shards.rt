@@ -1,11 +1,14 @@
 //! A run over shards behind locks.
-ghost use Rattle.std.specs.Prelude.{◌≡◌, ◌⊎◌, ◌<◌, IfErr, IfOk, IfSome, IsErrOf, IsTrue, OnOk, vec_len};
+ghost use Rattle.std.specs.Prelude.{◌≡◌, ◌⊎◌, ◌<◌, IfErr, IfOk, IfSome, IsErrOf, IsTrue, OnOk, false, reverse, true, vec_len};
+ghost use Rattle.std.specs.List.{AllByRecursion};
+ghost use Rattle.ing_node.specs.Begun.{HasTornLog};
+ghost use Rattle.ing_node.specs.Earlier.{earlier_of};
 ghost use Rattle.ing_node.specs.Names.{AreNamed};
-ghost use Rattle.ing_session.specs.Endings.{IsNotOpened, is_of_run};
+ghost use Rattle.ing_session.specs.Endings.{IsNotOpened, IsNotRecovered, is_of_run};
 ghost use Rattle.ing_session.specs.Causes.{GoesOn};
 ghost use Rattle.ing_session.specs.FlushCalls.{ObeysFlush};
 ghost use Rattle.ing_session.specs.Runs.{AnswersAll, AnswersWhatWasRead, AnswersFirstLines, AnswersFront};
-ghost use Rattle.ing_program.specs.ByLedger.{by_ledger};
+ghost use Rattle.ing_program.specs.ByLedger.{Began, began_new, began_with, by_ledger, nothing_held};
 ghost use Rattle.ing_program.specs.Counted.{IsHeld, counted_by};
 
 use crate::locked::Locked;
@@ -14,7 +17,8 @@ use ing_limits::Settings;
 use ing_node::{NodeName, Shards};
 use ing_session::{Ending, serve_all};
 use ing_store::{Receipt, StoreEnd};
-use std::alloc::Global;
+use ing_wal::{LogDisk, NoLog};
+use std::alloc::{AllocError, Global};
 use std::io::{Read, Write};
 use std::marker::Brand;
 use std::sync::Wait;
@@ -41,26 +45,95 @@ pub fn run_shards<
 ) -> Result<(), Ending>
     requires some { 0 < vec_len ends }
     ensures output { OnOk result (IfSome (I.remaining reader.old) (λ input.
-        AnswersAll (by_ledger settings.shards) settings input (S.failure_count end.old) (S.failure_count end.new)
+        AnswersAll (by_ledger began_new settings.shards) settings input (S.failure_count end.old) (S.failure_count end.new)
         (O.contents writer.old) (O.contents writer.new))) }
     ensures input_fault { IsErrOf result Ending.InputFault → IfSome (I.remaining reader.old) (λ input.
-        AnswersWhatWasRead (by_ledger settings.shards) settings input (I.remaining reader.new)
+        AnswersWhatWasRead (by_ledger began_new settings.shards) settings input (I.remaining reader.new)
         (S.failure_count end.old) (S.failure_count end.new)
         (O.contents writer.old) (O.contents writer.new)) }
     ensures no_memory { IsErrOf result Ending.NoMemory → (writer.new ≡ writer.old)
         ⊎ IfSome (I.remaining reader.old) (λ input.
-        AnswersFirstLines (by_ledger settings.shards) settings input (S.failure_count end.old) (S.failure_count end.new)
+        AnswersFirstLines (by_ledger began_new settings.shards) settings input (S.failure_count end.old) (S.failure_count end.new)
         (O.contents writer.old) (O.contents writer.new)) }
     ensures output_fault { IsErrOf result Ending.OutputFault →
         IfSome (I.remaining reader.old) (λ input.
-        AnswersFront (by_ledger settings.shards) settings input (S.failure_count end.old) (S.failure_count end.new)
+        AnswersFront (by_ledger began_new settings.shards) settings input (S.failure_count end.old) (S.failure_count end.new)
         (O.contents writer.old) (O.contents writer.new)) }
     ensures end { GoesOn S.never_fails S.failure_count end.old end.new }
     ensures not_opened { IfErr result (λ e. IsNotOpened e → writer.new ≡ writer.old) }
     ensures ending { IfErr result (λ e. IsTrue (is_of_run e) ⊎ IsNotOpened e) }
 {
-    let shards: Shards<R> = Shards::fresh(alloc, settings)?;
-    run_locked::<Brand, I, O, R, F, W, S>(rt, alloc, reader, writer, end, ends, shards)
+    let logs = no_logs(alloc, settings.shards())?;
+    match Shards::fresh(alloc, settings, logs) {
+        Ok(shards) => run_locked::<Brand, I, O, NoLog, R, F, W, S>(
+            rt, alloc, reader, writer, end, ends, shards, false,
+        ),
+        Err(_) => Err(Ending::NoMemory),
+    }
+}
+
+/// So many logs that are none.
+fn no_logs(alloc: Global, count: u32) -> Result<Vec<NoLog>, AllocError>
+    ensures { IfOk result (λ logs. vec_len logs ≡ count) }
+{
+    let mut logs = Vec::with_capacity(alloc, count as usize)?;
+    for _ in 0..count {
+        logs.push(NoLog::new())?;
+    }
+    Ok(logs)
+}
+
+/// Runs over the shards that these logs, one of each shard, are of, each behind a lock: as `run_shards`, but that each shard begins with
+/// what its log says of it, as `Shards::recover`, and what it accepts and stores is written to its log. The stored chunks are looked for by
+/// `finder`. Besides as `run_shards`; `NotRecovered` where a shard is not made again. (Own.)
+pub fn run_recovered<
+    I: Read,
+    O: Write,
+    D: LogDisk + Drop + Send,
+    R: Receipt + Send + Sync,
+    F: StoreEnd<Receipt = R> + Drop + Send,
+    W: Threads + Wait + Sync,
+    S: StoreEnd<Receipt = R>,
+    P: StoreEnd<Receipt = R>,
+>(
+    rt: &W,
+    alloc: Global,
+    reader: &mut I,
+    writer: &mut O,
+    end: &mut S,
+    ends: Vec<F>,
+    settings: Settings,
+    logs: Vec<D>,
+    finder: &mut P,
+) -> Result<(), Ending>
+    requires some { 0 < vec_len ends }
+    requires logs { vec_len logs ≡ settings.shards }
+    ensures output { OnOk result (IfSome (I.remaining reader.old) (λ input. (began : Began) × (began.logs ≡ true)
+        × AnswersAll (by_ledger began settings.shards) settings input (S.failure_count end.old) (S.failure_count end.new)
+        (O.contents writer.old) (O.contents writer.new))) }
+    ensures input_fault { IsErrOf result Ending.InputFault → IfSome (I.remaining reader.old) (λ input.
+        (began : Began) × (began.logs ≡ true)
+        × AnswersWhatWasRead (by_ledger began settings.shards) settings input (I.remaining reader.new)
+        (S.failure_count end.old) (S.failure_count end.new)
+        (O.contents writer.old) (O.contents writer.new)) }
+    ensures no_memory { IsErrOf result Ending.NoMemory → (writer.new ≡ writer.old)
+        ⊎ IfSome (I.remaining reader.old) (λ input. (began : Began) × (began.logs ≡ true)
+        × AnswersFirstLines (by_ledger began settings.shards) settings input (S.failure_count end.old) (S.failure_count end.new)
+        (O.contents writer.old) (O.contents writer.new)) }
+    ensures output_fault { IsErrOf result Ending.OutputFault →
+        IfSome (I.remaining reader.old) (λ input. (began : Began) × (began.logs ≡ true)
+        × AnswersFront (by_ledger began settings.shards) settings input (S.failure_count end.old) (S.failure_count end.new)
+        (O.contents writer.old) (O.contents writer.new)) }
+    ensures end { GoesOn S.never_fails S.failure_count end.old end.new }
+    ensures not_opened { IfErr result (λ e. IsNotOpened e ⊎ IsNotRecovered e → writer.new ≡ writer.old) }
+    ensures ending { IfErr result (λ e. IsTrue (is_of_run e) ⊎ IsNotOpened e ⊎ IsNotRecovered e) }
+{
+    match Shards::recover(alloc, settings, logs, finder) {
+        Ok(shards) => run_locked::<Brand, I, O, D, R, F, W, S>(
+            rt, alloc, reader, writer, end, ends, shards, true,
+        ),
+        Err((fault, _)) => Err(Ending::from(fault)),
+    }
 }
 
 /// Runs over an ingester of these shards, which N has to name: its whole life. As `run_shards`. (Own.)
@@ -68,6 +141,7 @@ pub fn run_locked<
     N: NodeName + Send + Sync,
     I: Read,
     O: Write,
+    D: LogDisk + Drop + Send,
     R: Receipt + Send + Sync,
     F: StoreEnd<Receipt = R> + Drop + Send,
     W: Threads + Wait + Sync,
@@ -79,33 +153,75 @@ pub fn run_locked<
     writer: &mut O,
     end: &mut S,
     ends: Vec<F>,
-    shards: Shards<R>,
+    shards: Shards<D, R>,
+    has_logs: bool,
 ) -> Result<(), Ending>
     requires some { 0 < vec_len ends }
     requires settings { shards.settings ≡ N.settings }
-    requires named { AreNamed N.books shards.shards.items }
+    requires named { AreNamed N.books (reverse shards.last_first.items) }
+    requires earlier { N.earlier ≡ earlier_of (reverse shards.last_first.items) }
+    requires logs { has_logs ≡ N.has_logs }
+    requires torn { N.has_logs ≡ false → AllByRecursion HasTornLog (reverse shards.last_first.items) }
     ensures output { OnOk result (IfSome (I.remaining reader.old) (λ input.
-        AnswersAll (by_ledger N.settings.shards) N.settings input (S.failure_count end.old) (S.failure_count end.new)
+        AnswersAll (by_ledger (began_with N.has_logs N.earlier) N.settings.shards) N.settings input (S.failure_count end.old) (S.failure_count end.new)
         (O.contents writer.old) (O.contents writer.new))) }
     ensures input_fault { IsErrOf result Ending.InputFault → IfSome (I.remaining reader.old) (λ input.
-        AnswersWhatWasRead (by_ledger N.settings.shards) N.settings input (I.remaining reader.new)
+        AnswersWhatWasRead (by_ledger (began_with N.has_logs N.earlier) N.settings.shards) N.settings input (I.remaining reader.new)
         (S.failure_count end.old) (S.failure_count end.new)
         (O.contents writer.old) (O.contents writer.new)) }
     ensures no_memory { IsErrOf result Ending.NoMemory → (writer.new ≡ writer.old)
         ⊎ IfSome (I.remaining reader.old) (λ input.
-        AnswersFirstLines (by_ledger N.settings.shards) N.settings input (S.failure_count end.old) (S.failure_count end.new)
+        AnswersFirstLines (by_ledger (began_with N.has_logs N.earlier) N.settings.shards) N.settings input (S.failure_count end.old) (S.failure_count end.new)
         (O.contents writer.old) (O.contents writer.new)) }
     ensures output_fault { IsErrOf result Ending.OutputFault →
         IfSome (I.remaining reader.old) (λ input.
-        AnswersFront (by_ledger N.settings.shards) N.settings input (S.failure_count end.old) (S.failure_count end.new)
+        AnswersFront (by_ledger (began_with N.has_logs N.earlier) N.settings.shards) N.settings input (S.failure_count end.old) (S.failure_count end.new)
         (O.contents writer.old) (O.contents writer.new)) }
     ensures end { GoesOn S.never_fails S.failure_count end.old end.new }
     ensures not_opened { IfErr result (λ e. IsNotOpened e → writer.new ≡ writer.old) }
     ensures ending { IfErr result (λ e. IsTrue (is_of_run e) ⊎ IsNotOpened e) }
 {
-    let locked: Locked<'_, N, R, F, W> = Locked::open(rt, alloc, ends, shards)?;
-    let flush = |locked: &mut Locked<'_, N, R, F, W>, end: &mut S, said: Flush|
-        ensures { ObeysFlush (by_ledger N.settings.shards)
+    let locked: Locked<'_, N, D, R, F, W> = Locked::open(rt, alloc, ends, shards, has_logs)?;
+    serve_locked(alloc, reader, writer, end, locked)
+}
+
+/// Runs over an ingester to which nothing was said yet. As `serve_all`.
+fn serve_locked<
+    N: NodeName + Send + Sync,
+    I: Read,
+    O: Write,
+    D: LogDisk + Drop + Send,
+    R: Receipt + Send + Sync,
+    F: StoreEnd<Receipt = R> + Drop + Send,
+    W: Threads + Wait + Sync,
+    S: StoreEnd<Receipt = R>,
+>(
+    alloc: Global,
+    reader: &mut I,
+    writer: &mut O,
+    end: &mut S,
+    locked: Locked<'_, N, D, R, F, W>,
+) -> Result<(), Ending>
+    requires { IsHeld locked.pusher (counted_by locked.workers.items) locked.board nothing_held }
+    ensures output { OnOk result (IfSome (I.remaining reader.old) (λ input.
+        AnswersAll (by_ledger (began_with N.has_logs N.earlier) N.settings.shards) N.settings input (S.failure_count end.old) (S.failure_count end.new)
+        (O.contents writer.old) (O.contents writer.new))) }
+    ensures input_fault { IsErrOf result Ending.InputFault → IfSome (I.remaining reader.old) (λ input.
+        AnswersWhatWasRead (by_ledger (began_with N.has_logs N.earlier) N.settings.shards) N.settings input (I.remaining reader.new)
+        (S.failure_count end.old) (S.failure_count end.new)
+        (O.contents writer.old) (O.contents writer.new)) }
+    ensures no_memory { IsErrOf result Ending.NoMemory → IfSome (I.remaining reader.old) (λ input.
+        AnswersFirstLines (by_ledger (began_with N.has_logs N.earlier) N.settings.shards) N.settings input (S.failure_count end.old) (S.failure_count end.new)
+        (O.contents writer.old) (O.contents writer.new)) }
+    ensures output_fault { IsErrOf result Ending.OutputFault →
+        IfSome (I.remaining reader.old) (λ input.
+        AnswersFront (by_ledger (began_with N.has_logs N.earlier) N.settings.shards) N.settings input (S.failure_count end.old) (S.failure_count end.new)
+        (O.contents writer.old) (O.contents writer.new)) }
+    ensures end { GoesOn S.never_fails S.failure_count end.old end.new }
+    ensures ending { IfErr result (λ e. IsTrue (is_of_run e)) }
+{
+    let flush = |locked: &mut Locked<'_, N, D, R, F, W>, end: &mut S, said: Flush|
+        ensures { ObeysFlush (by_ledger (began_with N.has_logs N.earlier) N.settings.shards)
             (λ locked held. IsHeld locked.pusher (counted_by locked.workers.items) locked.board held) (λ _. N.settings)
             S.failure_count S.never_fails said locked.entry.now locked.exit.now
             end.entry.now end.exit.now result }

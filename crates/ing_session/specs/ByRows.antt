@@ -23,7 +23,7 @@ use Rattle.ing_shard.specs.Sealing.{ops_from}
 use Rattle.ing_node.specs.declared.report.ShardReport.{ShardReport}
 use Rattle.ing_refusals.specs.declared.refusal.Refusal.TheVariants.{TooManyEntries, CounterFull}
 use Rattle.ing_refusals.specs.declared.refusal.Refusal.TheVariants as refusals
-use Rattle.ing_commands.specs.Commands.{Command, Push, Sweep, Flush, Gauges, Board, Query}
+use Rattle.ing_commands.specs.Commands.{Command, Push, Sweep, Flush, Gauges, Board, Checkpoint, Query}
 use Rattle.ing_session.specs.Flushing.{Outcome, EndSo, failed_among, stored_among}
 use Rattle.ing_session.specs.Held.{Held, nothing_held, shard_number}
 use Rattle.ing_session.specs.Manners.{Manner}
@@ -33,7 +33,7 @@ use Rattle.ing_commands.specs.PushCommands.{PushCommand, StreamEntries}
 use Rattle.ing_commands.specs.QueryCommands.{QueryCommand}
 use Rattle.ing_commands.specs.SweepCommands.{SweepCommand}
 use Rattle.ing_session.specs.Queries.{Answer, Refused, Given, Failed, Damaged, QueryMayBe, failed_of}
-use Rattle.ing_session.specs.Replies.{fault_data, judged_data, push_data, sweep_data, flush_data, gauges_data, board_data, query_data, report_data}
+use Rattle.ing_session.specs.Replies.{fault_data, judged_data, push_data, sweep_data, flush_data, gauges_data, board_data, checkpoint_data, query_data, report_data}
 
 abbrev pub limits_of : Rules → LabelLimits
 limits_of rules = record { names = rules.max_label_names; name_bytes = rules.max_label_name_length; value_bytes = rules.max_label_value_length }
@@ -183,6 +183,18 @@ pub record ObeysBoard (old new : Held) (failed : ℕ) (reply : Data) : Type 0 wh
   pub left : new ≡ old
   pub failures : failed ≡ 0
 
+-- ---- a checkpoint
+
+-- a shard without a log has none that a checkpoint replaces
+abbrev pub checkpoint_reply : Data
+checkpoint_reply = checkpoint_data (false ∷ [])
+
+-- it is answered, and changes nothing
+pub record ObeysCheckpoint (old new : Held) (failed : ℕ) (reply : Data) : Type 0 where
+  pub told : reply ≡ checkpoint_reply
+  pub left : new ≡ old
+  pub failures : failed ≡ 0
+
 -- ---- a query
 
 -- the reply to a query that came to this, of the one shard
@@ -209,6 +221,7 @@ pub data ObeysCommand (honest : Type 0) (settings : StoreSettings) (old new : He
   Flushes : {flush : FlushCommand} → ObeysFlush settings flush old new failed reply → ObeysCommand honest settings old new failed reply (Flush flush)
   AsksGauges : {gauges : GaugesCommand} → ObeysGauges gauges old new failed reply → ObeysCommand honest settings old new failed reply (Gauges gauges)
   AsksBoard : ObeysBoard old new failed reply → ObeysCommand honest settings old new failed reply Board
+  Checkpoints : ObeysCheckpoint old new failed reply → ObeysCommand honest settings old new failed reply Checkpoint
   Queries : {query : QueryCommand} → ObeysQuery honest query old new failed reply → ObeysCommand honest settings old new failed reply (Query query)
 
 -- ---- the report

@@ -9,10 +9,14 @@ use Rattle.ing_limits.specs.declared.fault.SettingsFault.TheVariants as settings
 use Rattle.ing_node.specs.Faults as node
 use Rattle.ing_node.specs.declared.fault.NodeFault.{NodeFault}
 use Rattle.ing_node.specs.declared.fault.NodeFault.TheVariants as node_faults
+use Rattle.ing_durable.specs.RecoverFaults.{recover_refusal_of}
+use Rattle.ing_durable.specs.declared.recover_fault.RecoverFault.{RecoverFault}
+use Rattle.ing_durable.specs.declared.recover_fault.RecoverFault.TheVariants as recover_faults
+use Rattle.ing_relist.specs.declared.fault.RelistFault.TheVariants as relist_faults
 use Rattle.ing_session.specs.declared.lines.LineError.{LineError}
 use Rattle.ing_session.specs.declared.lines.LineError.TheVariants as lines
 use Rattle.ing_session.specs.declared.ending.Ending.{Ending}
-use Rattle.ing_session.specs.declared.ending.Ending.TheVariants.{NoMemory, NotToml, UnknownSetting, BadSetting, InputFault, OutputFault, BadArguments, NoSettings, NotOpened}
+use Rattle.ing_session.specs.declared.ending.Ending.TheVariants.{NoMemory, NotToml, UnknownSetting, BadSetting, InputFault, OutputFault, BadArguments, NoSettings, NotOpened, NoFolder, NoObjects, NotRecovered}
 
 abbrev pub ending_refusal : Ending → table.Refusal
 ending_refusal NoMemory = refusals.NoMemory
@@ -24,9 +28,12 @@ ending_refusal OutputFault = refusals.OutputFault
 ending_refusal BadArguments = refusals.BadArguments
 ending_refusal NoSettings = refusals.NoSettings
 ending_refusal (NotOpened fault) = node.refusal_of fault
+ending_refusal NoFolder = refusals.LogFault
+ending_refusal NoObjects = refusals.Failed
+ending_refusal (NotRecovered fault) = recover_refusal_of fault
 
--- the exit status: 1 where arguments or settings are refused, 2 where input or output failed, 3 where memory ran out or
--- the ingester was not opened
+-- the exit status: 1 where arguments or settings are refused, 2 where input, output or a folder failed or a shard was not made
+-- again, 3 where memory ran out or the ingester was not opened
 abbrev pub ending_status : Ending → ℕ
 ending_status NoMemory = 3
 ending_status NotToml = 1
@@ -37,6 +44,9 @@ ending_status OutputFault = 2
 ending_status BadArguments = 1
 ending_status NoSettings = 1
 ending_status (NotOpened fault) = 3
+ending_status NoFolder = 2
+ending_status NoObjects = 2
+ending_status (NotRecovered fault) = 2
 
 -- the exit status of the program
 abbrev pub status_of : Result (Unit {0}) Ending → ℕ
@@ -58,6 +68,9 @@ is_of_run OutputFault = true
 is_of_run BadArguments = false
 is_of_run NoSettings = false
 is_of_run (NotOpened fault) = false
+is_of_run NoFolder = false
+is_of_run NoObjects = false
+is_of_run (NotRecovered fault) = false
 
 -- what it says of a settings text; the other endings say nothing of it
 abbrev pub refusal_of : Ending → Option Refusal
@@ -70,6 +83,9 @@ refusal_of OutputFault = None
 refusal_of BadArguments = None
 refusal_of NoSettings = None
 refusal_of (NotOpened fault) = None
+refusal_of NoFolder = None
+refusal_of NoObjects = None
+refusal_of (NotRecovered fault) = None
 
 -- the ending where a line could not be read
 abbrev pub ending_of_line : LineError → Ending
@@ -91,6 +107,22 @@ ending_of_node node_faults.CounterFull = NotOpened node_faults.CounterFull
 ending_of_node node_faults.TooManyEntries = NotOpened node_faults.TooManyEntries
 ending_of_node (node_faults.Misplaced shard) = NotOpened (node_faults.Misplaced shard)
 
--- it is one of these
+-- the ending where a shard was not made again from its log: memory that ran out is its own ending
+abbrev pub ending_of_recover : RecoverFault → Ending
+ending_of_recover recover_faults.NoMemory = NoMemory
+ending_of_recover recover_faults.LogFault = NotRecovered recover_faults.LogFault
+ending_of_recover (recover_faults.Damaged at) = NotRecovered (recover_faults.Damaged at)
+ending_of_recover recover_faults.OtherSettings = NotRecovered recover_faults.OtherSettings
+ending_of_recover (recover_faults.Relist relist_faults.NoMemory) = NoMemory
+ending_of_recover (recover_faults.Relist (relist_faults.Failed key)) = NotRecovered (recover_faults.Relist (relist_faults.Failed key))
+ending_of_recover (recover_faults.Relist (relist_faults.Damaged key)) = NotRecovered (recover_faults.Relist (relist_faults.Damaged key))
+ending_of_recover (recover_faults.Relist (relist_faults.Missing key)) = NotRecovered (recover_faults.Relist (relist_faults.Missing key))
+ending_of_recover (recover_faults.Relist (relist_faults.BadObject key)) = NotRecovered (recover_faults.Relist (relist_faults.BadObject key))
+
+-- the ingester was not opened
 abbrev pub IsNotOpened : Ending → Type 0
 IsNotOpened ending = (fault : NodeFault) × (ending ≡ NotOpened fault)
+
+-- a shard was not made again
+abbrev pub IsNotRecovered : Ending → Type 0
+IsNotRecovered ending = (fault : RecoverFault) × (ending ≡ NotRecovered fault)

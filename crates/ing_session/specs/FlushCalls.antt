@@ -2,7 +2,7 @@
 use Rattle.std.specs.Prelude.{◌≡◌, Bool, true, false, IfOk, Ok, Result, ℕ}
 use Rattle.std.specs.Borrow.{MutBor}
 use Rattle.ing_limits.specs.Settings.{StoreSettings}
-use Rattle.ing_commands.specs.Commands.{Command, Push, Sweep, Flush, Gauges, Board, Query}
+use Rattle.ing_commands.specs.Commands.{Command, Flush}
 use Rattle.ing_commands.specs.Views.{flush_view}
 use Rattle.ing_commands.specs.declared.flush.Flush as code
 use Rattle.ing_session.specs.declared.reply.Reply.{Reply}

@@ -87,6 +87,10 @@ counts_data counts = object (member (codes "accepted") (count counts.accepted) (
 abbrev pub board_data : List Counts → Data
 board_data shards = object (member (codes "board") (array (items_of (map counts_data shards))) no_members)
 
+-- one for each shard: a checkpoint of it has replaced its log
+abbrev pub checkpoint_data : List Bool → Data
+checkpoint_data shards = object (member (codes "checkpoint") (array (items_of (map boolean shards))) no_members)
+
 -- an entry that a query gives: its line, its stamp, and its stream by its canonical name
 abbrev pub entry_data : Found → Data
 entry_data found =

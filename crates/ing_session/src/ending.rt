@@ -3,9 +3,11 @@ ghost use Rattle.std.specs.Prelude.{◌≡◌};
 ghost use Rattle.ing_session.specs.Endings.{ending_refusal, ending_status};
 
 use crate::lines::LineError;
+use ing_durable::RecoverFault;
 use ing_limits::SettingsFault;
 use ing_node::NodeFault;
 use ing_refusals::Refusal;
+use ing_relist::RelistFault;
 use std::alloc::{AllocError, AllocFailed};
 
 /// Why the program ended without a report. `name` is the dotted name of the setting, as `tenants.acme.max_line_size`.
@@ -23,12 +25,18 @@ pub enum Ending {
     InputFault,
     /// The output could not be written.
     OutputFault,
-    /// There are more argument words than one, or one is not UTF-8.
+    /// There are more argument words than two, or one is not UTF-8.
     BadArguments,
     /// The settings file cannot be read.
     NoSettings,
     /// The ingester refused a pusher or a flusher, before anything was read.
     NotOpened(NodeFault),
+    /// The folder or a log in it cannot be opened.
+    NoFolder,
+    /// The folder of the objects cannot be opened.
+    NoObjects,
+    /// A shard was not made again from its log, before anything was read.
+    NotRecovered(RecoverFault),
 }
 
 impl Ending {
@@ -46,11 +54,14 @@ impl Ending {
             Ending::BadArguments => Refusal::BadArguments,
             Ending::NoSettings => Refusal::NoSettings,
             Ending::NotOpened(fault) => fault.refusal(),
+            Ending::NoFolder => Refusal::LogFault,
+            Ending::NoObjects => Refusal::Failed,
+            Ending::NotRecovered(fault) => fault.refusal(),
         }
     }
 
-    /// The exit status of the program: 1 where arguments or settings are refused, 2 where input or output failed, 3 where
-    /// memory ran out or the ingester was not opened (own). Takes no memory.
+    /// The exit status of the program: 1 where arguments or settings are refused, 2 where input, output or a folder failed or
+    /// a shard was not made again, 3 where memory ran out or the ingester was not opened (own). Takes no memory.
     pub fn status(&self) -> u8
         ensures { result ≡ ending_status self.now }
     {
@@ -60,7 +71,11 @@ impl Ending {
             | Ending::BadSetting { .. }
             | Ending::BadArguments
             | Ending::NoSettings => 1,
-            Ending::InputFault | Ending::OutputFault => 2,
+            Ending::InputFault
+            | Ending::OutputFault
+            | Ending::NoFolder
+            | Ending::NoObjects
+            | Ending::NotRecovered(_) => 2,
             Ending::NoMemory | Ending::NotOpened(_) => 3,
         }
     }
@@ -128,6 +143,21 @@ impl From<NodeFault> for Ending {
         match fault {
             NodeFault::NoMemory => Ending::NoMemory,
             fault => Ending::NotOpened(fault),
+        }
+    }
+}
+
+impl From<RecoverFault> for Ending {
+    ghost use Rattle.std.specs.Prelude.{◌≡◌};
+    ghost use Rattle.ing_session.specs.Endings.{ending_of_recover};
+
+    ghost from_gives = { λ fault ending. ending ≡ ending_of_recover fault };
+
+    fn from(fault: RecoverFault) -> Ending {
+        match fault {
+            RecoverFault::NoMemory | RecoverFault::Relist(RelistFault::NoMemory) =>
+                Ending::NoMemory,
+            fault => Ending::NotRecovered(fault),
         }
     }
 }

@@ -1,9 +1,9 @@
 //! The replies, and the lines that they are written as.
 ghost use Rattle.std.specs.Prelude.{◌≡◌, ◌++◌, OnOk, OnErr, codes, decimal, map};
-ghost use Rattle.ing_session.specs.Replies.{verdict_data, verdicts_data, fault_data, judged_data, push_data, sweep_data, flush_data, gauge_data, gauges_data, tenant_data, board_data, counts_data, entry_data, query_data, shard_data, report_data, line_text, count};
+ghost use Rattle.ing_session.specs.Replies.{verdict_data, verdicts_data, fault_data, judged_data, push_data, sweep_data, flush_data, gauge_data, gauges_data, tenant_data, board_data, counts_data, checkpoint_data, entry_data, query_data, shard_data, report_data, line_text, count};
 ghost use Rattle.ing_session.specs.Views.{stream_data, reply_data};
 ghost use Rattle.ing_session.specs.Written.{Adds, member_tokens, data_tokens, tokens_of_each};
-ghost use Rattle.serde_json.specs.Data.{array, string, object, no_members, member};
+ghost use Rattle.serde_json.specs.Data.{array, boolean, string, object, no_members, member};
 ghost use Rattle.serde_json.specs.View.{items_of};
 ghost use Rattle.ing_labels.specs.Canonical.{canonical_of};
 
@@ -38,6 +38,8 @@ pub enum Reply {
     Gauges(Vec<Gauges>),
     /// What each shard accepted and stored, by the shard's number.
     Board(Vec<Counts>),
+    /// Whether a checkpoint of each shard has replaced its log, by the shard's number.
+    Checkpoint(Vec<bool>),
     /// The text of a query is refused, with the place at fault where there is one.
     Refused {
         refusal: Refusal,
@@ -101,6 +103,7 @@ fn write_reply(alloc: Global, out: &mut Writer, reply: &Reply) -> Result<(), All
         } => write_flush(out, *failed, *sealed, *stored),
         Reply::Gauges(gauges) => write_gauges(alloc, out, gauges),
         Reply::Board(shards) => write_board(out, shards),
+        Reply::Checkpoint(shards) => write_checkpoint(out, shards),
         Reply::Refused { refusal, at } => write_fault(out, *refusal, *at),
         Reply::Query { found, fronts } => write_query(out, found, fronts),
         Reply::Report(shards) => write_report(out, shards),
@@ -400,6 +403,31 @@ fn write_counts(out: &mut Writer, counts: Counts) -> Result<(), AllocError>
     write_count(out, "accepted", counts.accepted)?;
     write_count(out, "stored", counts.stored)?;
     out.end_object()?;
+    Ok(())
+}
+
+/// Writes of each shard whether a checkpoint of it has replaced its log.
+fn write_checkpoint(out: &mut Writer, shards: &[bool]) -> Result<(), AllocError>
+    ensures tokens { OnOk result (Adds out.old out.new (data_tokens (checkpoint_data shards.now))) }
+    ensures before { out.new.before ≡ out.old.before }
+{
+    out.begin_object()?;
+    out.key("checkpoint")?;
+    out.begin_array()?;
+    write_each_boolean(out, shards)?;
+    out.end_array()?;
+    out.end_object()?;
+    Ok(())
+}
+
+fn write_each_boolean(out: &mut Writer, booleans: &[bool]) -> Result<(), AllocError>
+    ensures tokens { OnOk result (Adds out.old out.new
+        (tokens_of_each (map boolean booleans.now))) }
+    ensures before { out.new.before ≡ out.old.before }
+{
+    for is_so in booleans {
+        out.boolean(*is_so)?;
+    }
     Ok(())
 }
 

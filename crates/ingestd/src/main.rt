@@ -1,15 +1,30 @@
 //! The program: the argument words and the standard streams, passed to a session.
 #![tactic(auto)]
 
-use ing_program::start;
+use ing_folder::{FolderLog, FolderStore};
+use ing_program::{Disk, start};
 use ing_session::{Ending, conclude};
+use ing_store::DigestReceipt;
 use std::io::ErrorKind;
 use std::process::ExitCode;
 use std::{env, io};
 
+type Log<'a> = FolderLog<'a, HostRuntime>;
+
+type End<'a> = FolderStore<'a, HostRuntime>;
+
 fn main(rt: HostRuntime) -> ExitCode {
     let ended = match words(&rt) {
-        Ok(words) => start(&rt, &words, &mut rt.reader(), &mut io::writer(&rt)),
+        Ok(words) => {
+            let (mut reader, mut writer) = (rt.reader(), io::writer(&rt));
+            start::<_, Log<'_>, DigestReceipt, End<'_>, Disk<'_, HostRuntime>, _, _>(
+                &rt,
+                &Disk::new(&rt),
+                &words,
+                &mut reader,
+                &mut writer,
+            )
+        }
         Err(ending) => Err(ending),
     };
     let errors = rt.stderr();

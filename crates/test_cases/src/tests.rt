@@ -1,11 +1,13 @@
 //! What no file can say: readers, writers and ends that fail, readers and writers that watch one another, settings files,
 //! lines of 16 MiB, and a refused allocation.
 mod flushes;
+mod folders;
 
 use ing_limits::Settings;
-use ing_program::{run_shards, start};
+use ing_program::{Disk, Folders, run_shards, start};
 use ing_session::{Ending, conclude, run};
-use ing_store::{Fuse, MemoryStore};
+use ing_store::{Fuse, MemoryStore, Receipt, StoreEnd};
+use ing_wal::LogDisk;
 use std::cell::Cell;
 use std::io::{Error, ErrorKind, Read, Write};
 use std::rt::Files;
@@ -73,18 +75,21 @@ fn run_locked_over<H: AllocGlobal + Threads + Wait + Sync, R: Read, W: Write>(
     Ok(run_shards(rt, alloc, reader, writer, &mut end, ends, settings))
 }
 
-/// How the program ends with these words on `PUSHES`, and what it has written by then.
-fn started<F: Files + AllocGlobal + Threads + Wait + Sync>(
-    rt: &F,
-    words: &[&str],
-) -> Result<(Result<(), Ending>, String), Fail> {
+/// How the program ends with these words on an input, and what it has written by then.
+fn started<
+    H: Files + AllocGlobal + Threads + Wait + Sync,
+    D: LogDisk + Drop + Send,
+    Q: Receipt + Send + Sync,
+    E: StoreEnd<Receipt = Q> + Drop + Send,
+    X: Folders<D, E>,
+>(rt: &H, folders: &X, words: &[&str], input: &str) -> Result<(Result<(), Ending>, String), Fail> {
     let mut owned = Vec::new(rt.alloc());
     for word in words {
         owned.push(String::from_str(rt.alloc(), word)?)?;
     }
-    let mut reader = PUSHES.as_bytes();
+    let mut reader = input.as_bytes();
     let mut writer = Vec::new(rt.alloc());
-    let ended = start(rt, &owned, &mut reader, &mut writer);
+    let ended = start(rt, folders, &owned, &mut reader, &mut writer);
     let written = String::from_utf8(writer).ok().ok_or("the output is text")?;
     Ok((ended, written))
 }
@@ -103,7 +108,7 @@ fn settings_from_a_file(rt: HostRuntime) -> Result<(), Fail> {
     let name = format!(in rt.alloc(); "{}.toml", process::id(rt.process()))?;
     let path = temporary(&rt, name.as_str())?;
     fs::write(&rt, path.as_str(), file.as_bytes())?;
-    let (ended, written) = started(&rt, &[path.as_str()])?;
+    let (ended, written) = started(&rt, &Disk::new(&rt), &[path.as_str()], PUSHES)?;
     fs::remove_file(&rt, path.as_str())?;
     assert_eq!(rt; ended, Ok(()));
     assert!(rt; written.as_str().contains("\"line_too_long\""));
@@ -117,7 +122,7 @@ fn whole_output(rt: &HostRuntime) -> Result<String, Fail> {
 
 #[test]
 fn no_word_means_no_settings(rt: HostRuntime) -> Result<(), Fail> {
-    let (ended, written) = started(&rt, &[])?;
+    let (ended, written) = started(&rt, &Disk::new(&rt), &[], PUSHES)?;
     assert_eq!(rt; ended, Ok(()));
     assert_eq!(rt; written.as_str(), whole_output(&rt)?.as_str());
     Ok(())
@@ -128,7 +133,7 @@ fn words_that_name_no_file(rt: HostRuntime) -> Result<(), Fail> {
     let missing = temporary(&rt, "no-such-file.toml")?;
     let folder = env::temp_dir(&rt)?;
     for path in [missing.as_str(), folder.as_str(), ""] {
-        let (ended, written) = started(&rt, &[path])?;
+        let (ended, written) = started(&rt, &Disk::new(&rt), &[path], PUSHES)?;
         let mut errors = Vec::new(rt.alloc());
         assert_eq!(rt; conclude(ended, &mut errors), 1);
         assert_eq!(rt; errors.as_slice(), b"ingestd: NoSettings\n".as_slice());
@@ -138,9 +143,14 @@ fn words_that_name_no_file(rt: HostRuntime) -> Result<(), Fail> {
 }
 
 #[test]
-fn more_words_than_one(rt: HostRuntime) -> Result<(), Fail> {
+fn more_words_than_two(rt: HostRuntime) -> Result<(), Fail> {
     let missing = temporary(&rt, "no-such-file.toml")?;
-    let (ended, written) = started(&rt, &[missing.as_str(), missing.as_str()])?;
+    let (ended, written) = started(
+        &rt,
+        &Disk::new(&rt),
+        &[missing.as_str(), missing.as_str(), missing.as_str()],
+        PUSHES,
+    )?;
     assert_eq!(rt; ended, Err(Ending::BadArguments));
     assert_eq!(rt; written.as_str(), "");
     Ok(())

@@ -18,6 +18,7 @@ use ing_rows::{Entry, Line, Stamp, Tenant};
 use ing_shard::Op;
 use ing_store::StoreFault;
 use ing_tally::Counts;
+use ing_wal::NoLog;
 use std::alloc::Global;
 use std::rt::Clock;
 use std::sync::Wait;
@@ -74,7 +75,7 @@ impl<N: NodeName + Send + Sync> Hand<N> {
         rt: &W,
         alloc: Global,
         settings: &Settings,
-        node: &Ingester<N, Object>,
+        node: &Ingester<N, NoLog, Object>,
         plan: Plan,
     ) -> Result<Hand<N>, LifeFault>
         requires { settings.now ≡ N.settings }
@@ -122,7 +123,7 @@ impl<N: NodeName + Send + Sync> Hand<N> {
         &mut self,
         rt: &W,
         alloc: Global,
-        node: &Ingester<N, Object>,
+        node: &Ingester<N, NoLog, Object>,
     ) {
         for turn in 0..self.plan.turns {
             if self.is_done() {
@@ -152,7 +153,7 @@ impl<N: NodeName + Send + Sync> Hand<N> {
         &mut self,
         rt: &W,
         alloc: Global,
-        node: &Ingester<N, Object>,
+        node: &Ingester<N, NoLog, Object>,
         turn: u64,
     ) -> Result<(), LifeFault> {
         if !self.plan.timed {
@@ -171,7 +172,7 @@ impl<N: NodeName + Send + Sync> Hand<N> {
         &mut self,
         rt: &W,
         alloc: Global,
-        node: &Ingester<N, Object>,
+        node: &Ingester<N, NoLog, Object>,
         turn: u64,
     ) -> Result<(), LifeFault> {
         let lots = self.lots;
@@ -188,7 +189,7 @@ impl<N: NodeName + Send + Sync> Hand<N> {
         &mut self,
         rt: &W,
         alloc: Global,
-        node: &Ingester<N, Object>,
+        node: &Ingester<N, NoLog, Object>,
         turn: u64,
     ) -> Result<(), LifeFault> {
         match self.plan.task {
@@ -219,7 +220,7 @@ impl<N: NodeName + Send + Sync> Hand<N> {
         &mut self,
         rt: &W,
         alloc: Global,
-        node: &Ingester<N, Object>,
+        node: &Ingester<N, NoLog, Object>,
         now: u64,
     ) -> Result<(), LifeFault> {
         let stream = self.lots.below(STREAMS.len() as u64) as usize;
@@ -237,7 +238,7 @@ impl<N: NodeName + Send + Sync> Hand<N> {
         &mut self,
         rt: &W,
         alloc: Global,
-        node: &Ingester<N, Object>,
+        node: &Ingester<N, NoLog, Object>,
     ) -> Result<(), LifeFault> {
         for shard in 0..self.shards {
             self.flush(rt, alloc, node, shard, None)?;
@@ -250,7 +251,7 @@ impl<N: NodeName + Send + Sync> Hand<N> {
         &mut self,
         rt: &W,
         alloc: Global,
-        node: &Ingester<N, Object>,
+        node: &Ingester<N, NoLog, Object>,
         now: u64,
     ) -> Result<(), LifeFault> {
         let shard = self.lots.below(u64::from(self.shards)) as u32;
@@ -266,7 +267,7 @@ impl<N: NodeName + Send + Sync> Hand<N> {
         &mut self,
         rt: &W,
         alloc: Global,
-        node: &Ingester<N, Object>,
+        node: &Ingester<N, NoLog, Object>,
         now: u64,
     ) -> Result<(), LifeFault> {
         let now = match self.lots.below(2) {
@@ -305,7 +306,7 @@ impl<N: NodeName + Send + Sync> Hand<N> {
     fn ask_often<W: Wait>(
         &mut self,
         rt: &W,
-        node: &Ingester<N, Object>,
+        node: &Ingester<N, NoLog, Object>,
         times: u64,
     ) -> Result<(), LifeFault> {
         for _ in 0..times {
@@ -358,7 +359,7 @@ impl<N: NodeName + Send + Sync> Hand<N> {
         &mut self,
         rt: &W,
         alloc: Global,
-        node: &Ingester<N, Object>,
+        node: &Ingester<N, NoLog, Object>,
         stream: usize,
         entries: Vec<Entry>,
         now: u64,
@@ -380,7 +381,7 @@ impl<N: NodeName + Send + Sync> Hand<N> {
         &mut self,
         rt: &W,
         alloc: Global,
-        node: &Ingester<N, Object>,
+        node: &Ingester<N, NoLog, Object>,
         shard: u32,
         now: Option<u64>,
     ) -> Result<(), LifeFault> {
@@ -402,7 +403,7 @@ impl<N: NodeName + Send + Sync> Hand<N> {
         &mut self,
         rt: &W,
         alloc: Global,
-        node: &Ingester<N, Object>,
+        node: &Ingester<N, NoLog, Object>,
         op: &Op,
     ) -> Result<(), LifeFault> {
         if op.shard >= self.shards {
@@ -432,7 +433,7 @@ impl<N: NodeName + Send + Sync> Hand<N> {
         &mut self,
         rt: &W,
         alloc: Global,
-        node: &Ingester<N, Object>,
+        node: &Ingester<N, NoLog, Object>,
     ) -> Result<(), LifeFault> {
         let answer = self.found(rt, alloc, node)?;
         self.done.queries = self.done.queries.saturating_add(1);
@@ -447,7 +448,7 @@ impl<N: NodeName + Send + Sync> Hand<N> {
         &mut self,
         rt: &W,
         alloc: Global,
-        node: &Ingester<N, Object>,
+        node: &Ingester<N, NoLog, Object>,
     ) -> Result<Answer, LifeFault> {
         Ok(node.query_after(
             rt,
@@ -511,7 +512,7 @@ impl<N: NodeName + Send + Sync> Hand<N> {
 fn tally_of<N: NodeName, W: Wait>(
     rt: &W,
     alloc: Global,
-    node: &Ingester<N, Object>,
+    node: &Ingester<N, NoLog, Object>,
 ) -> Result<FlusherTally, NodeFault>
     ensures { IfOk result (IsTallyOf N.settings.shards N.books) }
 {
@@ -526,7 +527,7 @@ fn sweeping_of<N: NodeName, W: Wait>(
     rt: &W,
     alloc: Global,
     settings: &Settings,
-    node: &Ingester<N, Object>,
+    node: &Ingester<N, NoLog, Object>,
     plan: &Plan,
 ) -> Result<Option<Sweeping<N>>, LifeFault>
     requires { settings.now ≡ N.settings }

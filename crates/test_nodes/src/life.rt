@@ -1,5 +1,6 @@
 //! The whole life of an ingester.
-ghost use Rattle.std.specs.Prelude.{◌≡◌, ◌<◌, ◌≤◌, ◌+◌, All, IfErr, IfOk, vec_len, vec_capacity};
+ghost use Rattle.std.specs.Prelude.{◌≡◌, ◌<◌, ◌≤◌, ◌+◌, All, IfErr, IfOk, reverse, true, vec_len, vec_capacity};
+ghost use Rattle.ing_node.specs.Earlier.{earlier_of};
 ghost use Rattle.ing_node.specs.Names.{AreNamed, IsTallyOf};
 
 use crate::done::Done;
@@ -10,9 +11,10 @@ use crate::lots::Lots;
 use crate::plan::Plan;
 use ing_flush::FlusherTally;
 use ing_limits::Settings;
-use ing_node::{Answer, CloseFault, Ingester, NodeName, Pusher, Report, Shards};
+use ing_node::{Answer, CloseFault, Earlier, Ingester, NodeName, Pusher, Report, Shards};
 use ing_refusals::Refusal;
 use ing_tally::Counts;
+use ing_wal::NoLog;
 use std::alloc::{AllocError, Global};
 use std::marker::Brand;
 use std::rt::Clock;
@@ -126,20 +128,30 @@ pub fn live<W: Threads + Wait + Sync + Clock>(
     whole_life::<Brand, W>(rt, alloc, shards, plans, threads)
 }
 
-/// Shards with these settings.
-pub fn fresh(alloc: Global, settings: &str) -> Result<Shards<Object>, LifeFault> {
-    Ok(Shards::fresh(alloc, Settings::from_toml(alloc, settings)?)?)
+/// Shards with these settings, without logs.
+pub fn fresh(alloc: Global, settings: &str) -> Result<Shards<NoLog, Object>, LifeFault> {
+    let settings = Settings::from_toml(alloc, settings)?;
+    let mut logs = Vec::with_capacity(alloc, settings.shards() as usize)?;
+    for _ in 0..settings.shards() {
+        logs.push_reserved(NoLog::new());
+    }
+    match Shards::fresh(alloc, settings, logs) {
+        Ok(shards) => Ok(shards),
+        Err(_) => Err(LifeFault::NoMemory),
+    }
 }
 
 fn whole_life<N: NodeName + Send + Sync, W: Threads + Wait + Sync + Clock>(
     rt: &W,
     alloc: Global,
-    shards: Shards<Object>,
+    shards: Shards<NoLog, Object>,
     plans: &[Plan],
     threads: usize,
 ) -> Result<Life, LifeFault>
     requires settings { shards.settings ≡ N.settings }
-    requires named { AreNamed N.books shards.shards.items }
+    requires named { AreNamed N.books (reverse shards.last_first.items) }
+    requires earlier { N.earlier ≡ earlier_of (reverse shards.last_first.items) }
+    requires logs { N.has_logs ≡ true }
     requires threads { 0 < threads }
 {
     let settings = match settings_of(&shards) {
@@ -150,14 +162,20 @@ fn whole_life<N: NodeName + Send + Sync, W: Threads + Wait + Sync + Clock>(
         }
     };
     let count = settings.shards();
-    let node: Ingester<N, Object> = opened(alloc, shards)?;
-    let mut hands = hands_of(rt, alloc, &settings, &node, plans)?;
+    let (node, earlier) = opened::<N>(alloc, shards)?;
+    let mut hands = match hands_of(rt, alloc, &settings, &node, plans) {
+        Ok(hands) => hands,
+        Err(fault) => {
+            earlier.strand();
+            return Err(fault);
+        }
+    };
     work(rt, alloc, &node, hands.as_mut_slice(), threads);
     let board = board(alloc, &mut hands);
     let found = found(rt, alloc, &node, &mut hands);
     let told = told(alloc, count, &hands);
     let done = all_done(&hands);
-    let (report, refused) = closed(alloc, node, hands)?;
+    let (report, refused) = closed(alloc, node, earlier, hands)?;
     Ok(Life {
         answer: found?,
         told: told?,
@@ -170,7 +188,7 @@ fn whole_life<N: NodeName + Send + Sync, W: Threads + Wait + Sync + Clock>(
 }
 
 /// A copy of the settings of shards.
-pub fn settings_of(shards: &Shards<Object>) -> Result<Settings, LifeFault>
+pub fn settings_of(shards: &Shards<NoLog, Object>) -> Result<Settings, LifeFault>
     ensures { IfOk result (λ settings. settings ≡ shards.now.settings) }
 {
     match shards.settings().try_clone() {
@@ -179,20 +197,22 @@ pub fn settings_of(shards: &Shards<Object>) -> Result<Settings, LifeFault>
     }
 }
 
-/// The ingester of these shards.
+/// The ingester of these shards, and what they began with.
 pub fn opened<N: NodeName + Send + Sync>(
     alloc: Global,
-    shards: Shards<Object>,
-) -> Result<Ingester<N, Object>, LifeFault>
+    shards: Shards<NoLog, Object>,
+) -> Result<(Ingester<N, NoLog, Object>, Earlier<N>), LifeFault>
     requires settings { shards.settings ≡ N.settings }
-    requires named { AreNamed N.books shards.shards.items }
+    requires named { AreNamed N.books (reverse shards.last_first.items) }
+    requires earlier { N.earlier ≡ earlier_of (reverse shards.last_first.items) }
+    requires logs { N.has_logs ≡ true }
 {
     let shards = match Ingester::open(alloc, shards) {
-        Ok(node) => return Ok(node),
+        Ok(opened) => return Ok(opened),
         Err(shards) => shards,
     };
     match Ingester::open(alloc, shards) {
-        Ok(node) => Ok(node),
+        Ok(opened) => Ok(opened),
         Err(shards) => {
             shards.abandon();
             Err(LifeFault::NoMemory)
@@ -216,7 +236,7 @@ pub fn hands_of<N: NodeName + Send + Sync, W: Wait>(
     rt: &W,
     alloc: Global,
     settings: &Settings,
-    node: &Ingester<N, Object>,
+    node: &Ingester<N, NoLog, Object>,
     plans: &[Plan],
 ) -> Result<Vec<Hand<N>>, LifeFault>
     requires { settings.now ≡ N.settings }
@@ -251,7 +271,7 @@ fn strand_all<N: NodeName + Send + Sync>(mut hands: Vec<Hand<N>>) {
 pub fn work<N: NodeName + Send + Sync, W: Threads + Wait + Sync + Clock>(
     rt: &W,
     alloc: Global,
-    node: &Ingester<N, Object>,
+    node: &Ingester<N, NoLog, Object>,
     hands: &mut [Hand<N>],
     threads: usize,
 )
@@ -265,7 +285,7 @@ pub fn work<N: NodeName + Send + Sync, W: Threads + Wait + Sync + Clock>(
 fn found<N: NodeName + Send + Sync, W: Wait>(
     rt: &W,
     alloc: Global,
-    node: &Ingester<N, Object>,
+    node: &Ingester<N, NoLog, Object>,
     hands: &mut Vec<Hand<N>>,
 ) -> Result<Answer, LifeFault> {
     let hand = hands.first_mut().ok_or(LifeFault::Text)?;
@@ -316,11 +336,18 @@ pub fn all_done<N: NodeName + Send + Sync>(hands: &[Hand<N>]) -> Done {
 /// good one. Why the first was refused stands beside the report.
 pub fn closed<N: NodeName + Send + Sync>(
     alloc: Global,
-    node: Ingester<N, Object>,
+    node: Ingester<N, NoLog, Object>,
+    earlier: Earlier<N>,
     hands: Vec<Hand<N>>,
 ) -> Result<(Report, Option<Refusal>), LifeFault> {
-    let Parts { pushers, tallies } = parted(alloc, hands)?;
-    match closed_over(alloc, &mut KeptEnd::dead(), node, pushers, tallies) {
+    let Parts { pushers, tallies } = match parted(alloc, hands) {
+        Ok(parts) => parts,
+        Err(fault) => {
+            earlier.strand();
+            return Err(fault);
+        }
+    };
+    match closed_over(alloc, &mut KeptEnd::dead(), node, earlier, pushers, tallies) {
         Ok(report) => Ok((report, None)),
         Err(fault) => closed_again(alloc, fault),
     }
@@ -329,18 +356,19 @@ pub fn closed<N: NodeName + Send + Sync>(
 /// Closes over a good end what a close gave back.
 fn closed_again<N: NodeName + Send + Sync>(
     alloc: Global,
-    fault: CloseFault<N, Object>,
+    fault: CloseFault<N, NoLog, Object>,
 ) -> Result<(Report, Option<Refusal>), LifeFault>
     requires { All (IsTallyOf N.settings.shards N.books) fault.tallies.items }
 {
     let CloseFault {
         why,
         ingester,
+        earlier,
         pushers,
         tallies,
     } = fault;
     let mut end = KeptEnd::new(Lots::of(0), 0);
-    match closed_over(alloc, &mut end, ingester, pushers, tallies) {
+    match closed_over(alloc, &mut end, ingester, earlier, pushers, tallies) {
         Ok(report) => Ok((report, Some(why.refusal()))),
         Err(fault) => Err(given_up(fault)),
     }
@@ -350,14 +378,15 @@ fn closed_again<N: NodeName + Send + Sync>(
 fn closed_over<N: NodeName + Send + Sync>(
     alloc: Global,
     end: &mut KeptEnd,
-    node: Ingester<N, Object>,
+    node: Ingester<N, NoLog, Object>,
+    earlier: Earlier<N>,
     pushers: Vec<Pusher<N>>,
     tallies: Vec<FlusherTally>,
-) -> Result<Report, CloseFault<N, Object>>
+) -> Result<Report, CloseFault<N, NoLog, Object>>
     requires { All (IsTallyOf N.settings.shards N.books) tallies.items }
     ensures { IfErr result (λ fault. fault.tallies ≡ tallies) }
 {
-    let fault = match node.close(alloc, end, pushers, tallies) {
+    let fault = match node.close(alloc, end, earlier, pushers, tallies) {
         Ok(report) => return Ok(report),
         Err(fault) => fault,
     };
@@ -367,21 +396,23 @@ fn closed_over<N: NodeName + Send + Sync>(
     let CloseFault {
         why: _,
         ingester,
+        earlier,
         pushers,
         tallies,
     } = fault;
-    ingester.close(alloc, end, pushers, tallies)
+    ingester.close(alloc, end, earlier, pushers, tallies)
 }
 
 /// Gives up what a close gave back, and says why it was refused.
-fn given_up<N: NodeName + Send + Sync>(fault: CloseFault<N, Object>) -> LifeFault {
+fn given_up<N: NodeName + Send + Sync>(fault: CloseFault<N, NoLog, Object>) -> LifeFault {
     let CloseFault {
         why,
         ingester,
+        earlier,
         pushers,
         tallies,
     } = fault;
-    ingester.abandon(pushers, tallies);
+    ingester.abandon(earlier, pushers, tallies);
     why.into()
 }
 

@@ -1,5 +1,6 @@
 //! How long a push takes while another thread flushes, and how long the counts of a shard take to read while others push.
-ghost use Rattle.std.specs.Prelude.{◌≡◌};
+ghost use Rattle.std.specs.Prelude.{◌≡◌, reverse, true};
+ghost use Rattle.ing_node.specs.Earlier.{earlier_of};
 ghost use Rattle.ing_node.specs.Names.{AreNamed};
 
 use crate::hand::Hand;
@@ -7,7 +8,8 @@ use crate::kept_end::Object;
 use crate::life::{all_done, closed, fresh, hands_of, opened, settings_of, work};
 use crate::plan::{Plan, Task};
 use anyhow::{Result, bail};
-use ing_node::{Ingester, NodeName, Shards};
+use ing_node::{NodeName, Shards};
+use ing_wal::NoLog;
 use std::alloc::Global;
 use std::io::Print;
 use std::marker::Brand;
@@ -100,11 +102,13 @@ fn times_of<R: AllocGlobal + Threads + Wait + Sync + Clock>(
 fn lived<N: NodeName + Send + Sync, R: Threads + Wait + Sync + Clock>(
     rt: &R,
     alloc: Global,
-    shards: Shards<Object>,
+    shards: Shards<NoLog, Object>,
     plans: &[Plan],
 ) -> Result<Vec<u64>>
     requires settings { shards.settings ≡ N.settings }
-    requires named { AreNamed N.books shards.shards.items }
+    requires named { AreNamed N.books (reverse shards.last_first.items) }
+    requires earlier { N.earlier ≡ earlier_of (reverse shards.last_first.items) }
+    requires logs { N.has_logs ≡ true }
 {
     let settings = match settings_of(&shards) {
         Ok(settings) => settings,
@@ -113,12 +117,18 @@ fn lived<N: NodeName + Send + Sync, R: Threads + Wait + Sync + Clock>(
             return Err(fault.into());
         }
     };
-    let node: Ingester<N, Object> = opened(alloc, shards)?;
-    let mut hands = hands_of(rt, alloc, &settings, &node, plans)?;
+    let (node, earlier) = opened::<N>(alloc, shards)?;
+    let mut hands = match hands_of(rt, alloc, &settings, &node, plans) {
+        Ok(hands) => hands,
+        Err(fault) => {
+            earlier.strand();
+            return Err(fault.into());
+        }
+    };
     work(rt, alloc, &node, hands.as_mut_slice(), plans.len().max(1));
     let done = all_done(&hands);
     let times = first_times(alloc, &hands);
-    let _report = closed(alloc, node, hands)?;
+    let _report = closed(alloc, node, earlier, hands)?;
     match done.fault {
         Some(fault) => Err(fault.into()),
         None => times,

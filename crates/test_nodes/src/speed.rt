@@ -1,12 +1,14 @@
 //! How fast pushes are through the locks.
-ghost use Rattle.std.specs.Prelude.{◌≡◌, ◌<◌};
+ghost use Rattle.std.specs.Prelude.{◌≡◌, ◌<◌, reverse, true};
+ghost use Rattle.ing_node.specs.Earlier.{earlier_of};
 ghost use Rattle.ing_node.specs.Names.{AreNamed};
 
 use crate::kept_end::Object;
 use crate::life::{all_done, closed, fresh, hands_of, opened, settings_of, work};
 use crate::plan::{Plan, Task};
 use anyhow::{Result, bail};
-use ing_node::{Ingester, NodeName, Shards};
+use ing_node::{NodeName, Shards};
+use ing_wal::NoLog;
 use std::alloc::{AllocError, Global};
 use std::io::Print;
 use std::marker::Brand;
@@ -76,11 +78,13 @@ fn loads(alloc: Global, threads: usize, entries: u64) -> Result<Vec<Plan>, Alloc
 fn load<N: NodeName + Send + Sync, R: Threads + Wait + Sync + Clock>(
     rt: &R,
     alloc: Global,
-    shards: Shards<Object>,
+    shards: Shards<NoLog, Object>,
     plans: &[Plan],
 ) -> Result<(u128, u64)>
     requires settings { shards.settings ≡ N.settings }
-    requires named { AreNamed N.books shards.shards.items }
+    requires named { AreNamed N.books (reverse shards.last_first.items) }
+    requires earlier { N.earlier ≡ earlier_of (reverse shards.last_first.items) }
+    requires logs { N.has_logs ≡ true }
 {
     let settings = match settings_of(&shards) {
         Ok(settings) => settings,
@@ -89,13 +93,19 @@ fn load<N: NodeName + Send + Sync, R: Threads + Wait + Sync + Clock>(
             return Err(fault.into());
         }
     };
-    let node: Ingester<N, Object> = opened(alloc, shards)?;
-    let mut hands = hands_of(rt, alloc, &settings, &node, plans)?;
+    let (node, earlier) = opened::<N>(alloc, shards)?;
+    let mut hands = match hands_of(rt, alloc, &settings, &node, plans) {
+        Ok(hands) => hands,
+        Err(fault) => {
+            earlier.strand();
+            return Err(fault.into());
+        }
+    };
     let start = Instant::now(rt);
     work(rt, alloc, &node, hands.as_mut_slice(), plans.len().max(1));
     let end = Instant::now(rt);
     let done = all_done(&hands);
-    let (report, _) = closed(alloc, node, hands)?;
+    let (report, _) = closed(alloc, node, earlier, hands)?;
     if let Some(fault) = done.fault {
         return Err(fault.into());
     }

@@ -9,6 +9,7 @@ use ing_flush::{FlusherTally, FreeGate, Round, Worker};
 use ing_limits::Settings;
 use ing_node::{Flushing, Ingester, NodeName, Sweeper};
 use ing_rows::Stamp;
+use ing_wal::NoLog;
 use std::alloc::Global;
 use std::sync::Wait;
 use std::thread::Threads;
@@ -33,7 +34,7 @@ impl<N: NodeName> Sweeping<N> {
         rt: &W,
         alloc: Global,
         settings: &Settings,
-        node: &Ingester<N, Object>,
+        node: &Ingester<N, NoLog, Object>,
         lots: Lots,
         odds: u64,
     ) -> Result<Sweeping<N>, LifeFault>
@@ -85,7 +86,7 @@ impl<N: NodeName + Send + Sync> Sweeping<N> {
         &mut self,
         rt: &W,
         alloc: Global,
-        node: &Ingester<N, Object>,
+        node: &Ingester<N, NoLog, Object>,
         now: Option<Stamp>,
     ) -> Result<Round, LifeFault> {
         let _swept = match now {
@@ -109,7 +110,7 @@ fn workers_of<N: NodeName, W: Wait>(
     alloc: Global,
     flushing: &Flushing<N>,
     sweeper: &mut Sweeper,
-    node: &Ingester<N, Object>,
+    node: &Ingester<N, NoLog, Object>,
     lots: Lots,
     odds: u64,
 ) -> Result<Vec<Worker<KeptEnd, FreeGate>>, LifeFault>

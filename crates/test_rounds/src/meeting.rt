@@ -1,15 +1,17 @@
 //! Two flushers whose first puts overlap, and a push that is answered meanwhile: an upload holds no lock.
-ghost use Rattle.std.specs.Prelude.{◌≡◌, ◌<◌, IfOk, length};
+ghost use Rattle.std.specs.Prelude.{◌≡◌, ◌<◌, IfOk, length, reverse, true};
 ghost use Rattle.ing_flush.specs.Tallies.{AreStoredIn};
+ghost use Rattle.ing_node.specs.Earlier.{earlier_of};
 ghost use Rattle.ing_node.specs.Names.{AreNamed};
 
 use ing_flush::{Flushed, Flusher, Gate, flush_one};
 use ing_labels::{LabelLimits, Labels};
 use ing_limits::Settings;
-use ing_node::{Ingester, NodeName, Pusher, Shards};
+use ing_node::{Earlier, Ingester, NodeName, Pusher, Shards};
 use ing_rows::{Entry, Line, Stamp, Tenant};
 use ing_shard::Op;
 use ing_store::{Fuse, MemoryEnd, MemoryReceipt, MemoryStore, Receipt, StoreEnd};
+use ing_wal::NoLog;
 use std::alloc::Global;
 use std::marker::{Brand, PhantomData};
 use std::sync::Wait;
@@ -76,7 +78,7 @@ struct Uploader<N: NodeName, S: StoreEnd, G: Gate> {
 }
 
 impl<N: NodeName, R: Receipt, S: StoreEnd<Receipt = R>, G: Gate> Uploader<N, S, G> {
-    fn upload<W: Wait>(&mut self, rt: &W, alloc: Global, node: &Ingester<N, R>) {
+    fn upload<W: Wait>(&mut self, rt: &W, alloc: Global, node: &Ingester<N, NoLog, R>) {
         let flushed = flush_one(rt, alloc, node, &mut self.flusher, &self.op);
         self.is_stored = matches!(flushed, Flushed::Stored(_));
     }
@@ -94,7 +96,7 @@ impl<N: NodeName> Presser<N> {
         &mut self,
         rt: &W,
         alloc: Global,
-        node: &Ingester<N, R>,
+        node: &Ingester<N, NoLog, R>,
         tenant: &Tenant,
         labels: &Labels,
         nanoseconds: u64,
@@ -122,7 +124,7 @@ enum Actor<N: NodeName, S: StoreEnd, G: Gate> {
 fn act_all<N, R, S, G, W>(
     rt: &W,
     alloc: Global,
-    node: &Ingester<N, R>,
+    node: &Ingester<N, NoLog, R>,
     actors: &mut [Actor<N, S, G>],
     meeting: &Meeting,
     tenant: &Tenant,
@@ -151,7 +153,7 @@ where
 fn uploader_for<'a, N: NodeName, W: Wait + Clock>(
     rt: &'a W,
     alloc: Global,
-    node: &Ingester<N, MemoryReceipt<'a>>,
+    node: &Ingester<N, NoLog, MemoryReceipt<'a>>,
     store: &'a MemoryStore,
     meeting: &'a Meeting,
     op: Op,
@@ -176,7 +178,7 @@ fn uploader_for<'a, N: NodeName, W: Wait + Clock>(
 fn add_uploaders<'a, N: NodeName, W: Wait + Clock>(
     rt: &'a W,
     alloc: Global,
-    node: &Ingester<N, MemoryReceipt<'a>>,
+    node: &Ingester<N, NoLog, MemoryReceipt<'a>>,
     shards: u32,
     store: &'a MemoryStore,
     meeting: &'a Meeting,
@@ -239,23 +241,28 @@ fn count_met<'a, N: NodeName, W: Wait + Clock>(
 fn meet<'a, N: NodeName + Send + Sync, W: Threads + Wait + Sync + Clock>(
     rt: &'a W,
     alloc: Global,
-    shards: Shards<MemoryReceipt<'a>>,
+    shards: Shards<NoLog, MemoryReceipt<'a>>,
     store: &'a MemoryStore,
     meeting: &'a Meeting,
     tenant: &Tenant,
     streams: &[Labels; 2],
 ) -> Option<usize>
     requires settings { shards.settings ≡ N.settings }
-    requires named { AreNamed N.books shards.shards.items }
+    requires named { AreNamed N.books (reverse shards.last_first.items) }
+    requires earlier { N.earlier ≡ earlier_of (reverse shards.last_first.items) }
+    requires logs { N.has_logs ≡ true }
 {
     let count = shards.settings().shards();
-    let node: Ingester<N, MemoryReceipt<'a>> = match Ingester::open(alloc, shards) {
-        Ok(node) => node,
+    let (node, earlier): (Ingester<N, NoLog, MemoryReceipt<'a>>, Earlier<N>) = match Ingester::open(
+        alloc, shards,
+    ) {
+        Ok(opened) => opened,
         Err(shards) => {
             shards.abandon();
             return None;
         }
     };
+    earlier.strand();
     let mut actors = Vec::with_capacity(alloc, 1).ok()?;
     let Ok(pusher) = node.pusher(rt, alloc, false) else {
         actors.destroy_empty();
@@ -298,7 +305,14 @@ fn uploads_hold_no_lock(rt: HostRuntime) -> Result<(), Fail> {
         pushed: AtomicU64::new(0),
     };
     let store = MemoryStore::new(alloc)?;
-    let shards = Shards::fresh(alloc, Settings::from_toml(alloc, "")?)?;
+    let settings = Settings::from_toml(alloc, "")?;
+    let logs = vec![in alloc; NoLog::new()]?;
+    if settings.shards() as usize != logs.len() {
+        return Err("one shard".into());
+    }
+    let Ok(shards) = Shards::fresh(alloc, settings, logs) else {
+        return Err("memory".into());
+    };
     let met = meet::<Brand, HostRuntime>(&rt, alloc, shards, &store, &meeting, &tenant, &streams);
     assert_eq!(rt; met, Some(3));
     Ok(())

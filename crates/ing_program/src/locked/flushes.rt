@@ -2,7 +2,7 @@
 ghost use Rattle.std.specs.Prelude.{◌≡◌, ℕ, IfOk, Ok};
 ghost use Rattle.ing_commands.specs.Commands as commands;
 ghost use Rattle.ing_commands.specs.Views.{flush_view};
-ghost use Rattle.ing_program.specs.ByLedger.{Held, IsForm, IsSweepReply, by_ledger};
+ghost use Rattle.ing_program.specs.ByLedger.{Held, IsForm, IsSweepReply, began_with, by_ledger};
 ghost use Rattle.ing_program.specs.Counted.{IsHeld, RisesBy, counted_by};
 ghost use Rattle.ing_session.specs.Runs.{IsObeyed};
 ghost use Rattle.ing_session.specs.Views.{reply_data};
@@ -16,11 +16,19 @@ use ing_rows::Stamp;
 use ing_session::Reply;
 use ing_shard::Op;
 use ing_store::{Receipt, StoreEnd};
+use ing_wal::LogDisk;
 use std::alloc::AllocError;
 use std::sync::Wait;
 use std::thread::Threads;
 
-impl<'r, N: NodeName, R: Receipt, F: StoreEnd<Receipt = R> + Drop, W: Wait> Locked<'r, N, R, F, W> {
+impl<
+    'r,
+    N: NodeName,
+    D: LogDisk + Drop,
+    R: Receipt,
+    F: StoreEnd<Receipt = R> + Drop,
+    W: Wait,
+> Locked<'r, N, D, R, F, W> {
     /// Seals what is due in each shard, queues an operation for each sealed chunk that waits, and gives the reply. What finds the
     /// queue full waits for the next sweep. It fails only where memory runs out; then what is due may be sealed in some shards.
     pub(super) fn sweep(&mut self, now: Stamp) -> Result<Reply, AllocError>
@@ -43,16 +51,17 @@ impl<'r, N: NodeName, R: Receipt, F: StoreEnd<Receipt = R> + Drop, W: Wait> Lock
 impl<
     'r,
     N: NodeName + Send + Sync,
+    D: LogDisk + Drop + Send,
     R: Receipt + Send + Sync,
     F: StoreEnd<Receipt = R> + Drop + Send,
     W: Threads + Wait + Sync,
-> Locked<'r, N, R, F, W> {
+> Locked<'r, N, D, R, F, W> {
     /// Seals each growing chunk where that is forced, works off what is queued, and gives the reply. It fails only where memory
     /// runs out; then a part of it may be done.
     pub fn flush(&mut self, said: Flush) -> Result<Reply, AllocError>
         ensures obeyed { (count : ℕ) → IfOk result (λ reply. (held : Held) →
             IsHeld self.old.pusher (counted_by self.old.workers.items) self.old.board held →
-            IsObeyed (by_ledger N.settings.shards) N.settings (Ok (commands.Flush (flush_view said))) held
+            IsObeyed (by_ledger (began_with N.has_logs N.earlier) N.settings.shards) N.settings (Ok (commands.Flush (flush_view said))) held
             (IsHeld self.new.pusher (counted_by self.new.workers.items) self.new.board) count count (reply_data reply)) }
     {
         match self.seal(said.forced) {

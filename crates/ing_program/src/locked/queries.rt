@@ -14,10 +14,18 @@ use ing_node::NodeName;
 use ing_parts::Question;
 use ing_session::{Reply, selector_fault};
 use ing_store::{Receipt, StoreEnd};
+use ing_wal::LogDisk;
 use std::alloc::AllocError;
 use std::sync::Wait;
 
-impl<'r, N: NodeName, R: Receipt, F: StoreEnd<Receipt = R> + Drop, W: Wait> Locked<'r, N, R, F, W> {
+impl<
+    'r,
+    N: NodeName,
+    D: LogDisk + Drop,
+    R: Receipt,
+    F: StoreEnd<Receipt = R> + Drop,
+    W: Wait,
+> Locked<'r, N, D, R, F, W> {
     /// The reply to a query.
     pub(super) fn query<S: StoreEnd<Receipt = R>>(
         &mut self,

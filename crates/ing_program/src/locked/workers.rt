@@ -7,16 +7,23 @@ ghost use Rattle.ing_program.specs.Counted.{counted_by};
 use ing_flush::{FlusherTally, FreeGate, Worker};
 use ing_node::{Flushing, Ingester, NodeFault, NodeName, Sweeper};
 use ing_store::{Receipt, StoreEnd};
+use ing_wal::LogDisk;
 use std::alloc::{AllocError, Global};
 use std::sync::Wait;
 
 /// A flusher for each of these ends. A share that is refused is `CounterFull` or `Misplaced`; then no flusher is left.
-pub(super) fn workers_of<N: NodeName, R: Receipt, F: StoreEnd<Receipt = R> + Drop, W: Wait>(
+pub(super) fn workers_of<
+    N: NodeName,
+    D: LogDisk + Drop,
+    R: Receipt,
+    F: StoreEnd<Receipt = R> + Drop,
+    W: Wait,
+>(
     rt: &W,
     alloc: Global,
     flushing: &Flushing<N>,
     sweeper: &mut Sweeper,
-    node: &Ingester<N, R>,
+    node: &Ingester<N, D, R>,
     ends: Vec<F>,
 ) -> Result<Vec<Worker<F, FreeGate>>, NodeFault>
     requires { sweeper.old.pass.queue ≡ flushing.now.queue.name }

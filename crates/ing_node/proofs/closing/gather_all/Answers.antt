@@ -1,8 +1,8 @@
-use Rattle.std.proofs.Common.{◌≡◌, ◌<◌, ◌+◌, ℕ, List, length, Some, arith, subst, sym, ap, ◌∙◌, slice_get, slice_set, vec_len}
+use Rattle.std.proofs.Common.{◌≡◌, ◌<◌, ◌+◌, ℕ, List, length, Some, arith, subst, sym, ap, ◌∙◌, slice_get, slice_index_or, slice_set, vec_len}
 use Rattle.ing_tally.specs.Books.{AreOf, ShareState, amount_of}
 use Rattle.ing_node.specs.Closing.{shares_at}
-use Rattle.ing_node.specs.Reports.{IsClosed}
-use Rattle.ing_node.proofs.ClosingLaws.{closed_as, complete_as, left_get, left_same, left_shares, none_left, popped_get, popped_shares, closed_set, rows_set}
+use Rattle.ing_node.specs.Reports.{IsGathered, recovered_at}
+use Rattle.ing_node.proofs.ClosingLaws.{below_set, complete_as, recovered_there, gathered_as, gathered_set, left_get, left_same, left_shares, none_left, popped_get, popped_shares, rows_set}
 use Rattle.ing_node.proofs.closing.gather_all.Goals as goal
 
 pub gather-requires-clause-own_pushing : goal.gather-requires-clause-own_pushing
@@ -53,9 +53,25 @@ gather-requires-clause-complete g c =
     let mine = popped_shares c.loop-held.pushing.items c.pop-in-Some.new.self.items c.in-Some-Some.pushers c.in-Some-Some.ensures.items place len_p c.args.pushing.items same_p in
     let told = popped_shares c.loop-held.stored.items c.pop-in-Some-2.new.self.items c.in-Some-Some.tallies c.in-Some-Some.ensures'.items place len_t c.args.stored.items same_t in
     let whole = at.complete place c.in-Some.held (popped_get c.loop-held.helds.items rest.items c.in-Some.held c.in-Some.ensures.items place len_h) in
-    complete_as place c.in-Some.held.shard.number (length (shares_at place c.args.pushing.items)) (length (shares_at place c.args.stored.items))
-    (vec_len c.in-Some-Some.pushers) (vec_len c.in-Some-Some.tallies) c.in-Some.held.shard (sym whole.number)
+    complete_as place c.in-Some.held.shard.memory.number (length (shares_at place c.args.pushing.items)) (length (shares_at place c.args.stored.items))
+    (vec_len c.in-Some-Some.pushers) (vec_len c.in-Some-Some.tallies) c.in-Some.held.shard.memory (sym whole.number)
     (ap length (sym mine) ∙ sym c.in-Some-Some.pushers.ok.0) (ap length (sym told) ∙ sym c.in-Some-Some.tallies.ok.0) whole
+
+pub gather-requires-clause-recovered : goal.gather-requires-clause-recovered
+gather-requires-clause-recovered g c =
+    let at = c.loop-held.invariant in
+    let rest = c.pop.new.self in
+    let place = vec_len rest in
+    let longer : vec_len c.loop-held.helds ≡ place + 1 = omega (arith, c.in-Some.ensures.len) in
+    let len_p : length c.pop-in-Some.new.self.items ≡ place = omega (arith, c.in-Some-Some.ensures.len, at.pushing, longer, c.pop-in-Some.new.self.ok.0) in
+    let same_p : (i : ℕ) → i < place + 1 → shares_at i c.loop-held.pushing.items ≡ shares_at i c.args.pushing.items = λ i below. at.same_pushing i (omega (arith, below, longer)) in
+    let mine = popped_shares c.loop-held.pushing.items c.pop-in-Some.new.self.items c.in-Some-Some.pushers c.in-Some-Some.ensures.items place len_p c.args.pushing.items same_p in
+    let is : c.index.result.now.recovered ≡ recovered_at place c.args.reports.items =
+    recovered_there c.loop-held.reports.items c.args.reports.items place c.index.result.now (omega (arith, at.left, longer, c.loop-held.reports.ok.0))
+    (c.index.ensures ∙ ap (λ n. slice_index_or c.loop-held.reports.items n c.index.result.now) c.len-place.ensures) (at.before place (omega (arith, longer))) in
+    let within = c.requires.recovered place (omega (arith, at.left, at.reports, longer, c.args.reports.ok.0)) in
+    let amount = ap amount_of mine in
+    omega (arith, is, within, amount)
 
 pub loop-held-preserved : goal.loop-held-preserved
 loop-held-preserved g c =
@@ -72,8 +88,11 @@ loop-held-preserved g c =
     let told = popped_shares c.loop-held.stored.items c.pop-in-Some-2.new.self.items c.in-Some-Some.tallies c.in-Some-Some.ensures'.items place len_t c.args.stored.items same_t in
     let whole = at.complete place c.in-Some.held (popped_get c.loop-held.helds.items rest.items c.in-Some.held c.in-Some.ensures.items place len_h) in
     let placed : c.len-place.result ≡ place = c.len-place.ensures in
-    let done : IsClosed (amount_of (shares_at place c.args.pushing.items)) (amount_of (shares_at place c.args.stored.items)) c.gather.result =
-    closed_as (amount_of c.in-Some-Some.pushers.items) (amount_of c.in-Some-Some.tallies.items) _ _ c.gather.result (ap amount_of mine) (ap amount_of told) c.gather.ensures.closed in
+    let done : IsGathered (recovered_at place c.args.reports.items) (amount_of (shares_at place c.args.pushing.items)) (amount_of (shares_at place c.args.stored.items)) c.gather.result =
+    gathered_as _ (amount_of c.in-Some-Some.pushers.items) (amount_of c.in-Some-Some.tallies.items) _ _ _ c.gather.result
+    (recovered_there c.loop-held.reports.items c.args.reports.items place c.index.result.now (omega (arith, at.left, longer, c.loop-held.reports.ok.0))
+    (c.index.ensures ∙ ap (λ n. slice_index_or c.loop-held.reports.items n c.index.result.now) c.len-place.ensures) (at.before place (omega (arith, longer))))
+    (ap amount_of mine) (ap amount_of told) c.gather.ensures.closed in
     record {
       pushing = omega (arith, len_p, c.pop-in-Some.new.self.ok.0);
       stored = omega (arith, len_t, c.pop-in-Some-2.new.self.ok.0);
@@ -83,13 +102,15 @@ loop-held-preserved g c =
       same_stored = left_shares c.loop-held.stored.items c.pop-in-Some-2.new.self.items c.in-Some-Some.tallies c.in-Some-Some.ensures'.items place len_t c.args.stored.items same_t;
       complete = λ i held there. at.complete i held (left_get c.loop-held.helds.items rest.items c.in-Some.held c.in-Some.ensures.items i held there);
       closed = λ i report past there.
-          closed_set (λ n. amount_of (shares_at n c.args.pushing.items)) (λ n. amount_of (shares_at n c.args.stored.items)) c.loop-held.reports.items place c.gather.result done
+          gathered_set (λ n. recovered_at n c.args.reports.items) (λ n. amount_of (shares_at n c.args.pushing.items)) (λ n. amount_of (shares_at n c.args.stored.items)) c.loop-held.reports.items place c.gather.result done
           (λ j r beyond. at.closed j r (omega (arith, beyond, longer))) i report past
           (subst (λ n. slice_get (slice_set c.loop-held.reports.items n c.gather.result) i ≡ Some report) placed there);
+      before = λ i below.
+          ap (λ n. slice_get (slice_set c.loop-held.reports.items n c.gather.result) i) placed ∙ below_set c.loop-held.reports.items place c.gather.result i below ∙ at.before i (omega (arith, below, longer));
       same_helds = λ i below.
           left_same c.loop-held.helds.items rest.items c.in-Some.held c.in-Some.ensures.items i (omega (arith, below, len_h)) ∙ at.same_helds i (omega (arith, below, longer));
       rows = λ i held report past there counted.
-          rows_set (λ h. h.shard) c.args.helds.items c.loop-held.reports.items place c.gather.result c.in-Some.held
+          rows_set (λ h. h.shard.memory) c.args.helds.items c.loop-held.reports.items place c.gather.result c.in-Some.held
           (sym (at.same_helds place (omega (arith, longer))) ∙ popped_get c.loop-held.helds.items rest.items c.in-Some.held c.in-Some.ensures.items place len_h)
           c.gather.ensures.rows
           (λ j h r beyond. at.rows j h r (omega (arith, beyond, longer))) i held report past there

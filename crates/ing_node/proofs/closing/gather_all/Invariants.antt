@@ -2,8 +2,7 @@ use Rattle.std.proofs.Common.{◌≡◌, ◌≤◌, ◌<◌, ℕ, Some, length, 
 use Rattle.ing_tally.specs.Books.{amount_of}
 use Rattle.ing_node.specs.declared.report.ShardReport.{ShardReport}
 use Rattle.ing_node.specs.Closing.{AreComplete, shares_at}
-use Rattle.ing_node.specs.Reports.{CountRowsFrom}
-use Rattle.ing_node.specs.Reports.{IsClosed}
+use Rattle.ing_node.specs.Reports.{CountRowsFrom, IsGathered, recovered_at}
 use Rattle.ing_node.proofs.closing.gather_all.Given as goal
 
 -- the shards that are left are as they were, and the others are closed
@@ -15,12 +14,13 @@ invariant-loop-held g l = record {
   left : vec_len l.helds ≤ vec_len l.reports;
   same_pushing : (i : ℕ) → i < vec_len l.helds → shares_at i l.pushing.items ≡ shares_at i l.initial.pushing.items;
   same_stored : (i : ℕ) → i < vec_len l.helds → shares_at i l.stored.items ≡ shares_at i l.initial.stored.items;
-  complete : AreComplete (λ held. held.shard) (λ i. length (shares_at i l.initial.pushing.items))
+  complete : AreComplete (λ held. held.shard.memory) (λ i. length (shares_at i l.initial.pushing.items))
       (λ i. length (shares_at i l.initial.stored.items)) l.helds.items;
   closed : (i : ℕ) (report : ShardReport) → vec_len l.helds ≤ i → slice_get l.reports.items i ≡ Some report
-      → IsClosed (amount_of (shares_at i l.initial.pushing.items)) (amount_of (shares_at i l.initial.stored.items)) report;
+      → IsGathered (recovered_at i l.initial.reports.items) (amount_of (shares_at i l.initial.pushing.items)) (amount_of (shares_at i l.initial.stored.items)) report;
+  before : (i : ℕ) → i < vec_len l.helds → slice_get l.reports.items i ≡ slice_get l.initial.reports.items i;
   same_helds : (i : ℕ) → i < vec_len l.helds → slice_get l.helds.items i ≡ slice_get l.initial.helds.items i;
-  rows : CountRowsFrom (vec_len l.helds) (λ held. held.shard) l.initial.helds.items l.reports.items;
+  rows : CountRowsFrom (vec_len l.helds) (λ held. held.shard.memory) l.initial.helds.items l.reports.items;
 }
 
 abbrev pub decreases-loop-held : goal.decreases-loop-held

@@ -3,6 +3,7 @@ use Rattle.ing_tally.specs.Books.{ShareState}
 use Rattle.ing_node.specs.Closing.{HaveRoom, one_at, shares_at}
 use Rattle.ing_node.specs.Diaries.{PusherState}
 use Rattle.ing_node.specs.Names.{AreAcceptedIn}
+use Rattle.ing_node.proofs.ClosingLaws.{none_left}
 use Rattle.ing_node.proofs.Handing.{accepted_one, gathered_count, gathered_own, gathered_sum}
 use Rattle.ing_node.proofs.gathering.hand_out_pushers.Goals as goal
 
@@ -21,9 +22,16 @@ loop-pusher-preserved g c =
     record {
       all = c.hand_out_told.ensures.count ∙ at.all;
       room = c.hand_out_told.ensures.room (vec_len c.pop.new.self) (subst (λ n. HaveRoom n old) len at.room);
+      more = λ n have. c.hand_out_told.ensures.room (vec_len c.pop.new.self + n) (subst (λ m. HaveRoom m old) (omega (arith, len)) (at.more n have));
       own = λ i. gathered_own i (shares_at i new) (shares_at i old) pusher (is i) (books i).accepted (at.own i) (accepted_one books pusher own i);
       count = λ i below.
           let one = gathered_count i (shares_at i new) (shares_at i old) pusher (is i) (omega (arith, below, length_is)) in
           omega (arith, one, at.count i below, len);
       sum = λ i. gathered_sum i (shares_at i new) (shares_at i old) pusher (is i) (λ (p : PusherState). p.told) c.in-Some.pusher refl c.pop.new.self.items c.loop-pusher.pushers.items c.in-Some.ensures.items _ (at.sum i);
     }
+
+pub returns-clause-room : goal.returns-clause-room
+returns-clause-room g c n have i list at =
+    let none = none_left (vec_len c.loop-pusher.pushers) c.in_default.ensures.variant.1 in
+    let more = c.loop-pusher.invariant.more n have i list at in
+    omega (arith, more, none)

@@ -11,6 +11,7 @@ abbrev pub invariant-loop-tally : goal.invariant-loop-tally
 invariant-loop-tally g l = record {
   all : vec_len l.lists ≡ g.N.NodeName.settings.shards;
   room : HaveRoom (vec_len l.tallies) l.lists.items;
+  more : (n : ℕ) → HaveRoom (vec_len l.initial.tallies + n) l.initial.lists.items → HaveRoom (vec_len l.tallies + n) l.lists.items;
   own : (i : ℕ) → AreOf (g.N.NodeName.books i).stored (shares_at i l.lists.items);
   tallies : All (IsTallyOf g.N.NodeName.settings.shards g.N.NodeName.books) l.tallies.items;
   count : (i : ℕ) → i < g.N.NodeName.settings.shards → length (shares_at i l.lists.items) + vec_len l.tallies ≡ vec_len l.initial.tallies;

@@ -53,3 +53,15 @@ returns-in-Err-clause-own g c =
     accepted_at books ss place c.told.inside.share c.index_mut-told.result.now c.requires.own below (c.told.view_is ∙ c.index_mut-told.ensures.value) in
     let same : t.book ≡ c.told.inside.share.book = ap (λ s. s.book) c.in-Err.ensures.err in
     accepted_set books ss place t c.requires.own (same ∙ was)
+
+pub returns-in-Ok-clause-own : goal.returns-in-Ok-clause-own
+returns-in-Ok-clause-own g c =
+    let books = g.N.NodeName.books in
+    let ss = c.args.told.now.items in
+    let place = c.args.shard in
+    let t = c.push-pushed.new.share in
+    let below : place < length ss = search rules in
+    let was : c.told.inside.share.book ≡ (books place).accepted =
+    accepted_at books ss place c.told.inside.share c.index_mut-told.result.now c.requires.own below (c.told.view_is ∙ c.index_mut-told.ensures.value) in
+    let same : t.book ≡ c.told.inside.share.book = ap (λ s. s.book) c.in-Ok.ensures.told in
+    accepted_set books ss place t c.requires.own (same ∙ was)

@@ -7,7 +7,7 @@ use Rattle.ing_node.proofs.settling.settle_all.Given as goal
 abbrev pub invariant-loop-place : goal.invariant-loop-place
 invariant-loop-place g l = record {
   settled : g.S.StoreEnd.is_honest → (i : ℕ) (held : _) → i < l.place → slice_get l.helds i ≡ Some held
-      → AreNoted held.shard.state.rows (notes_at g.N.NodeName.settings.shards i l.pushers);
+      → AreNoted held.shard.memory.state.rows (notes_at g.N.NodeName.settings.shards i l.pushers);
   count : g.S.StoreEnd.failure_count l.end ≡ g.S.StoreEnd.failure_count l.initial.end;
   sure : g.S.StoreEnd.never_fails l.initial.end → g.S.StoreEnd.never_fails l.end;
 }

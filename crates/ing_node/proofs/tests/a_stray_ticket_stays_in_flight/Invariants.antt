@@ -1,6 +1,13 @@
+use Rattle.std.proofs.Common.{reverse, true}
+use Rattle.ing_node.specs.Earlier.{earlier_of}
 use Rattle.ing_node.specs.Names.{names_at}
 use Rattle.ing_node.proofs.tests.a_stray_ticket_stays_in_flight.Given as goal
 
 -- the settings and the books of the shards that were just made
 abbrev pub ghosts-strayed : goal.ghosts-strayed
-ghosts-strayed g a = record { settings = a.shards.settings; books = names_at a.shards.shards.items }
+ghosts-strayed g a = record {
+  settings = a.shards.settings;
+  has_logs = true;
+  books = names_at (reverse a.shards.last_first.items);
+  earlier = earlier_of (reverse a.shards.last_first.items);
+}

@@ -1,4 +1,4 @@
-use Rattle.std.proofs.Common.{◌≡◌, ◌≤◌, length, arith, subst, sym}
+use Rattle.std.proofs.Common.{◌≡◌, ◌≤◌, ◌∙◌, ap, length, arith, subst, sym}
 use Rattle.std.proofs.lemmas.List.Sorted.{IsPermutation-refl}
 use Rattle.ing_rows.specs.Rows.{IsSame}
 use Rattle.ing_shard.specs.Contents.{Contents, Stands}
@@ -6,15 +6,16 @@ use Rattle.ing_node.proofs.held.Held.snapshot.Goals as goal
 
 pub returns-clause-front : goal.returns-clause-front
 returns-clause-front g c =
-    let shard = c.args.self.now.shard in
+    let shard = c.args.self.now.shard.memory in
     let same : IsSame shard.state shard.state = record { rows = IsPermutation-refl shard.state.rows; marks = IsPermutation-refl shard.state.marks } in
     let below : c.args.share.now.amount ≤ length shard.state.rows = c.covers.ensures.amount shard.state same in
+    let stays = c.memory.ensures ∙ ap (λ s. s.memory) c.covers.ensures.shard in
     let front : c.in_ok-snapshot.field-0.front ≡ length shard.state.rows =
-    c.in_ok-snapshot.ensures.front shard.state (subst (λ (s : Contents). Stands s shard.state) (sym c.covers.ensures.shard) same) in
+    c.in_ok-snapshot.ensures.front shard.state (subst (λ (s : Contents). Stands s shard.state) (sym stays) same) in
     omega (arith, below, front)
 
 pub returns-clause-asked : goal.returns-clause-asked
 returns-clause-asked g c =
     let range = c.in_ok-snapshot.ensures.range in
-    let law = c.snapshots_are_selected.ensures c.args.tenant.now c.args.selector.now c.covers.new.self.state.rows c.in_ok-snapshot.field-0 c.in_ok-snapshot.ensures.rows in
+    let law = c.snapshots_are_selected.ensures c.args.tenant.now c.args.selector.now c.memory.result.now.state.rows c.in_ok-snapshot.field-0 c.in_ok-snapshot.ensures.rows in
     record { start = range.0; end = range.1; kept = law.1; selected = law.0 }

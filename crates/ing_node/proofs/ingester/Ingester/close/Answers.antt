@@ -1,42 +1,67 @@
-use Rattle.std.proofs.Common.{◌≡◌, ◌<◌, ap, arith, List, length, refl, sym, subst, ◌∙◌, slice_get, vec_len}
+use Rattle.std.proofs.Common.{◌≡◌, ◌<◌, ◌+◌, ap, arith, List, length, refl, sym, subst, ◌∙◌, slice_get, vec_len}
 use Rattle.std.specs.Prelude.{All, sum_by}
 use Rattle.ing_tally.specs.Books.{amount_of}
 use Rattle.ing_flush.specs.Tallies.{amount_at}
 use Rattle.ing_node.specs.Closing.{shares_at}
-use Rattle.ing_node.proofs.ClosingLaws.{closed_as, complete_as, get_below, there}
+use Rattle.ing_node.proofs.ClosingLaws.{closed_by, complete_as, gathered_as, get_below, is_yes, there}
 use Rattle.ing_diary.specs.Notes.{AreNoted}
 use Rattle.ing_node.specs.Diaries.{KeepsDiary, PusherState, notes_at}
 use Rattle.ing_node.proofs.ingester.Ingester.close.Goals as goal
+
+pub hand_out_pushers-requires-clause-room : goal.hand_out_pushers-requires-clause-room
+hand_out_pushers-requires-clause-room g c i list at = let room = c.in-Ok.ensures.pushing.2 i list at in omega (arith, room)
+
+pub hand_out_tallies-requires-clause-room : goal.hand_out_tallies-requires-clause-room
+hand_out_tallies-requires-clause-room g c i list at = let room = c.in-Ok.ensures.stored.2 i list at in omega (arith, room)
+
+pub hand_out_earlier-requires-clause-pushing_room : goal.hand_out_earlier-requires-clause-pushing_room
+hand_out_earlier-requires-clause-pushing_room g c = c.hand_out_pushers.ensures.room 1 (λ i list at. let room = c.in-Ok.ensures.pushing.2 i list at in omega (arith, room, c.len.ensures))
+
+pub hand_out_earlier-requires-clause-stored_room : goal.hand_out_earlier-requires-clause-stored_room
+hand_out_earlier-requires-clause-stored_room g c = c.hand_out_tallies.ensures.room 1 (λ i list at. let room = c.in-Ok.ensures.stored.2 i list at in omega (arith, room, c.len-2.ensures))
+
+pub gather_all-requires-clause-recovered : goal.gather_all-requires-clause-recovered
+gather_all-requires-clause-recovered g c i below =
+    let here : i < g.N.NodeName.settings.shards = omega (arith, below, c.note-reports.result.ok.0, c.note-reports.ensures.all) in
+    let noted = c.note-reports.ensures.noted i here in
+    let told = c.hand_out_earlier.ensures.pushing_sum i in
+    omega (arith, noted, told)
 
 pub gather_all-requires-clause-complete : goal.gather_all-requires-clause-complete
 gather_all-requires-clause-complete g c i held at =
     let helds = c.into_shards-helds.result in
     let below : i < g.N.NodeName.settings.shards = omega (arith, get_below helds.items i held at, helds.ok.0, c.into_shards-helds.ensures, c.args.self.all) in
-    let told : vec_len c.args.pushers ≡ length (shares_at i c.hand_out_pushers.new.lists.items) = sym (c.hand_out_pushers.ensures.count i below) in
-    let counted : vec_len c.args.tallies ≡ length (shares_at i c.hand_out_tallies.new.lists.items) = sym (c.hand_out_tallies.ensures.count i below) in
     let pushers : length c.deref-2.result.now ≡ vec_len c.args.pushers = ap length c.deref-2.ensures.value ∙ sym c.args.pushers.ok.0 in
-    complete_as i i (length c.deref-2.result.now) c.len-4.result (length (shares_at i c.hand_out_pushers.new.lists.items)) (length (shares_at i c.hand_out_tallies.new.lists.items)) held.shard refl
-    (pushers ∙ told) (c.len-4.ensures ∙ counted) (c.in_default-is_closable.ensures.complete i held (ap (λ l. slice_get l i) c.deref.ensures.value ∙ at))
+    let told : length c.deref-2.result.now + 1 ≡ length (shares_at i c.hand_out_earlier.new.pushing.items) =
+    omega (arith, pushers, c.hand_out_pushers.ensures.count i below, c.hand_out_earlier.ensures.pushing_count i below) in
+    let counted : c.len-2.result + 1 ≡ length (shares_at i c.hand_out_earlier.new.stored.items) =
+    omega (arith, c.len-2.ensures, c.hand_out_tallies.ensures.count i below, c.hand_out_earlier.ensures.stored_count i below) in
+    complete_as i i (length c.deref-2.result.now + 1) (c.len-2.result + 1) (length (shares_at i c.hand_out_earlier.new.pushing.items)) (length (shares_at i c.hand_out_earlier.new.stored.items)) held.shard.memory refl
+    told counted (c.in_default-is_closable.ensures.complete i held (ap (λ l. slice_get l i) c.deref.ensures.value ∙ at))
 
 pub returns-clause-closed : goal.returns-clause-closed
 returns-clause-closed g c i report at =
-    closed_as (amount_of (shares_at i c.hand_out_pushers.new.lists.items)) (amount_of (shares_at i c.hand_out_tallies.new.lists.items))
-    (sum_by (λ p. amount_at i p.told) c.args.pushers.items) (sum_by (amount_at i) c.args.tallies.items) report
-    (c.hand_out_pushers.ensures.sum i) (c.hand_out_tallies.ensures.sum i) (c.gather_all.ensures.closed i report at)
+    let here : i < g.N.NodeName.settings.shards = omega (arith, get_below c.gather_all.result.items i report at, c.gather_all.result.ok.0, c.gather_all.ensures.all, c.note-reports.ensures.all) in
+    closed_by (amount_at i g.N.NodeName.earlier.told) (amount_at i g.N.NodeName.earlier.stored) (sum_by (λ p. amount_at i p.told) c.args.pushers.items) (sum_by (amount_at i) c.args.tallies.items)
+    (amount_of (shares_at i c.hand_out_earlier.new.pushing.items)) (amount_of (shares_at i c.hand_out_earlier.new.stored.items)) report
+    (c.hand_out_earlier.ensures.pushing_sum i ∙ ap (λ n. n + amount_at i g.N.NodeName.earlier.told) (c.hand_out_pushers.ensures.sum i))
+    (c.hand_out_earlier.ensures.stored_sum i ∙ ap (λ n. n + amount_at i g.N.NodeName.earlier.stored) (c.hand_out_tallies.ensures.sum i))
+    (gathered_as _ _ _ _ _ _ report (c.note-reports.ensures.noted i here) refl refl (c.gather_all.ensures.closed i report at))
 
 pub returns-clause-settled : goal.returns-clause-settled
-returns-clause-settled g c honest keep i report at =
+returns-clause-settled g c honest keep none i report at =
     let shards = g.N.NodeName.settings.shards in
     let helds = c.into_shards-helds.result in
     let reported = get_below c.gather_all.result.items i report at in
-    let below : i < length helds.items = omega (arith, reported, c.gather_all.result.ok.0, c.gather_all.ensures.all, c.in-Ok.ensures.reports, c.len.ensures, c.into_shards-helds.ensures, helds.ok.0) in
+    let below : i < length helds.items = omega (arith, reported, c.gather_all.result.ok.0, c.gather_all.ensures.all, c.note-reports.ensures.all, c.in-Ok.ensures.reports, c.len.ensures, c.into_shards-helds.ensures, helds.ok.0, c.args.self.all) in
     let mine = there helds.items i below in
-    let noted = c.in_default-is_closable.ensures.settled honest (subst (All KeepsDiary) (sym c.deref-2.ensures.value) keep) i mine.0 (ap (λ l. slice_get l i) c.deref.ensures.value ∙ mine.1) in
+    let fresh = is_yes c.is_none-is_new.result (λ no. c.is_none-is_new.ensures.no no none) in
+    let noted = c.in_default-is_closable.ensures.settled honest fresh (subst (All KeepsDiary) (sym c.deref-2.ensures.value) keep) i mine.0 (ap (λ l. slice_get l i) c.deref.ensures.value ∙ mine.1) in
     let counts = c.gather_all.ensures.rows i mine.0 report mine.1 at in
     record {
-      rows = mine.0.shard.state.rows;
-      noted = subst (λ (ps : List PusherState). AreNoted mine.0.shard.state.rows (notes_at shards i ps)) c.deref-2.ensures.value noted;
-      accepted = counts.accepted;
+      rows = mine.0.shard.memory.state.rows;
+      noted = subst (λ (ps : List PusherState). AreNoted mine.0.shard.memory.state.rows (notes_at shards i ps)) c.deref-2.ensures.value noted;
+      all = counts.all;
       stored = counts.stored;
       landed = counts.landed;
     }

@@ -1,14 +1,23 @@
-use Rattle.std.proofs.Common.{◌≡◌, ◌+◌, ◌≤◌, length, vec_len}
-use Rattle.std.specs.Prelude.{All}
+use Rattle.std.proofs.Common.{◌≡◌, ◌+◌, ◌++◌, ◌≤◌, false, map, reverse, vec_len}
+use Rattle.std.specs.List.{AllByRecursion}
 use Rattle.std.specs.Vec.{vec_capacity}
-use Rattle.std.specs.Vec.Iter.{into_iter_items, into_iter_len}
-use Rattle.ing_node.specs.Names.{IsNamed}
+use Rattle.ing_node.specs.Begun.{AreBegunFrom, HasTornLog}
+use Rattle.ing_node.proofs.PlaceLaws.{AreNamedFrom}
 use Rattle.ing_node.proofs.ingester.Ingester.open.Given as goal
 
-abbrev pub invariant-loop-shard : goal.invariant-loop-shard
-invariant-loop-shard g l = record {
-  whole : into_iter_len l.shard-iterator ≡ length (into_iter_items l.shard-iterator);
-  named : All (IsNamed g.N.NodeName.settings g.N.NodeName.books) (into_iter_items l.shard-iterator);
-  made : vec_len l.locks + into_iter_len l.shard-iterator ≡ g.N.NodeName.settings.shards;
-  room : vec_len l.locks + into_iter_len l.shard-iterator ≤ vec_capacity l.locks;
+-- the next shards have the next numbers, and what stands so far and what is to come is all
+abbrev pub invariant-loop-begun : goal.invariant-loop-begun
+invariant-loop-begun g l = record {
+  made : vec_len l.opening.locks + vec_len l.last_first ≡ g.N.NodeName.settings.shards;
+  locks : vec_len l.opening.locks + vec_len l.last_first ≤ vec_capacity l.opening.locks;
+  told_room : vec_len l.opening.locks + vec_len l.last_first ≤ vec_capacity l.opening.told;
+  stored_room : vec_len l.opening.locks + vec_len l.last_first ≤ vec_capacity l.opening.stored;
+  placed : AreBegunFrom g.N.NodeName.settings (vec_len l.opening.locks) (reverse l.last_first.items);
+  named : AreNamedFrom g.N.NodeName.books (vec_len l.opening.locks) (reverse l.last_first.items);
+  torn : g.N.NodeName.has_logs ≡ false → AllByRecursion HasTornLog (reverse l.last_first.items);
+  told : l.opening.told.items ++ map (λ b. b.accepted) (reverse l.last_first.items) ≡ map (λ b. b.accepted) (reverse l.initial.last_first.items);
+  stored : l.opening.stored.items ++ map (λ b. b.stored) (reverse l.last_first.items) ≡ map (λ b. b.stored) (reverse l.initial.last_first.items);
 }
+
+abbrev pub decreases-loop-begun : goal.decreases-loop-begun
+decreases-loop-begun g l = vec_len l.last_first

@@ -1,5 +1,5 @@
 use Rattle.std.proofs.Common.{arith, refl}
-use Rattle.ing_program.proofs.shards.fn.run_locked.flush.Goals as goal
+use Rattle.ing_program.proofs.shards.fn.serve_locked.flush.Goals as goal
 
 -- the end by which queries read is left alone
 pub returns : goal.returns

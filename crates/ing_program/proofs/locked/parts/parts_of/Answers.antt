@@ -1,12 +1,12 @@
 use Rattle.std.proofs.Common.{arith, sym}
 use Rattle.ing_program.proofs.LedgerLaws.{none_told}
-use Rattle.ing_program.proofs.locked.Locked.open.Goals as goal
+use Rattle.ing_program.proofs.locked.parts.parts_of.Goals as goal
 
 -- nothing is told, and nothing is counted
-pub returns-in-Ok-workers_of-clause-nothing : goal.returns-in-Ok-workers_of-clause-nothing
-returns-in-Ok-workers_of-clause-nothing g c = record {
+pub returns-in-Ok-clause-nothing : goal.returns-in-Ok-clause-nothing
+returns-in-Ok-clause-nothing g c = record {
   told = λ i. sym (none_told c.in_ok-pusher.pusher.told c.in_ok-pusher.ensures.zero i);
   chunks = omega arith;
-  none = λ is. c.in-Ok-workers_of.ensures.none;
+  none = λ is. c.in-Ok.ensures.none;
   board = λ i. (omega arith, omega arith);
 }

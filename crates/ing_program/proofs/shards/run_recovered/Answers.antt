@@ -1,0 +1,75 @@
+use Rattle.std.proofs.Common.{◌≡◌, ap, refl, subst, sym, inl, inr, reverse, true}
+use Rattle.std.specs.Prelude.{◌⊎◌, IsTrue}
+use Rattle.std.proofs.lemmas.Result.{on_ok_weaker}
+use Rattle.ing_node.specs.Earlier.{earlier_of}
+use Rattle.ing_node.specs.Names.{names_in}
+use Rattle.ing_session.specs.Runs.{AnswersAll, AnswersWhatWasRead, AnswersFirstLines, AnswersFront}
+use Rattle.ing_session.proofs.KnownLaws.{if_some_then}
+use Rattle.ing_session.specs.Endings.{IsNotOpened, IsNotRecovered, is_of_run}
+use Rattle.ing_program.proofs.StartingLaws.{recover_ending}
+use Rattle.ing_program.specs.ByLedger.{Began, began_with, by_ledger}
+use Rattle.ing_program.proofs.shards.run_recovered.Goals as goal
+
+pub run_locked-requires-clause-named : goal.run_locked-requires-clause-named
+run_locked-requires-clause-named g c = λ κs lives i s at. sym (ap names_in at)
+
+pub returns-in-Ok-clause-output : goal.returns-in-Ok-clause-output
+returns-in-Ok-clause-output g c =
+    let failures = g.S.StoreEnd.failure_count in
+    let contents = g.O.Write.contents in
+    let ended = c.run_locked.new in
+    let shards = c.in-Ok.shards in
+    let began = began_with true (earlier_of (reverse shards.last_first.items)) in
+    on_ok_weaker c.run_locked.result
+    (if_some_then
+    (λ input. AnswersAll (by_ledger began shards.settings.shards) shards.settings input (failures c.args.end.now) (failures ended.end) (contents c.args.writer.now) (contents ended.writer))
+    (λ input. (b : Began) × (b.logs ≡ true) × AnswersAll (by_ledger b c.args.settings.shards) c.args.settings input (failures c.args.end.now) (failures ended.end) (contents c.args.writer.now) (contents ended.writer))
+    (g.I.Read.remaining c.args.reader.now)
+    (λ input answers. (began, refl, subst (λ s. AnswersAll (by_ledger began s.shards) s input (failures c.args.end.now) (failures ended.end) (contents c.args.writer.now) (contents ended.writer)) c.in-Ok.ensures.settings answers)))
+    c.run_locked.ensures.output
+
+pub returns-in-Ok-clause-input_fault : goal.returns-in-Ok-clause-input_fault
+returns-in-Ok-clause-input_fault g c = λ is.
+    let failures = g.S.StoreEnd.failure_count in
+    let contents = g.O.Write.contents in
+    let ended = c.run_locked.new in
+    let shards = c.in-Ok.shards in
+    let began = began_with true (earlier_of (reverse shards.last_first.items)) in
+    if_some_then
+    (λ input. AnswersWhatWasRead (by_ledger began shards.settings.shards) shards.settings input (g.I.Read.remaining c.run_locked.new.reader) (failures c.args.end.now) (failures ended.end) (contents c.args.writer.now) (contents ended.writer))
+    (λ input. (b : Began) × (b.logs ≡ true) × AnswersWhatWasRead (by_ledger b c.args.settings.shards) c.args.settings input (g.I.Read.remaining c.run_locked.new.reader) (failures c.args.end.now) (failures ended.end) (contents c.args.writer.now) (contents ended.writer))
+    (g.I.Read.remaining c.args.reader.now)
+    (λ input answers. (began, refl, subst (λ s. AnswersWhatWasRead (by_ledger began s.shards) s input (g.I.Read.remaining c.run_locked.new.reader) (failures c.args.end.now) (failures ended.end) (contents c.args.writer.now) (contents ended.writer)) c.in-Ok.ensures.settings answers))
+    (c.run_locked.ensures.input_fault is)
+
+pub returns-in-Ok-clause-no_memory : goal.returns-in-Ok-clause-no_memory
+returns-in-Ok-clause-no_memory g c = λ is.
+    let failures = g.S.StoreEnd.failure_count in
+    let contents = g.O.Write.contents in
+    let ended = c.run_locked.new in
+    let shards = c.in-Ok.shards in
+    let began = began_with true (earlier_of (reverse shards.last_first.items)) in
+    let said = if_some_then
+    (λ input. AnswersFirstLines (by_ledger began shards.settings.shards) shards.settings input (failures c.args.end.now) (failures ended.end) (contents c.args.writer.now) (contents ended.writer))
+    (λ input. (b : Began) × (b.logs ≡ true) × AnswersFirstLines (by_ledger b c.args.settings.shards) c.args.settings input (failures c.args.end.now) (failures ended.end) (contents c.args.writer.now) (contents ended.writer))
+    (g.I.Read.remaining c.args.reader.now)
+    (λ input answers. (began, refl, subst (λ s. AnswersFirstLines (by_ledger began s.shards) s input (failures c.args.end.now) (failures ended.end) (contents c.args.writer.now) (contents ended.writer)) c.in-Ok.ensures.settings answers)) in
+    elim (c.run_locked.ensures.no_memory is) [ inl same ↦ inl same | inr run ↦ inr (said run) ]
+
+pub returns-in-Ok-clause-output_fault : goal.returns-in-Ok-clause-output_fault
+returns-in-Ok-clause-output_fault g c = λ is.
+    let failures = g.S.StoreEnd.failure_count in
+    let contents = g.O.Write.contents in
+    let ended = c.run_locked.new in
+    let shards = c.in-Ok.shards in
+    let began = began_with true (earlier_of (reverse shards.last_first.items)) in
+    if_some_then
+    (λ input. AnswersFront (by_ledger began shards.settings.shards) shards.settings input (failures c.args.end.now) (failures ended.end) (contents c.args.writer.now) (contents ended.writer))
+    (λ input. (b : Began) × (b.logs ≡ true) × AnswersFront (by_ledger b c.args.settings.shards) c.args.settings input (failures c.args.end.now) (failures ended.end) (contents c.args.writer.now) (contents ended.writer))
+    (g.I.Read.remaining c.args.reader.now)
+    (λ input answers. (began, refl, subst (λ s. AnswersFront (by_ledger began s.shards) s input (failures c.args.end.now) (failures ended.end) (contents c.args.writer.now) (contents ended.writer)) c.in-Ok.ensures.settings answers))
+    (c.run_locked.ensures.output_fault is)
+
+pub returns-in-Err-clause-ending : goal.returns-in-Err-clause-ending
+returns-in-Err-clause-ending g c =
+    subst (λ e. IsTrue (is_of_run e) ⊎ IsNotOpened e ⊎ IsNotRecovered e) (sym c.from.ensures) (recover_ending c.in-Err.fault)

@@ -1,0 +1,113 @@
+//! What lies in a folder: the logs of shards, and a store.
+ghost use Rattle.std.specs.Prelude.{◌≡◌, ◌⊎◌, IfErr, IfOk, vec_len};
+ghost use Rattle.ing_session.specs.declared.ending.Ending.{Ending};
+
+use ing_folder::{FolderFault, FolderLog, FolderStore};
+use ing_session::Ending;
+use ing_store::StoreEnd;
+use ing_wal::LogDisk;
+use std::alloc::Global;
+use std::rt::Files;
+
+/// What opens logs, D, and ends of a store, E, that lie in folders.
+pub trait Folders<D: LogDisk, E: StoreEnd> {
+    ghost use Rattle.std.specs.Prelude.{◌≡◌, IfOk};
+
+    /// The log in the file of this name; what is absent is made. `Failed` where the file system failed.
+    fn log(&self, alloc: Global, folder: &str, name: &str) -> Result<D, FolderFault>;
+
+    /// An end of the store in a folder, which has not failed yet; the folder is made where it is absent. The ends of one folder have
+    /// numbers of their own. `Failed` where the file system failed.
+    fn end(&self, alloc: Global, folder: &str, number: u32) -> Result<E, FolderFault>
+        ensures { IfOk result (λ end. E.failure_count end ≡ 0) };
+}
+
+/// The folders of a file system.
+#[derive(Drop)]
+pub struct Disk<'a, R: Files + AllocGlobal> {
+    rt: &'a R,
+}
+
+impl<'a, R: Files + AllocGlobal> Disk<'a, R> {
+    /// Those of this file system.
+    pub fn new(rt: &'a R) -> Disk<'a, R> {
+        Disk { rt }
+    }
+}
+
+impl<'a, R: Files + AllocGlobal> Folders<FolderLog<'a, R>, FolderStore<'a, R>> for Disk<'a, R> {
+    fn log(
+        &self,
+        alloc: Global,
+        folder: &str,
+        name: &str,
+    ) -> Result<FolderLog<'a, R>, FolderFault> {
+        FolderLog::open(self.rt, alloc, folder, name)
+    }
+
+    fn end(
+        &self,
+        alloc: Global,
+        folder: &str,
+        number: u32,
+    ) -> Result<FolderStore<'a, R>, FolderFault> {
+        FolderStore::open(self.rt, alloc, folder, number)
+    }
+}
+
+/// The logs of so many shards, each the file `wal-` and the shard's number of a folder. `NoFolder` where one cannot be opened, and
+/// `NoMemory`.
+pub(crate) fn logs_in<D: LogDisk + Drop, E: StoreEnd, X: Folders<D, E>>(
+    alloc: Global,
+    folders: &X,
+    folder: &str,
+    count: u32,
+) -> Result<Vec<D>, Ending>
+    ensures count { IfOk result (λ logs. vec_len logs ≡ count) }
+    ensures ending { IfErr result (λ e. (e ≡ Ending.NoMemory) ⊎ (e ≡ Ending.NoFolder)) }
+{
+    let mut logs = Vec::with_capacity(alloc, count as usize)?;
+    for number in 0..count {
+        let name = format!(in alloc; "wal-{number}")?;
+        match folders.log(alloc, folder, name.as_str()) {
+            Ok(log) => logs.push(log)?,
+            Err(FolderFault::NoMemory) => return Err(Ending::NoMemory),
+            Err(FolderFault::Failed) => return Err(Ending::NoFolder),
+        }
+    }
+    Ok(logs)
+}
+
+/// An end of the store in a folder, of this number. `NoObjects` where it cannot be opened, and `NoMemory`.
+pub(crate) fn end_in<D: LogDisk, E: StoreEnd, X: Folders<D, E>>(
+    alloc: Global,
+    folders: &X,
+    folder: &str,
+    number: u32,
+) -> Result<E, Ending>
+    ensures fresh { IfOk result (λ end. E.failure_count end ≡ 0) }
+    ensures ending { IfErr result (λ e. (e ≡ Ending.NoMemory) ⊎ (e ≡ Ending.NoObjects)) }
+{
+    match folders.end(alloc, folder, number) {
+        Ok(end) => Ok(end),
+        Err(FolderFault::NoMemory) => Err(Ending::NoMemory),
+        Err(FolderFault::Failed) => Err(Ending::NoObjects),
+    }
+}
+
+/// So many ends of the store in a folder, with numbers from 1 on. As `end_in`.
+pub(crate) fn ends_in<D: LogDisk, E: StoreEnd + Drop, X: Folders<D, E>>(
+    alloc: Global,
+    folders: &X,
+    folder: &str,
+    count: u32,
+) -> Result<Vec<E>, Ending>
+    ensures count { IfOk result (λ ends. vec_len ends ≡ count) }
+    ensures ending { IfErr result (λ e. (e ≡ Ending.NoMemory) ⊎ (e ≡ Ending.NoObjects)) }
+{
+    let mut ends = Vec::with_capacity(alloc, count as usize)?;
+    for number in 0..count {
+        ends.push(end_in(alloc, folders, folder, number + 1)?)?;
+    }
+    Ok(ends)
+}

@@ -1,0 +1,84 @@
+//! A run over the logs and the store in a folder.
+ghost use Rattle.std.specs.Prelude.{◌≡◌, ◌≢◌, ◌⊎◌, IfErr, IfSome, IsErrOf, Err, Ok, OnOk};
+ghost use Rattle.ing_limits.specs.Settings.{StoreSettings};
+ghost use Rattle.ing_program.specs.Starting.{IsOfFolder, IsOverFolder, started_by};
+ghost use Rattle.ing_session.specs.Endings.{IsNotOpened, ending_status, refusal_of};
+ghost use Rattle.ing_session.specs.Runs.{AnswersAll, AnswersFirstLines, AnswersFront, AnswersWhatWasRead};
+
+use crate::folders::{Folders, end_in, ends_in, logs_in};
+use crate::program::settings_of_file;
+use crate::shards::run_recovered;
+use ing_session::Ending;
+use ing_store::{Receipt, StoreEnd};
+use ing_wal::LogDisk;
+use std::io::{Read, Write};
+use std::sync::Wait;
+use std::thread::Threads;
+
+/// Runs by the settings that the bytes of a settings file give, over the logs and the store in a folder: the log of each shard is the
+/// file `wal-` and its number, and the objects of the store lie in the folder `objects`; what is absent is made. As `run_recovered`.
+///
+/// `NotToml`, `UnknownSetting` and `BadSetting` as `start_on`; then `NoFolder` where a log cannot be opened, and `NoObjects` where the
+/// folder of the objects cannot; then `NotRecovered`, as `run_recovered` says, and the others. Up to there nothing is written. `NoMemory`
+/// may stand in place of any. (Own.)
+pub fn start_over<
+    H: AllocGlobal + Threads + Wait + Sync,
+    D: LogDisk + Drop + Send,
+    Q: Receipt + Send + Sync,
+    E: StoreEnd<Receipt = Q> + Drop + Send,
+    X: Folders<D, E>,
+    R: Read,
+    W: Write,
+>(
+    rt: &H,
+    folders: &X,
+    folder: &str,
+    file: &[u8],
+    reader: &mut R,
+    writer: &mut W,
+) -> Result<(), Ending>
+    ensures output { OnOk result (IfSome (R.remaining reader.old) (λ input.
+        (settings : StoreSettings) × (started_by file.now ≡ Ok settings)
+        × IsOverFolder settings (λ manner failed. AnswersAll manner settings input 0 failed
+        (W.contents writer.old) (W.contents writer.new)))) }
+    ensures refused { IfErr result (λ e. IfSome (refusal_of e) (λ refusal.
+        started_by file.now ≡ Err refusal)) }
+    ensures input_fault { IsErrOf result Ending.InputFault → IfSome (R.remaining reader.old) (λ input.
+        (settings : StoreSettings) × (started_by file.now ≡ Ok settings)
+        × IsOverFolder settings (λ manner failed. AnswersWhatWasRead manner settings input (R.remaining reader.new) 0 failed
+        (W.contents writer.old) (W.contents writer.new))) }
+    ensures no_memory { IsErrOf result Ending.NoMemory → (writer.new ≡ writer.old)
+        ⊎ IfSome (R.remaining reader.old) (λ input.
+        (settings : StoreSettings) × (started_by file.now ≡ Ok settings)
+        × IsOverFolder settings (λ manner failed. AnswersFirstLines manner settings input 0 failed
+        (W.contents writer.old) (W.contents writer.new))) }
+    ensures output_fault { IsErrOf result Ending.OutputFault →
+        IfSome (R.remaining reader.old) (λ input.
+        (settings : StoreSettings) × (started_by file.now ≡ Ok settings)
+        × IsOverFolder settings (λ manner failed. AnswersFront manner settings input 0 failed
+        (W.contents writer.old) (W.contents writer.new))) }
+    ensures begun { IsErrOf result Ending.OutputFault →
+        (settings : StoreSettings) × (started_by file.now ≡ Ok settings) }
+    ensures file_read { IfErr result (λ e. (e ≢ Ending.BadArguments) × (e ≢ Ending.NoSettings)) }
+    ensures silent { IfErr result (λ e. ending_status e ≡ 1 → writer.new ≡ writer.old) }
+    ensures not_opened { IfErr result (λ e. IsNotOpened e ⊎ IsOfFolder e → writer.new ≡ writer.old) }
+{
+    let alloc = rt.alloc();
+    let settings = settings_of_file(alloc, file)?;
+    let logs = logs_in(alloc, folders, folder, settings.shards())?;
+    let objects = format!(in alloc; "{folder}/objects")?;
+    let mut finder = end_in(alloc, folders, objects.as_str(), 0)?;
+    let mut end = end_in(alloc, folders, objects.as_str(), 0)?;
+    let ends = ends_in(alloc, folders, objects.as_str(), settings.flushers())?;
+    run_recovered(
+        rt,
+        alloc,
+        reader,
+        writer,
+        &mut end,
+        ends,
+        settings,
+        logs,
+        &mut finder,
+    )
+}
