@@ -1,5 +1,5 @@
 # `make help` lists what there is.
-.PHONY: help try run build check test mutants bench worlds stress documents
+.PHONY: help try run build check test mutants bench worlds stress kills documents
 program = crates/ingestd/out/ingestd
 postings_figures = crates/bench_postings/out/bench_postings
 codec_figures = crates/bench_codec/out/bench_codec
@@ -18,6 +18,7 @@ help:
 	@echo 'make bench    figures of time, to be read (bench/README.md)'
 	@echo 'make worlds   10,000 lists of events by lot, beside a slow program'
 	@echo 'make stress   10,000 lives of an ingester by lot, each of several threads'
+	@echo 'make kills    200 runs over a folder by lot, most of them killed, then 200 with files that may not grow; KILLS=N, SEED=N'
 
 # The toolchain's own lines go to standard error, so that standard output has the replies alone.
 try:
@@ -92,3 +93,7 @@ stress: $(nodes_by_lot)
 $(nodes_by_lot): $(sources)
 	@scripts/build.sh test_nodes counts 20
 	@touch $@
+
+kills: $(program)
+	@python3 kills/kills.py $(program) $(if $(KILLS),--rounds $(KILLS)) $(if $(SEED),--seed $(SEED))
+	@python3 kills/kills.py $(program) $(if $(KILLS),--rounds $(KILLS)) $(if $(SEED),--seed $(SEED)) --full
