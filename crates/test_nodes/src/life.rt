@@ -131,14 +131,22 @@ pub fn live<W: Threads + Wait + Sync + Clock>(
 /// Shards with these settings, without logs.
 pub fn fresh(alloc: Global, settings: &str) -> Result<Shards<NoLog, Object>, LifeFault> {
     let settings = Settings::from_toml(alloc, settings)?;
-    let mut logs = Vec::with_capacity(alloc, settings.shards() as usize)?;
-    for _ in 0..settings.shards() {
-        logs.push_reserved(NoLog::new());
-    }
+    let logs = no_logs(alloc, settings.shards())?;
     match Shards::fresh(alloc, settings, logs) {
         Ok(shards) => Ok(shards),
         Err(_) => Err(LifeFault::NoMemory),
     }
+}
+
+/// So many logs that are none.
+fn no_logs(alloc: Global, count: u32) -> Result<Vec<NoLog>, AllocError>
+    ensures { IfOk result (λ logs. vec_len logs ≡ count) }
+{
+    let mut logs = Vec::with_capacity(alloc, count as usize)?;
+    for _ in 0..count {
+        logs.push(NoLog::new())?;
+    }
+    Ok(logs)
 }
 
 fn whole_life<N: NodeName + Send + Sync, W: Threads + Wait + Sync + Clock>(
