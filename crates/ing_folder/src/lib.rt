@@ -8,6 +8,3 @@ mod folder_store;
 pub use folder::FolderFault;
 pub use folder_log::FolderLog;
 pub use folder_store::FolderStore;
-
-#[cfg(test)]
-mod tests;

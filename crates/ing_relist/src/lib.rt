@@ -9,6 +9,3 @@ mod relisting;
 
 pub use fault::RelistFault;
 pub use relisting::{relist, relist_chunk};
-
-#[cfg(test)]
-mod tests;

@@ -2,7 +2,7 @@
 ghost use Rattle.std.specs.Prelude.{◌≡◌, ◌+◌, ◌≤◌, ◌^◌, All, IfOk, OnOk, OnErr, vec_len};
 ghost use Rattle.ing_tally.specs.Books.{AreOf};
 
-use crate::{Book, Share};
+use ing_tally::{Book, Share};
 use std::alloc::{AllocError, Global};
 
 /// As many new shares of 0. The room for them is made first, so each share has a place once it is made.

@@ -1,5 +1,5 @@
 //! A chunk that was put into a store in memory, and is listed again by what was noted of it, or refused.
-use crate::{RelistFault, relist};
+use ing_relist::{RelistFault, relist};
 use ing_codec::{Extent, chunk_name, decode_chunk};
 use ing_labels::Labels;
 use ing_parts::Listing;

@@ -2,7 +2,7 @@ use Rattle.std.proofs.Common.{◌≡◌, ◌+◌, ◌≤◌, vec_len}
 use Rattle.std.specs.Prelude.{All}
 use Rattle.std.specs.Vec.{vec_capacity}
 use Rattle.ing_tally.specs.Books.{AreOf}
-use Rattle.ing_tally.proofs.tests.walks.issue_each.Given as goal
+use Rattle.test_tallies.proofs.books.walks.issue_each.Given as goal
 
 abbrev pub invariant-loop : goal.invariant-loop
 invariant-loop l = record {

@@ -1,5 +1,5 @@
 //! Worked books, and shares that cross a lock and two threads.
-use crate::{Book, CounterFull, Counts, CountsWriter, StillOut, Whole, strand_each};
+use ing_tally::{Book, CounterFull, Counts, CountsWriter, StillOut, Whole, strand_each};
 use std::test::Fail;
 
 mod counter;

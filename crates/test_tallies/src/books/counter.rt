@@ -1,7 +1,7 @@
 //! A count under a lock that two threads raise, each by a share of its own.
 ghost use Rattle.std.specs.Prelude.{◌≡◌, ◌+◌, ◌≤◌, ◌^◌, IfOk, OnOk, OnErr};
 
-use crate::{Book, CounterFull, Share, strand_each};
+use ing_tally::{Book, CounterFull, Share, strand_each};
 use std::alloc::{AllocError, Global};
 use std::marker::{Brand, PhantomData};
 use std::sync::{Mutex, Wait};

@@ -1,5 +1,5 @@
 //! A store and a log in a folder for temporary files, whose files are then damaged and removed.
-use crate::{FolderFault, FolderLog, FolderStore};
+use ing_folder::{FolderFault, FolderLog, FolderStore};
 use ing_store::{DigestReceipt, StoreEnd, StoreFault};
 use ing_wal::{LogDisk, ReadFault, replace, write_unless_torn};
 use std::process::Abort;

@@ -1,7 +1,7 @@
 use Rattle.std.proofs.Common.{◌≡◌, ◌+◌, vec_len}
 use Rattle.std.specs.Prelude.{All}
 use Rattle.ing_tally.specs.Books.{AreOf}
-use Rattle.ing_tally.proofs.tests.walks.merge_each.Given as goal
+use Rattle.test_tallies.proofs.books.walks.merge_each.Given as goal
 
 abbrev pub invariant-loop-share : goal.invariant-loop-share
 invariant-loop-share l = record {

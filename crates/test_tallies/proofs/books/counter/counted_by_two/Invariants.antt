@@ -1,4 +1,4 @@
-use Rattle.ing_tally.proofs.tests.counter.counted_by_two.Given as goal
+use Rattle.test_tallies.proofs.books.counter.counted_by_two.Given as goal
 
 -- the book that was just opened
 abbrev pub ghosts-count_by_two : goal.ghosts-count_by_two
