@@ -1,12 +1,13 @@
-//! Ingesters by lot: hands that push, flush and query at once, puts that fail, and a close. `test_nodes counts LIVES` lives so many
-//! lives of an ingester, and fails where one does not close, where its report is not what the hands counted, or where an entry is not
-//! found. It prints what does not vary from run to run; `lots LIVES` prints all of it. `times ENTRIES` prints how fast so many
+//! Ingesters by lot: hands that push, flush and query at once, puts that fail, and a close. `test_nodes counts LIVES` lives two fixed
+//! lives of an ingester and so many by lot, and fails where one does not close, where its report is not what the hands counted, or
+//! where an entry is not found. It prints what does not vary from run to run; `lots LIVES` prints all of it. `times ENTRIES` prints how fast so many
 //! entries are pushed through the locks, `pauses PUSHES` how long so many pushes take beside a flusher, and a reading of the counts
 //! beside a pusher.
 #![tactic(auto)]
 
 mod done;
 mod fault;
+mod fixed;
 mod hand;
 mod kept_end;
 mod life;
@@ -16,8 +17,6 @@ mod plan;
 mod speed;
 mod stress;
 mod sweeping;
-#[cfg(test)]
-mod tests;
 
 use anyhow::{Context, Result, bail};
 use pauses::pauses;

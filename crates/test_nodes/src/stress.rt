@@ -1,6 +1,7 @@
-//! Lives by lot.
+//! Lives by lot, behind two that are fixed.
 use crate::done::Done;
 use crate::fault::LifeFault;
+use crate::fixed::{a_refused_call_loses_nothing, two_push_beside_one_who_flushes};
 use crate::life::live;
 use crate::lots::Lots;
 use crate::plan::{Plan, Task};
@@ -25,12 +26,14 @@ pub enum Show {
     All,
 }
 
-/// Lives so many lives by lot, and prints what was done in them.
+/// Lives the fixed lives, then so many by lot, and prints what was done in these.
 pub fn stress<R: AllocGlobal + Threads + Wait + Sync + Clock + Print>(
     rt: &R,
     show: Show,
     rounds: u64,
 ) -> Result<()> {
+    two_push_beside_one_who_flushes(rt, rt.alloc()).context("two who push")?;
+    a_refused_call_loses_nothing(rt, rt.alloc()).context("a short life")?;
     let start = Instant::now(rt)?;
     let mut all = Done::default();
     let mut hands = 0u64;
