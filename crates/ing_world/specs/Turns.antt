@@ -109,6 +109,11 @@ TellsQuery tenant ms q (reply.Found found) old new step =
     → IsAnswer q.order q.limit (within q.start q.end (map found_told (filter (λ n. picked n.stream) old.accepted))) found.items)
 TellsQuery tenant ms q _ old new step = ⊥
 
+-- without a log no checkpoint has replaced it, and nothing changes
+abbrev pub TellsCheckpoint : Tale
+TellsCheckpoint (reply.Checkpointed published) old new step = (published ≡ false) × (step ≡ None) × TicketsStay old new
+TellsCheckpoint _ old new step = ⊥
+
 abbrev pub Tells : WorldEvent → Tale
 Tells (event.Push tenant labels entries now) = TellsPush (stream_of tenant labels) now entries.items
 Tells (event.Sweep now) = TellsSeal (Sweep now)
@@ -118,6 +123,7 @@ Tells (event.Put t object out) = TellsPut t object out
 Tells (event.Finish t) = TellsFinish t
 Tells (event.GiveBack t) = TellsGiveBack t
 Tells (event.Query tenant ms q) = TellsQuery tenant ms q
+Tells event.Checkpoint = TellsCheckpoint
 
 -- ---- one turn, and all of them
 

@@ -82,6 +82,8 @@ pub enum WorldEvent {
         /// Which of their entries, and in which order.
         question: Question,
     },
+    /// A checkpoint is to replace the log of the shard, which has none.
+    Checkpoint,
 }
 
 /// How many bytes a canonical name may have that is to be written.

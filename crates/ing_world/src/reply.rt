@@ -25,6 +25,8 @@ pub enum Reply {
     GivenBack,
     /// These entries were found.
     Found(Vec<Found>),
+    /// Whether a checkpoint has replaced the log.
+    Checkpointed(bool),
     /// No chunk waits to be claimed, the ticket is not open, or a finish lacks a receipt.
     Nothing,
 }

@@ -118,5 +118,6 @@ fn turn<'a, W: Wait>(
             let mut end = store.end(rt, Fuse::None);
             world.query(alloc, &mut end, tenant, selector, *question)
         }
+        WorldEvent::Checkpoint => Ok(world.checkpoint()),
     }
 }

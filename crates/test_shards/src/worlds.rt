@@ -25,6 +25,7 @@ enum Act {
     Finish(usize),
     GiveBack(usize),
     Query,
+    Checkpoint,
 }
 
 /// What is answered: of pushes how many verdicts there are, of queries how many entries are found.
@@ -39,11 +40,12 @@ enum Told {
     Finished,
     GivenBack,
     Found(usize),
+    Checkpointed(bool),
     Nothing,
 }
 
 /// A push, and a query after all that may become of the entry; and puts that fail.
-const ALWAYS_FOUND: [(Act, Told); 22] = [
+const ALWAYS_FOUND: [(Act, Told); 23] = [
     (Act::Claim(0), Told::Nothing),
     (Act::Query, Told::Found(0)),
     (Act::Push(5), Told::Pushed(1)),
@@ -65,6 +67,7 @@ const ALWAYS_FOUND: [(Act, Told); 22] = [
     (Act::Put(1, Row, Stored), Told::Stored),
     (Act::Put(0, Row, Stored), Told::Nothing),
     (Act::Finish(1), Told::Finished),
+    (Act::Checkpoint, Told::Checkpointed(false)),
     (Act::Query, Told::Found(1)),
 ];
 
@@ -131,6 +134,7 @@ fn event_of(alloc: Global, act: Act) -> Result<WorldEvent, Fail> {
         },
         Act::Finish(ticket) => WorldEvent::Finish { ticket },
         Act::GiveBack(ticket) => WorldEvent::GiveBack { ticket },
+        Act::Checkpoint => WorldEvent::Checkpoint,
     })
 }
 
@@ -154,6 +158,7 @@ fn told_of(reply: &Reply) -> Told {
         Reply::Finished => Told::Finished,
         Reply::GivenBack => Told::GivenBack,
         Reply::Found(found) => Told::Found(found.len()),
+        Reply::Checkpointed(published) => Told::Checkpointed(*published),
         Reply::Nothing => Told::Nothing,
     }
 }

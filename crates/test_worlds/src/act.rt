@@ -74,6 +74,7 @@ pub enum Act {
         selector: usize,
         question: Question,
     },
+    Checkpoint,
 }
 
 /// A tenant.
@@ -148,6 +149,7 @@ impl Act {
                 selector: Selector::parse(alloc, SELECTORS.get(selector).context("a selector")?.0)?,
                 question,
             },
+            Act::Checkpoint => WorldEvent::Checkpoint,
         })
     }
 }

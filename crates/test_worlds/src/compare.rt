@@ -21,6 +21,7 @@ pub struct Met {
     finishes: u64,
     give_backs: u64,
     queries: u64,
+    checkpoints: u64,
     accepted: u64,
     duplicate: u64,
     line_too_long: u64,
@@ -52,6 +53,7 @@ impl Met {
             Act::Finish(_) => count(&mut self.finishes, 1),
             Act::GiveBack(_) => count(&mut self.give_backs, 1),
             Act::Query { .. } => count(&mut self.queries, 1),
+            Act::Checkpoint => count(&mut self.checkpoints, 1),
         }
     }
 
@@ -66,6 +68,7 @@ impl Met {
             Reply::Finished => count(&mut self.finished, 1),
             Reply::GivenBack => count(&mut self.given_back, 1),
             Reply::Found(found) => count(&mut self.found, found.len() as u64),
+            Reply::Checkpointed(_) => {}
             Reply::Nothing => count(&mut self.nothing, 1),
         }
     }
@@ -86,7 +89,7 @@ impl Met {
     /// Prints it.
     pub fn print<R: Print>(&self, rt: &R) -> Result<()> {
         println!(rt;
-            "pushes {}, sweeps {}, seals {}, claims {}, puts {}, finishes {}, give backs {}, queries {}",
+            "pushes {}, sweeps {}, seals {}, claims {}, puts {}, finishes {}, give backs {}, queries {}, checkpoints {}",
             self.pushes,
             self.sweeps,
             self.seals,
@@ -94,7 +97,8 @@ impl Met {
             self.puts,
             self.finishes,
             self.give_backs,
-            self.queries
+            self.queries,
+            self.checkpoints
         )?;
         println!(rt;
             "accepted {}, duplicate {}, line too long {}, too far behind {}, too many streams {}, refused {}",
@@ -156,6 +160,7 @@ fn is_as(alloc: Global, reply: &Reply, wanted: &Wanted) -> Result<bool> {
         (Reply::GivenBack, Wanted::GivenBack) => true,
         (Reply::Found(found), Wanted::Found(kept)) => told(alloc, found)?.as_slice()
             == kept.as_slice(),
+        (Reply::Checkpointed(published), Wanted::NoCheckpoint) => !*published,
         (Reply::Nothing, Wanted::Nothing) => true,
         _ => false,
     })

@@ -124,6 +124,7 @@ impl Lots {
         match self.below(24) {
             0..=7 => self.push(),
             8 => Act::Sweep(self.now),
+            9 if self.below(8) == 0 => Act::Checkpoint,
             9 => Act::SealAll,
             10..=12 => self.claim(),
             13..=18 => self.put(),

@@ -59,6 +59,7 @@ pub enum Wanted {
     Finished,
     GivenBack,
     Found(Vec<Kept>),
+    NoCheckpoint,
     Nothing,
 }
 
@@ -127,6 +128,7 @@ impl Slow {
                 selector,
                 question,
             } => self.query(tenant, selector, question)?,
+            Act::Checkpoint => Wanted::NoCheckpoint,
         })
     }
 
