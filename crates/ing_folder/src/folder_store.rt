@@ -5,7 +5,7 @@ ghost use Rattle.ing_store.specs.StoreFaults.{IsCounted};
 
 use crate::folder::{FolderFault, path_in, read_file, replace_file};
 use ing_store::{DigestReceipt, StoreEnd, StoreFault};
-use std::alloc::Global;
+use std::alloc::{AllocError, Global};
 use std::borrow::CowSlice;
 use std::fs;
 use std::marker::Model;
@@ -49,6 +49,18 @@ impl<'a, R: Files + AllocGlobal> FolderStore<'a, R> {
             rt,
             folder: String::from_str(alloc, folder)?,
             number,
+            failures: 0,
+        })
+    }
+
+    /// An end over the folder at this path, for one who reads alone: where there is no such folder, nothing is found in it.
+    pub fn reading(rt: &'a R, alloc: Global, folder: &str) -> Result<FolderStore<'a, R>, AllocError>
+        ensures { IfOk result (λ end. end ≡ 0) }
+    {
+        Ok(FolderStore {
+            rt,
+            folder: String::from_str(alloc, folder)?,
+            number: 0,
             failures: 0,
         })
     }
