@@ -1,7 +1,7 @@
 -- What each command does to shards that lie behind locks. What lies there nobody knows, so this says what is known outside: what a
 -- line says, the form of its reply, how many entries were told accepted, by the number of their shard, and how many chunks were told
 -- stored.
-use Rattle.std.specs.Prelude.{◌≡◌, ◌≢◌, ◌⊎◌, ℕ, ◌+◌, ◌≤◌, All, Bool, false, List, [], ◌∷◌, None, Some, Result, Ok, Err, length, slice_get, sum_by}
+use Rattle.std.specs.Prelude.{◌≡◌, ◌≢◌, ◌⊎◌, ℕ, ◌+◌, ◌≤◌, All, Bool, false, true, List, [], ◌∷◌, None, Some, Result, Ok, Err, length, slice_get, sum_by}
 use Rattle.std.specs.List.{AllPass}
 use Rattle.std.specs.List.Sorted.{IsSortedBy}
 use Rattle.serde_json.specs.Data.{Data}
@@ -14,6 +14,7 @@ use Rattle.ing_rows.specs.declared.entry.Entry.{Entry}
 use Rattle.ing_rows.specs.declared.gauges.Gauges.{Gauges}
 use Rattle.ing_rows.specs.declared.verdict.Verdict.{Verdict}
 use Rattle.ing_rows.specs.Placement.{shard_of}
+use Rattle.ing_rows.specs.Rows.{State}
 use Rattle.ing_rows.specs.Turns.{accepted_among}
 use Rattle.ing_limits.specs.Settings.{StoreSettings}
 use Rattle.ing_limits.specs.Ranges.{rules_for}
@@ -21,7 +22,8 @@ use Rattle.ing_parts.specs.declared.found.Found.{Found}
 use Rattle.ing_parts.specs.Answers.{StandApart, precedes}
 use Rattle.ing_parts.specs.Parts.{is_within}
 use Rattle.ing_query.specs.declared.fault.QueryFault.TheVariants as queries
-use Rattle.ing_shard.specs.Contents.{stream_of}
+use Rattle.ing_durable.specs.Kept.{Replays}
+use Rattle.ing_shard.specs.Contents.{stored_count, stream_of}
 use Rattle.ing_tally.specs.Books.{amount_of}
 use Rattle.ing_tally.specs.declared.counts.Counts.{Counts}
 use Rattle.ing_flush.specs.Tallies.{amount_at}
@@ -63,6 +65,18 @@ began_new = record { logs = false; recovered = λ _. 0; stored = 0 }
 -- by the shares of what they begin with
 abbrev pub began_with : Bool → EarlierState → Began
 began_with logs earlier = record { logs = logs; recovered = λ i. amount_at i earlier.told; stored = amount_of earlier.stored }
+
+-- Shards begin with what logs of these texts say, one of each shard: what its text replays to was there, and what of that was stored.
+pub record IsLogged (texts : List (List ℕ)) (began : Began) : Type 0 where
+  pub states : List State
+  pub all : length states ≡ length texts
+  pub replays : (i : ℕ) (text : List ℕ) (st : State) → slice_get texts i ≡ Some text → slice_get states i ≡ Some st → Replays text st
+  pub recovered : (i : ℕ) (st : State) → slice_get states i ≡ Some st → began.recovered i ≡ length st.rows
+  pub stored : began.stored ≡ sum_by (λ st. stored_count st.rows) states
+
+-- they have logs, which say this where the logs are honest
+abbrev pub BeginsOver : Type 0 → List (List ℕ) → Began → Type 0
+BeginsOver honest texts began = (began.logs ≡ true) × (honest → IsLogged texts began)
 
 -- how many entries were told accepted, by the number of their shard
 abbrev pub Told : Type 0

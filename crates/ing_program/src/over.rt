@@ -68,7 +68,7 @@ pub fn start_over<
     let logs = logs_in(alloc, folders, folder, settings.shards())?;
     let objects = format!(in alloc; "{folder}/objects")?;
     let mut finder = end_in(alloc, folders, objects.as_str(), 0)?;
-    let mut end = end_in(alloc, folders, objects.as_str(), 0)?;
+    let mut end = end_in(alloc, folders, objects.as_str(), settings.flushers() + 1)?;
     let ends = ends_in(alloc, folders, objects.as_str(), settings.flushers())?;
     run_recovered(
         rt,

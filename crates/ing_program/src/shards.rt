@@ -1,5 +1,5 @@
 //! A run over shards behind locks.
-ghost use Rattle.std.specs.Prelude.{◌≡◌, ◌⊎◌, ◌<◌, IfErr, IfOk, IfSome, IsErrOf, IsTrue, OnOk, false, reverse, true, vec_len};
+ghost use Rattle.std.specs.Prelude.{◌≡◌, ◌⊎◌, ◌<◌, IfErr, IfOk, IfSome, IsErrOf, IsTrue, OnOk, false, map, reverse, vec_len};
 ghost use Rattle.std.specs.List.{AllByRecursion};
 ghost use Rattle.ing_node.specs.Begun.{HasTornLog};
 ghost use Rattle.ing_node.specs.Earlier.{earlier_of};
@@ -8,7 +8,7 @@ ghost use Rattle.ing_session.specs.Endings.{IsNotOpened, IsNotRecovered, is_of_r
 ghost use Rattle.ing_session.specs.Causes.{GoesOn};
 ghost use Rattle.ing_session.specs.FlushCalls.{ObeysFlush};
 ghost use Rattle.ing_session.specs.Runs.{AnswersAll, AnswersWhatWasRead, AnswersFirstLines, AnswersFront};
-ghost use Rattle.ing_program.specs.ByLedger.{Began, began_new, began_with, by_ledger, nothing_held};
+ghost use Rattle.ing_program.specs.ByLedger.{Began, BeginsOver, began_new, began_with, by_ledger, nothing_held};
 ghost use Rattle.ing_program.specs.Counted.{IsHeld, counted_by};
 
 use crate::locked::Locked;
@@ -84,8 +84,9 @@ fn no_logs(alloc: Global, count: u32) -> Result<Vec<NoLog>, AllocError>
 }
 
 /// Runs over the shards that these logs, one of each shard, are of, each behind a lock: as `run_shards`, but that each shard begins with
-/// what its log says of it, as `Shards::recover`, and what it accepts and stores is written to its log. The stored chunks are looked for by
-/// `finder`. Besides as `run_shards`; `NotRecovered` where a shard is not made again. (Own.)
+/// what its log says of it, as `Shards::recover`, and what it accepts and stores is written to its log. As many entries are reported
+/// recovered of each shard as its log has, where logs are honest. The stored chunks are looked for by `finder`. Besides as
+/// `run_shards`; `NotRecovered` where a shard is not made again. (Own.)
 pub fn run_recovered<
     I: Read,
     O: Write,
@@ -108,20 +109,23 @@ pub fn run_recovered<
 ) -> Result<(), Ending>
     requires some { 0 < vec_len ends }
     requires logs { vec_len logs ≡ settings.shards }
-    ensures output { OnOk result (IfSome (I.remaining reader.old) (λ input. (began : Began) × (began.logs ≡ true)
+    ensures output { OnOk result (IfSome (I.remaining reader.old) (λ input. (began : Began)
+        × BeginsOver D.is_honest (map (λ log. (D.seen log).now.bytes) logs.items) began
         × AnswersAll (by_ledger began settings.shards) settings input (S.failure_count end.old) (S.failure_count end.new)
         (O.contents writer.old) (O.contents writer.new))) }
     ensures input_fault { IsErrOf result Ending.InputFault → IfSome (I.remaining reader.old) (λ input.
-        (began : Began) × (began.logs ≡ true)
+        (began : Began) × BeginsOver D.is_honest (map (λ log. (D.seen log).now.bytes) logs.items) began
         × AnswersWhatWasRead (by_ledger began settings.shards) settings input (I.remaining reader.new)
         (S.failure_count end.old) (S.failure_count end.new)
         (O.contents writer.old) (O.contents writer.new)) }
     ensures no_memory { IsErrOf result Ending.NoMemory → (writer.new ≡ writer.old)
-        ⊎ IfSome (I.remaining reader.old) (λ input. (began : Began) × (began.logs ≡ true)
+        ⊎ IfSome (I.remaining reader.old) (λ input. (began : Began)
+        × BeginsOver D.is_honest (map (λ log. (D.seen log).now.bytes) logs.items) began
         × AnswersFirstLines (by_ledger began settings.shards) settings input (S.failure_count end.old) (S.failure_count end.new)
         (O.contents writer.old) (O.contents writer.new)) }
     ensures output_fault { IsErrOf result Ending.OutputFault →
-        IfSome (I.remaining reader.old) (λ input. (began : Began) × (began.logs ≡ true)
+        IfSome (I.remaining reader.old) (λ input. (began : Began)
+        × BeginsOver D.is_honest (map (λ log. (D.seen log).now.bytes) logs.items) began
         × AnswersFront (by_ledger began settings.shards) settings input (S.failure_count end.old) (S.failure_count end.new)
         (O.contents writer.old) (O.contents writer.new)) }
     ensures end { GoesOn S.never_fails S.failure_count end.old end.new }

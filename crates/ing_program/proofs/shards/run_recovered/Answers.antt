@@ -1,4 +1,4 @@
-use Rattle.std.proofs.Common.{◌≡◌, ap, refl, subst, sym, inl, inr, reverse, true}
+use Rattle.std.proofs.Common.{◌≡◌, ◌∙◌, ap, map, subst, sym, inl, inr, reverse, true}
 use Rattle.std.specs.Prelude.{◌⊎◌, IsTrue}
 use Rattle.std.proofs.lemmas.Result.{on_ok_weaker}
 use Rattle.ing_node.specs.Earlier.{earlier_of}
@@ -6,8 +6,9 @@ use Rattle.ing_node.specs.Names.{names_in}
 use Rattle.ing_session.specs.Runs.{AnswersAll, AnswersWhatWasRead, AnswersFirstLines, AnswersFront}
 use Rattle.ing_session.proofs.KnownLaws.{if_some_then}
 use Rattle.ing_session.specs.Endings.{IsNotOpened, IsNotRecovered, is_of_run}
+use Rattle.ing_program.proofs.BeganLaws.{began_over}
 use Rattle.ing_program.proofs.StartingLaws.{recover_ending}
-use Rattle.ing_program.specs.ByLedger.{Began, began_with, by_ledger}
+use Rattle.ing_program.specs.ByLedger.{Began, BeginsOver, began_with, by_ledger}
 use Rattle.ing_program.proofs.shards.run_recovered.Goals as goal
 
 pub run_locked-requires-clause-named : goal.run_locked-requires-clause-named
@@ -20,12 +21,15 @@ returns-in-Ok-clause-output g c =
     let ended = c.run_locked.new in
     let shards = c.in-Ok.shards in
     let began = began_with true (earlier_of (reverse shards.last_first.items)) in
+    let texts = map (λ log. (g.D.LogDisk.seen log).now.bytes) c.args.logs.items in
+    let begins = began_over g.D.LogDisk.is_honest shards.settings (λ log. (g.D.LogDisk.seen log).now.bytes) c.args.logs.items shards.last_first.items
+    (sym shards.last_first.ok.0 ∙ shards.all ∙ ap (λ s. s.shards) c.in-Ok.ensures.settings ∙ sym c.requires.logs ∙ c.args.logs.ok.0) shards.placed c.in-Ok.ensures.replays c.in-Ok.ensures.counted in
     on_ok_weaker c.run_locked.result
     (if_some_then
     (λ input. AnswersAll (by_ledger began shards.settings.shards) shards.settings input (failures c.args.end.now) (failures ended.end) (contents c.args.writer.now) (contents ended.writer))
-    (λ input. (b : Began) × (b.logs ≡ true) × AnswersAll (by_ledger b c.args.settings.shards) c.args.settings input (failures c.args.end.now) (failures ended.end) (contents c.args.writer.now) (contents ended.writer))
+    (λ input. (b : Began) × BeginsOver g.D.LogDisk.is_honest texts b × AnswersAll (by_ledger b c.args.settings.shards) c.args.settings input (failures c.args.end.now) (failures ended.end) (contents c.args.writer.now) (contents ended.writer))
     (g.I.Read.remaining c.args.reader.now)
-    (λ input answers. (began, refl, subst (λ s. AnswersAll (by_ledger began s.shards) s input (failures c.args.end.now) (failures ended.end) (contents c.args.writer.now) (contents ended.writer)) c.in-Ok.ensures.settings answers)))
+    (λ input answers. (began, begins, subst (λ s. AnswersAll (by_ledger began s.shards) s input (failures c.args.end.now) (failures ended.end) (contents c.args.writer.now) (contents ended.writer)) c.in-Ok.ensures.settings answers)))
     c.run_locked.ensures.output
 
 pub returns-in-Ok-clause-input_fault : goal.returns-in-Ok-clause-input_fault
@@ -35,11 +39,14 @@ returns-in-Ok-clause-input_fault g c = λ is.
     let ended = c.run_locked.new in
     let shards = c.in-Ok.shards in
     let began = began_with true (earlier_of (reverse shards.last_first.items)) in
+    let texts = map (λ log. (g.D.LogDisk.seen log).now.bytes) c.args.logs.items in
+    let begins = began_over g.D.LogDisk.is_honest shards.settings (λ log. (g.D.LogDisk.seen log).now.bytes) c.args.logs.items shards.last_first.items
+    (sym shards.last_first.ok.0 ∙ shards.all ∙ ap (λ s. s.shards) c.in-Ok.ensures.settings ∙ sym c.requires.logs ∙ c.args.logs.ok.0) shards.placed c.in-Ok.ensures.replays c.in-Ok.ensures.counted in
     if_some_then
     (λ input. AnswersWhatWasRead (by_ledger began shards.settings.shards) shards.settings input (g.I.Read.remaining c.run_locked.new.reader) (failures c.args.end.now) (failures ended.end) (contents c.args.writer.now) (contents ended.writer))
-    (λ input. (b : Began) × (b.logs ≡ true) × AnswersWhatWasRead (by_ledger b c.args.settings.shards) c.args.settings input (g.I.Read.remaining c.run_locked.new.reader) (failures c.args.end.now) (failures ended.end) (contents c.args.writer.now) (contents ended.writer))
+    (λ input. (b : Began) × BeginsOver g.D.LogDisk.is_honest texts b × AnswersWhatWasRead (by_ledger b c.args.settings.shards) c.args.settings input (g.I.Read.remaining c.run_locked.new.reader) (failures c.args.end.now) (failures ended.end) (contents c.args.writer.now) (contents ended.writer))
     (g.I.Read.remaining c.args.reader.now)
-    (λ input answers. (began, refl, subst (λ s. AnswersWhatWasRead (by_ledger began s.shards) s input (g.I.Read.remaining c.run_locked.new.reader) (failures c.args.end.now) (failures ended.end) (contents c.args.writer.now) (contents ended.writer)) c.in-Ok.ensures.settings answers))
+    (λ input answers. (began, begins, subst (λ s. AnswersWhatWasRead (by_ledger began s.shards) s input (g.I.Read.remaining c.run_locked.new.reader) (failures c.args.end.now) (failures ended.end) (contents c.args.writer.now) (contents ended.writer)) c.in-Ok.ensures.settings answers))
     (c.run_locked.ensures.input_fault is)
 
 pub returns-in-Ok-clause-no_memory : goal.returns-in-Ok-clause-no_memory
@@ -49,11 +56,14 @@ returns-in-Ok-clause-no_memory g c = λ is.
     let ended = c.run_locked.new in
     let shards = c.in-Ok.shards in
     let began = began_with true (earlier_of (reverse shards.last_first.items)) in
+    let texts = map (λ log. (g.D.LogDisk.seen log).now.bytes) c.args.logs.items in
+    let begins = began_over g.D.LogDisk.is_honest shards.settings (λ log. (g.D.LogDisk.seen log).now.bytes) c.args.logs.items shards.last_first.items
+    (sym shards.last_first.ok.0 ∙ shards.all ∙ ap (λ s. s.shards) c.in-Ok.ensures.settings ∙ sym c.requires.logs ∙ c.args.logs.ok.0) shards.placed c.in-Ok.ensures.replays c.in-Ok.ensures.counted in
     let said = if_some_then
     (λ input. AnswersFirstLines (by_ledger began shards.settings.shards) shards.settings input (failures c.args.end.now) (failures ended.end) (contents c.args.writer.now) (contents ended.writer))
-    (λ input. (b : Began) × (b.logs ≡ true) × AnswersFirstLines (by_ledger b c.args.settings.shards) c.args.settings input (failures c.args.end.now) (failures ended.end) (contents c.args.writer.now) (contents ended.writer))
+    (λ input. (b : Began) × BeginsOver g.D.LogDisk.is_honest texts b × AnswersFirstLines (by_ledger b c.args.settings.shards) c.args.settings input (failures c.args.end.now) (failures ended.end) (contents c.args.writer.now) (contents ended.writer))
     (g.I.Read.remaining c.args.reader.now)
-    (λ input answers. (began, refl, subst (λ s. AnswersFirstLines (by_ledger began s.shards) s input (failures c.args.end.now) (failures ended.end) (contents c.args.writer.now) (contents ended.writer)) c.in-Ok.ensures.settings answers)) in
+    (λ input answers. (began, begins, subst (λ s. AnswersFirstLines (by_ledger began s.shards) s input (failures c.args.end.now) (failures ended.end) (contents c.args.writer.now) (contents ended.writer)) c.in-Ok.ensures.settings answers)) in
     elim (c.run_locked.ensures.no_memory is) [ inl same ↦ inl same | inr run ↦ inr (said run) ]
 
 pub returns-in-Ok-clause-output_fault : goal.returns-in-Ok-clause-output_fault
@@ -63,11 +73,14 @@ returns-in-Ok-clause-output_fault g c = λ is.
     let ended = c.run_locked.new in
     let shards = c.in-Ok.shards in
     let began = began_with true (earlier_of (reverse shards.last_first.items)) in
+    let texts = map (λ log. (g.D.LogDisk.seen log).now.bytes) c.args.logs.items in
+    let begins = began_over g.D.LogDisk.is_honest shards.settings (λ log. (g.D.LogDisk.seen log).now.bytes) c.args.logs.items shards.last_first.items
+    (sym shards.last_first.ok.0 ∙ shards.all ∙ ap (λ s. s.shards) c.in-Ok.ensures.settings ∙ sym c.requires.logs ∙ c.args.logs.ok.0) shards.placed c.in-Ok.ensures.replays c.in-Ok.ensures.counted in
     if_some_then
     (λ input. AnswersFront (by_ledger began shards.settings.shards) shards.settings input (failures c.args.end.now) (failures ended.end) (contents c.args.writer.now) (contents ended.writer))
-    (λ input. (b : Began) × (b.logs ≡ true) × AnswersFront (by_ledger b c.args.settings.shards) c.args.settings input (failures c.args.end.now) (failures ended.end) (contents c.args.writer.now) (contents ended.writer))
+    (λ input. (b : Began) × BeginsOver g.D.LogDisk.is_honest texts b × AnswersFront (by_ledger b c.args.settings.shards) c.args.settings input (failures c.args.end.now) (failures ended.end) (contents c.args.writer.now) (contents ended.writer))
     (g.I.Read.remaining c.args.reader.now)
-    (λ input answers. (began, refl, subst (λ s. AnswersFront (by_ledger began s.shards) s input (failures c.args.end.now) (failures ended.end) (contents c.args.writer.now) (contents ended.writer)) c.in-Ok.ensures.settings answers))
+    (λ input answers. (began, begins, subst (λ s. AnswersFront (by_ledger began s.shards) s input (failures c.args.end.now) (failures ended.end) (contents c.args.writer.now) (contents ended.writer)) c.in-Ok.ensures.settings answers))
     (c.run_locked.ensures.output_fault is)
 
 pub returns-in-Err-clause-ending : goal.returns-in-Err-clause-ending
