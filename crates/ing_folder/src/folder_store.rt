@@ -45,22 +45,29 @@ impl<'a, R: Files + AllocGlobal> FolderStore<'a, R> {
         ensures { IfOk result (λ end. end ≡ 0) }
     {
         fs::create_dir_all(rt, folder)?;
-        Ok(FolderStore {
-            rt,
-            folder: String::from_str(alloc, folder)?,
-            number,
-            failures: 0,
-        })
+        Ok(FolderStore::over(rt, alloc, folder, number)?)
     }
 
     /// An end over the folder at this path, for one who reads alone: where there is no such folder, nothing is found in it.
     pub fn reading(rt: &'a R, alloc: Global, folder: &str) -> Result<FolderStore<'a, R>, AllocError>
         ensures { IfOk result (λ end. end ≡ 0) }
     {
+        FolderStore::over(rt, alloc, folder, 0)
+    }
+
+    /// An end of this number over a folder.
+    fn over(
+        rt: &'a R,
+        alloc: Global,
+        folder: &str,
+        number: u32,
+    ) -> Result<FolderStore<'a, R>, AllocError>
+        ensures { IfOk result (λ end. end ≡ 0) }
+    {
         Ok(FolderStore {
             rt,
             folder: String::from_str(alloc, folder)?,
-            number: 0,
+            number,
             failures: 0,
         })
     }
