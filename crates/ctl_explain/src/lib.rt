@@ -1,0 +1,23 @@
+//! A person's side of `ingestd`: what each refusal means, what is refused of a line of input and where, and
+//! which settings are in force.
+#![tactic(auto)]
+
+mod explained;
+mod explaining;
+mod in_force;
+mod lookup;
+mod member;
+mod settings_refusal;
+mod shape;
+mod stream;
+mod table;
+mod walk;
+
+pub use explained::{Cause, Explained};
+pub use explaining::explain;
+pub use in_force::{rules_in_force, settings_in_force};
+pub use lookup::{page_for, pages};
+pub use member::{Field, Member, Part};
+pub use settings_refusal::SettingsRefusal;
+pub use stream::StreamFault;
+pub use table::Page;

@@ -1,0 +1,200 @@
+//! What is tested of each member of a command by itself. It takes no memory.
+ghost use Rattle.std.specs.Prelude.{◌≡◌};
+ghost use Rattle.serde_json.specs.View.{view, items_view, members_view};
+ghost use Rattle.ing_refusals.specs.Results.{Returns};
+ghost use Rattle.ing_commands.specs.Shapes.{text_of, text_at, text_or, flag_at, array_at, object_at};
+ghost use Rattle.ctl_explain.specs.Members as members;
+
+use crate::member::Field;
+use ing_commands::LineFault;
+use ing_rows::{Stamp, is_tenant_id};
+use serde_json::{Map, Value};
+
+/// The most entries that may be asked for.
+const MAX_LIMIT: u64 = 5000;
+
+/// The text that a value is.
+fn text_of(value: &Value) -> Result<&str, LineFault>
+    ensures { Returns (λ text. text.now) result (text_of (view value.now)) }
+{
+    value.as_str().ok_or(LineFault::BadCommand)
+}
+
+/// The member of a name, if it is a text.
+pub(crate) fn text_at<'a>(value: &'a Value, name: &str) -> Result<&'a str, LineFault>
+    ensures { Returns (λ text. text.now) result (text_at name.now (view value.now)) }
+{
+    value
+        .get(name)
+        .and_then(Value::as_str)
+        .ok_or(LineFault::BadCommand)
+}
+
+/// The member of a name, if it is a text; `absent` where there is none.
+fn text_or<'a>(value: &'a Value, name: &str, absent: &'a str) -> Result<&'a str, LineFault>
+    ensures { Returns (λ text. text.now) result (text_or name.now absent.now (view value.now)) }
+{
+    match value.get(name) {
+        Some(text) => text_of(text),
+        None => Ok(absent),
+    }
+}
+
+/// The elements of the member of a name, if it is an array.
+pub(crate) fn array_at<'a>(value: &'a Value, name: &str) -> Result<&'a [Value], LineFault>
+    ensures { Returns (λ list. items_view list.now) result (array_at name.now (view value.now)) }
+{
+    let list = value
+        .get(name)
+        .and_then(Value::as_array)
+        .ok_or(LineFault::BadCommand)?;
+    Ok(list.as_slice())
+}
+
+/// The members of the member of a name, if it is an object.
+pub(crate) fn object_at<'a>(
+    value: &'a Value,
+    name: &str,
+) -> Result<&'a Map<String, Value>, LineFault>
+    ensures { Returns (λ map. members_view map.now.entries) result
+        (object_at name.now (view value.now)) }
+{
+    value
+        .get(name)
+        .and_then(Value::as_object)
+        .ok_or(LineFault::BadCommand)
+}
+
+/// The member `forced`.
+fn test_forced(value: &Value) -> Result<(), LineFault>
+    ensures { result ≡ members.field_test Field.Forced (view value.now) }
+{
+    match value.get("forced") {
+        Some(flag) => match flag.as_bool() {
+            Some(_) => Ok(()),
+            None => Err(LineFault::BadCommand),
+        },
+        None => Ok(()),
+    }
+}
+
+/// The member `limit`.
+fn test_limit(value: &Value) -> Result<(), LineFault>
+    ensures { result ≡ members.field_test Field.Limit (view value.now) }
+{
+    match value.get("limit") {
+        Some(limit) => match limit.as_u64() {
+            Some(number) if number > 0 && number <= MAX_LIMIT => Ok(()),
+            _ => Err(LineFault::BadCommand),
+        },
+        None => Ok(()),
+    }
+}
+
+/// One of the seven commands.
+fn test_cmd(text: &str) -> Result<(), LineFault>
+    ensures { result ≡ members.test_cmd text.now }
+{
+    match text {
+        "push" | "sweep" | "flush" | "gauges" | "board" | "checkpoint" | "query" => Ok(()),
+        _ => Err(LineFault::BadCommand),
+    }
+}
+
+/// A tenant id.
+fn test_tenant(text: &str) -> Result<(), LineFault>
+    ensures { result ≡ members.test_tenant text.now }
+{
+    if is_tenant_id(text) {
+        Ok(())
+    } else {
+        Err(LineFault::BadTenant)
+    }
+}
+
+/// A stamp.
+fn test_stamp(text: &str) -> Result<(), LineFault>
+    ensures { result ≡ members.test_stamp text.now }
+{
+    match Stamp::of_text(text) {
+        Ok(_) => Ok(()),
+        Err(_) => Err(LineFault::BadStamp),
+    }
+}
+
+/// A stamp, or the first number that is none.
+fn test_end(text: &str) -> Result<(), LineFault>
+    ensures { result ≡ members.test_end text.now }
+{
+    match text {
+        "9223372036854775808" => Ok(()),
+        _ => test_stamp(text),
+    }
+}
+
+/// One of the two directions.
+fn test_direction(text: &str) -> Result<(), LineFault>
+    ensures { result ≡ members.test_direction text.now }
+{
+    match text {
+        "forward" | "backward" => Ok(()),
+        _ => Err(LineFault::BadCommand),
+    }
+}
+
+/// What is tested of a member of the line's object by itself.
+pub(crate) fn field_test(field: Field, value: &Value) -> Result<(), LineFault>
+    ensures { result ≡ members.field_test field (view value.now) }
+{
+    match field {
+        Field::Cmd => test_cmd(text_at(value, "cmd")?),
+        Field::Tenant => test_tenant(text_at(value, "tenant")?),
+        Field::Now => test_stamp(text_at(value, "now")?),
+        Field::Streams => array_at(value, "streams").map(|_| ()),
+        Field::Query => text_at(value, "query").map(|_| ()),
+        Field::Start => test_stamp(text_or(value, "start", "0")?),
+        Field::End => test_end(text_or(value, "end", "9223372036854775808")?),
+        Field::Limit => test_limit(value),
+        Field::Direction => test_direction(text_or(value, "direction", "backward")?),
+        Field::Forced => test_forced(value),
+    }
+}
+
+/// What is tested of the value of a label by itself: a text.
+pub(crate) fn label_test(value: &Value) -> Result<(), LineFault>
+    ensures { result ≡ members.label_test (view value.now) }
+{
+    text_of(value).map(|_| ())
+}
+
+/// What is tested of a value of a push by itself: two texts, or three elements of which these are two; no
+/// third one; and the stamp.
+pub(crate) fn value_test(value: &Value) -> Result<(), LineFault>
+    ensures { result ≡ members.value_test (view value.now) }
+{
+    let list = value.as_array().ok_or(LineFault::BadCommand)?;
+    elements_test(list.as_slice())
+}
+
+/// The same of the elements of a value.
+fn elements_test(list: &[Value]) -> Result<(), LineFault>
+    ensures { result ≡ members.elements_test (items_view list.now) }
+{
+    match list {
+        [stamp, line] => texts_test(stamp, line, false),
+        [stamp, line, _] => texts_test(stamp, line, true),
+        _ => Err(LineFault::BadCommand),
+    }
+}
+
+/// The same of the two texts of a value.
+fn texts_test(stamp: &Value, line: &Value, has_metadata: bool) -> Result<(), LineFault>
+    ensures { result ≡ members.texts_test (view stamp.now) (view line.now) has_metadata }
+{
+    let stamp = text_of(stamp)?;
+    let _ = text_of(line)?;
+    if has_metadata {
+        return Err(LineFault::Metadata);
+    }
+    test_stamp(stamp)
+}

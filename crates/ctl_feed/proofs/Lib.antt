@@ -1,0 +1,11 @@
+pub mod OneLine
+pub mod ReadBack
+pub mod Written
+pub mod LabelLaws
+pub mod WrapLaws
+pub mod SizeLaws
+pub mod LoadLaws
+pub mod TimeLaws
+pub mod InputLaws
+pub mod LineLaws
+pub mod BodyLaws

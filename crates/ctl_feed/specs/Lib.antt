@@ -1,0 +1,7 @@
+pub mod Labels
+pub mod Pushes
+pub mod Wraps
+pub mod Loads
+pub mod Times
+pub mod Inputs
+pub mod Lines

@@ -1,0 +1,23 @@
+//! A person's logs made into push commands for `ingestd`.
+#![tactic(auto)]
+
+mod bodies;
+mod inputs;
+mod labels;
+mod lines;
+mod load_fault;
+mod loader;
+mod push;
+mod size;
+mod stamps;
+mod wrap;
+
+pub use bodies::{Wrapped, wrap_input};
+pub use inputs::{FeedEnding, Loaded, load_input, load_rest};
+pub use labels::{LabelFault, Labels};
+pub use load_fault::LoadFault;
+pub use loader::{Loader, MAX_VALUES};
+pub use push::push_line;
+pub use size::MAX_BYTES;
+pub use stamps::Stamps;
+pub use wrap::{MAX_LINE, WrapFault, wrap_body};
