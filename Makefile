@@ -1,6 +1,8 @@
 # `make help` lists what there is.
-.PHONY: help try run build check test mutants bench worlds stress kills documents
+.PHONY: help try run build install check test mutants bench worlds stress kills documents
 program = crates/ingestd/out/ingestd
+ctl = crates/ingestctl/out/ingestctl
+PREFIX = /usr/local
 postings_figures = crates/bench_postings/out/bench_postings
 codec_figures = crates/bench_codec/out/bench_codec
 locks_figures = crates/bench_locks/out/bench_locks
@@ -11,14 +13,15 @@ sources = crates.txt $(shell find crates -name out -prune -o \( -name '*.rt' -o 
 help:
 	@echo 'make try      runs the program on standard input before anything is proved, within a minute or two; SETTINGS=FILE'
 	@echo 'make run      runs the program on standard input, with all that it calls proved first; SETTINGS=FILE, FOLDER=FOLDER'
-	@echo 'make build    builds it, with all that it calls proved'
+	@echo 'make build    builds it and ingestctl, with all that they call proved'
+	@echo 'make install  puts both and a man page each in place; PREFIX=FOLDER'
 	@echo 'make check    proves what has changed, while you edit'
 	@echo 'make test     the whole gate: every proof, test and case, and the wrong bodies of each crate'
 	@echo 'make mutants  tries the other wrong bodies, each of which the prover has to refuse; CRATE=NAME for those of one crate'
 	@echo 'make bench    figures of time, to be read (bench/README.md)'
 	@echo 'make worlds   10,000 lists of events by lot, beside a slow program'
 	@echo 'make stress   10,000 lives of an ingester by lot, each of several threads'
-	@echo 'make kills    200 runs over a folder by lot, most of them killed, then 200 with files that may not grow; KILLS=N, SEED=N'
+	@echo 'make kills    200 runs over a folder by lot, most of them killed, then 200 with files that may not grow, then each call for a file failed (by strace); KILLS=N, SEED=N'
 
 # The toolchain's own lines go to standard error, so that standard output has the replies alone.
 try:
@@ -28,10 +31,21 @@ try:
 run: $(program)
 	@$(program) $(if $(SETTINGS)$(FOLDER),"$(or $(SETTINGS),/dev/null)") $(if $(FOLDER),"$(FOLDER)")
 
-build: $(program)
+build: $(program) $(ctl)
+
+install: build
+	install -D $(program) "$(DESTDIR)$(PREFIX)/bin/ingestd"
+	install -D $(ctl) "$(DESTDIR)$(PREFIX)/bin/ingestctl"
+	mkdir -p "$(DESTDIR)$(PREFIX)/share/man/man1"
+	scripts/man.sh ingestd > "$(DESTDIR)$(PREFIX)/share/man/man1/ingestd.1"
+	scripts/man.sh ingestctl > "$(DESTDIR)$(PREFIX)/share/man/man1/ingestctl.1"
 
 $(program): $(sources)
 	@scripts/build.sh ingestd
+	@touch $@
+
+$(ctl): $(sources)
+	@scripts/build.sh ingestctl refusals 0
 	@touch $@
 
 check:
@@ -97,3 +111,4 @@ $(nodes_by_lot): $(sources)
 kills: $(program)
 	@python3 kills/kills.py $(program) $(if $(KILLS),--rounds $(KILLS)) $(if $(SEED),--seed $(SEED))
 	@python3 kills/kills.py $(program) $(if $(KILLS),--rounds $(KILLS)) $(if $(SEED),--seed $(SEED)) --full
+	@if command -v strace >/dev/null; then python3 kills/kills.py $(program) --fail $(if $(SEED),--seed $(SEED)); else echo 'no strace: no call fails in turn'; fi

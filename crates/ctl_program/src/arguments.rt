@@ -1,0 +1,140 @@
+//! The argument words.
+use clap::{Arg, ArgAction, Command};
+use std::alloc::{AllocError, Global};
+
+/// Where stamps come from.
+static STAMPS: [&str; 2] = ["now", "line"];
+
+/// The program with its commands.
+pub fn command<'a>(alloc: Global) -> Result<Command<'a>, AllocError> {
+    Command::new(alloc, "ingestctl")
+        .about("A person's side of ingestd.")
+        .subcommand_required(true)
+        .arg_required_else_help(true)
+        .subcommand(load(alloc)?)?
+        .subcommand(wrap(alloc)?)?
+        .subcommand(explain(alloc)?)?
+        .subcommand(settings(alloc)?)?
+        .subcommand(show(alloc)?)?
+        .subcommand(check(alloc)?)?
+        .subcommand(refusals(alloc)?)
+}
+
+fn load<'a>(alloc: Global) -> Result<Command<'a>, AllocError> {
+    let stamps = Arg::new(alloc, "stamps")
+        .long("stamps")
+        .value_name("now|line")
+        .value_parser(STAMPS.as_slice())
+        .default_value("now")
+        .help(
+            "now: stamps rise from this moment on; line: a line that begins with a time has that",
+        );
+    Command::new(alloc, "load")
+        .about("Lines of text, as push commands of at most 5,000 values and 8 MiB.")
+        .arg(tenant(alloc))?
+        .arg(labels(alloc))?
+        .arg(stamps)?
+        .arg(now(alloc))?
+        .arg(files(alloc, "Files of lines; without one, standard input"))
+}
+
+fn wrap<'a>(alloc: Global) -> Result<Command<'a>, AllocError> {
+    Command::new(alloc, "wrap")
+        .about("Bodies of Loki's push API, one a line on standard input, as push commands.")
+        .arg(tenant(alloc))?
+        .arg(now(alloc))
+}
+
+fn explain<'a>(alloc: Global) -> Result<Command<'a>, AllocError> {
+    Command::new(alloc, "explain")
+        .about("What ingestd would refuse of the lines on standard input, and where.")
+        .arg(
+            Arg::new(alloc, "settings")
+                .value_name("SETTINGS")
+                .help("The settings file; without it all defaults hold"),
+        )
+}
+
+fn settings<'a>(alloc: Global) -> Result<Command<'a>, AllocError> {
+    Command::new(alloc, "settings")
+        .about("The settings in force, with their defaults, as TOML that ingestd takes.")
+        .arg(
+            Arg::new(alloc, "file")
+                .value_name("FILE")
+                .required(true)
+                .help("The settings file"),
+        )?
+        .arg(
+            Arg::new(alloc, "tenant")
+                .long("tenant")
+                .value_name("TENANT")
+                .help("Those for this tenant alone"),
+        )
+}
+
+fn show<'a>(alloc: Global) -> Result<Command<'a>, AllocError> {
+    let entries = Arg::new(alloc, "entries")
+        .long("entries")
+        .action(ArgAction::SetTrue)
+        .help("Each entry too");
+    Command::new(alloc, "show")
+        .about("A stored chunk, an index row or a log, in words.")
+        .arg(entries)?
+        .arg(files(alloc, "Files of objects or logs").required(true))
+}
+
+fn check<'a>(alloc: Global) -> Result<Command<'a>, AllocError> {
+    let folder = Arg::new(alloc, "folder")
+        .value_name("FOLDER")
+        .required(true)
+        .help("The folder that ingestd is given; no byte of it is changed");
+    let settings = Arg::new(alloc, "settings")
+        .value_name("SETTINGS")
+        .help("The settings file; without it all defaults hold");
+    Command::new(alloc, "check")
+        .about("What ingestd would recover from a folder, or why it would not start.")
+        .arg(folder)?
+        .arg(settings)
+}
+
+fn refusals<'a>(alloc: Global) -> Result<Command<'a>, AllocError> {
+    Command::new(alloc, "refusals")
+        .about("What a refusal means, when it comes, and what to do.")
+        .arg(
+            Arg::new(alloc, "which")
+                .value_name("NUMBER|NAME")
+                .help("Which one; without it all"),
+        )
+}
+
+fn tenant<'a>(alloc: Global) -> Arg<'a> {
+    Arg::new(alloc, "tenant")
+        .long("tenant")
+        .value_name("TENANT")
+        .required(true)
+        .help("Whose streams they are")
+}
+
+fn labels<'a>(alloc: Global) -> Arg<'a> {
+    Arg::new(alloc, "label")
+        .long("label")
+        .value_name("NAME=VALUE")
+        .action(ArgAction::Append)
+        .required(true)
+        .help("A label of the stream; as often as there are labels")
+}
+
+fn now<'a>(alloc: Global) -> Arg<'a> {
+    Arg::new(alloc, "now")
+        .long("now")
+        .value_name("NANOSECONDS")
+        .help("The time of the pushes, in nanoseconds since 1970; without it this moment")
+}
+
+fn files<'a>(alloc: Global, help: &'static str) -> Arg<'a> {
+    Arg::new(alloc, "files")
+        .value_name("FILE")
+        .num_args(0..)
+        .action(ArgAction::Append)
+        .help(help)
+}

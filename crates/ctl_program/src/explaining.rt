@@ -1,0 +1,39 @@
+//! `ingestctl explain`.
+use crate::given::settings;
+use crate::output::put;
+use crate::status::Status;
+use anyhow::Result;
+use clap::ArgMatches;
+use ctl_explain::explain;
+use std::io::{BufRead, Write};
+
+/// Writes for each line of the input that is refused its number and why.
+pub fn explain_lines<I: BufRead, O: Write>(
+    rt: &HostRuntime,
+    given: &ArgMatches<'_>,
+    input: &mut I,
+    output: &mut O,
+) -> Result<Status> {
+    let alloc = rt.alloc();
+    let settings = settings(rt, given.get_str("settings"))?;
+    let mut line = Vec::new(alloc);
+    let mut is_right = true;
+    for number in 1..u64::MAX {
+        line.clear();
+        if input.read_until(b'\n', &mut line)? == 0 {
+            break;
+        }
+        if line.last() == Some(&b'\n') {
+            let _ = line.pop();
+        }
+        let explained = explain(alloc, &settings, &line)?;
+        if explained.is_refused() {
+            put(
+                output,
+                format!(in alloc; "line {number}: {explained}\n")?.as_str(),
+            )?;
+            is_right = false;
+        }
+    }
+    Ok(Status::of(is_right))
+}

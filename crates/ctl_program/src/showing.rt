@@ -1,0 +1,60 @@
+//! `ingestctl show`.
+use crate::output::put;
+use crate::status::Status;
+use anyhow::{Context, Result, bail};
+use clap::ArgMatches;
+use ctl_show::{ShowFault, Shown, chunk_words, log_words, record_words, row_words, show};
+use ing_codec::{CodecFault, chunk_key};
+use ing_logged::LogReadFault;
+use std::fs;
+use std::io::Write;
+
+/// Writes what stands in each file.
+pub fn show_files<O: Write>(
+    rt: &HostRuntime,
+    given: &ArgMatches<'_>,
+    output: &mut O,
+) -> Result<Status> {
+    let with_entries = given.get_flag("entries");
+    let mut is_right = true;
+    for path in given.get_strs("files").unwrap_or(&[]) {
+        let bytes = fs::read(rt, *path).context(*path)?;
+        put(output, format!(in rt.alloc(); "{path}: ")?.as_str())?;
+        if !show_bytes(rt, &bytes, with_entries, output)? {
+            is_right = false;
+        }
+    }
+    Ok(Status::of(is_right))
+}
+
+/// Writes what stands in the bytes of a file, or their first fault; whether they have none.
+fn show_bytes<O: Write>(
+    rt: &HostRuntime,
+    bytes: &[u8],
+    with_entries: bool,
+    output: &mut O,
+) -> Result<bool> {
+    let alloc = rt.alloc();
+    match show(alloc, bytes) {
+        Ok(Shown::Chunk(chunk)) => {
+            let text = chunk_words(alloc, &chunk, &chunk_key(bytes), with_entries)?;
+            put(output, text.as_str())?;
+        }
+        Ok(Shown::Row(row)) => put(output, row_words(alloc, &row)?.as_str())?,
+        Ok(Shown::Log(found)) => {
+            put(output, log_words(alloc, &found)?.as_str())?;
+            for (at, record) in found.whole.iter().enumerate() {
+                let text = record_words(alloc, record, with_entries)?;
+                put(output, format!(in alloc; "{at}: {text}")?.as_str())?;
+            }
+        }
+        Err(ShowFault::Object(CodecFault::NoMemory) | ShowFault::Log(LogReadFault::NoMemory)) => {
+            bail!("out of memory")
+        }
+        Err(fault) => {
+            put(output, format!(in alloc; "{fault}\n")?.as_str())?;
+            return Ok(false);
+        }
+    }
+    Ok(true)
+}
