@@ -9,6 +9,7 @@ mod given;
 mod in_force;
 mod loading;
 mod output;
+mod progress;
 mod refusals;
 mod showing;
 mod status;

@@ -2,6 +2,7 @@
 use crate::feeding::fed;
 use crate::given::{now, tenant};
 use crate::output::put;
+use crate::progress::Progress;
 use crate::status::Status;
 use anyhow::{Context, Result, bail};
 use clap::ArgMatches;
@@ -22,20 +23,29 @@ pub fn load<I: BufRead, O: Write, E: Write>(
         _ => Stamps::Now,
     };
     let mut loader = loader(rt, given)?;
+    let mut output = Progress::new(rt, output);
     let mut is_right = true;
     match given.get_strs("files") {
         Some(paths) if !paths.is_empty() => {
             for path in paths {
                 let file = File::open(rt, *path).context(*path)?;
                 let mut reader = BufReader::new(rt.alloc(), file)?;
-                if !load_one(rt, path, &mut reader, output, errors, &mut loader, stamps)? {
+                if !load_one(
+                    rt,
+                    path,
+                    &mut reader,
+                    &mut output,
+                    errors,
+                    &mut loader,
+                    stamps,
+                )? {
                     is_right = false;
                 }
             }
         }
-        _ => is_right = load_one(rt, "-", input, output, errors, &mut loader, stamps)?,
+        _ => is_right = load_one(rt, "-", input, &mut output, errors, &mut loader, stamps)?,
     }
-    fed(load_rest(rt.alloc(), output, &mut loader))?;
+    fed(load_rest(rt.alloc(), &mut output, &mut loader))?;
     Ok(Status::of(is_right))
 }
 
