@@ -36,15 +36,6 @@ module _ {R : Type 0} (old : Streams R) (entries stored : ℕ) (news : List Stre
   pub counts_same : entries ≡ old.entries → map slots_of news ≡ map slots_of old.list.items → counted_by entries stored (map slots_of news) ≡ counts_of old
   counts_same same sealed = count_is (counted_by entries stored (map slots_of news)) (counts_of old) same (ap entries_flying sealed) (ap chunks_flying sealed) same_stored
 
-  -- one more stream has none
-  pub counts_begun : (n : ℕ) → entries ≡ old.entries + n → map slots_of news ≡ map slots_of old.list.items ++ [] ∷ [] → counted_by entries stored (map slots_of news) ≡ with_accepted n (counts_of old)
-  counts_begun n more sealed =
-      let xs = map slots_of old.list.items in
-      let none : (g : List Slot → ℕ) → g [] ≡ 0 → sum_by g (xs ++ [] ∷ []) ≡ sum_by g xs =
-      λ g zero. (let both = sum_by-append g xs ([] ∷ []) in let one = sum_by-cons g [] [] in omega (arith, both, one, zero)) in
-      count_is (counted_by entries stored (map slots_of news)) (with_accepted n (counts_of old)) more
-      (ap entries_flying sealed ∙ none flying_in refl) (ap chunks_flying sealed ∙ none (λ slots. length (flights_of slots)) refl) same_stored
-
 -- ---- one stream has changed
 
 sum_mapped : (g : List Slot → ℕ) (sts : List Stream) → sum_by g (map slots_of sts) ≡ sum_by (λ st. g (slots_of st)) sts

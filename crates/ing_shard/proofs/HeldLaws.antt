@@ -1,21 +1,20 @@
 -- What is held beside the streams, after one more is listed and after one has changed.
-use Rattle.std.proofs.Common.{◌-◌, ◌≡◌, ℕ, ◌+◌, ◌^◌, ◌≤◌, Bool, List, [], ◌∷◌, ◌++◌, length, cond, true, false, ◌&&◌, ◌==◌, nat_lt, Some, None, ap, sym, ◌∙◌, subst, arith, filter, append-nil, All, bytes_eq, is_some, sum_by, length-append}
+use Rattle.std.proofs.Common.{◌-◌, ◌≡◌, ℕ, ◌+◌, ◌^◌, ◌≤◌, Bool, List, [], ◌∷◌, ◌++◌, length, cond, true, false, ◌==◌, nat_lt, ap, sym, ◌∙◌, subst, arith, filter, append-nil, All, bytes_eq, is_some, sum_by}
 use Rattle.slab.specs.Slab.{Slab, get}
-use Rattle.std.proofs.lemmas.List.Elements.{All-push, All-weaker, filter-append}
-use Rattle.std.proofs.lemmas.List.Sums.{sum_by_push}
+use Rattle.std.proofs.lemmas.List.Elements.{All-weaker}
 use Rattle.ing_labels.specs.Canonical.{canonical_of}
 use Rattle.ing_labels.specs.Labels.{IsLabelSet}
-use Rattle.ing_rows.specs.Rows.{State, empty_state, same_stream}
+use Rattle.ing_rows.specs.Rows.{State, empty_state}
 use Rattle.ing_rows.specs.Turns.{beside}
 use Rattle.ing_stream.specs.Contents.{flights_of}
 use Rattle.ing_shard.specs.OneStream.{Stream}
 use Rattle.ing_shard.specs.Flights.{AreApart, flights_among, flights_in}
 use Rattle.ing_shard.specs.declared.streams.Streams.{Streams}
 use Rattle.ing_shard.specs.declared.tenants.TenantKept.{TenantKept}
-use Rattle.ing_shard.specs.Tenants.{find_of, is_known, kept_of, changed, listed_as, nothing_kept, posted_of}
+use Rattle.ing_shard.specs.Tenants.{find_of, is_known, kept_of, changed, nothing_kept, posted_of}
 use Rattle.ing_shard.specs.Streams.{key_of, part_of, whole, IsKept, AreDistinct, AreHeld, listed_of, position_of, measure_in, measure_of, measures_of, sum_of}
-use Rattle.ing_shard.proofs.ListedLaws.{listed_more, listed_same}
-use Rattle.ing_shard.proofs.PositionLaws.{none_others, position_more, distinct_more, position_same, distinct_same}
+use Rattle.ing_shard.proofs.ListedLaws.{listed_same}
+use Rattle.ing_shard.proofs.PositionLaws.{position_same, distinct_same}
 use Rattle.ing_shard.proofs.SumLaws.{measures_changed}
 use Rattle.ing_shard.proofs.CountLaws.{chosen_split, count_split, middle, replaced, sum_split}
 
@@ -50,54 +49,6 @@ measures_more t sts st none = λ i. record {
   stored_entries = sum_more (λ k. k.stored_entries) t sts st (ap (λ k. k.stored_entries) none) i;
   stored_bytes = sum_more (λ k. k.stored_bytes) t sts st (ap (λ k. k.stored_bytes) none) i;
 }
-
--- no chunk of it is in flight
-flights_more : (f : ℕ) (sts : List Stream) (st : Stream) → st.chunks.sealed ≡ [] → flights_among f sts ≡ flights_among f (sts ++ st ∷ [])
-flights_more f sts st unclaimed =
-    none_more true (flights_in f st) (flights_among f sts) (ap (λ xs. length (filter (λ g. g == f) (flights_of xs))) unclaimed)
-    ∙ ap (λ l. flights_in f st + flights_among f l) (sym (append-nil sts))
-    ∙ sym (sum_split (flights_in f) sts st [])
-
-pub held_more : {R : Type 0} (old new : Streams R) (st : Stream) → AreHeld old → new.list.items ≡ old.list.items ++ st ∷ [] → IsKept st → st.chunks.memory.next ≡ 0 → part_of st ≡ empty_state
-    → position_of (key_of st) old.list.items ≡ None
-    → ((t n : List ℕ) → find_of new.tenants t n ≡ cond (bytes_eq st.tenant t && bytes_eq (canonical_of st.labels) n) (Some (length old.list.items)) (find_of old.tenants t n))
-    → ((t : List ℕ) → posted_of new.tenants t ≡ cond (bytes_eq st.tenant t) (posted_of old.tenants t ++ listed_as (length old.list.items) st.labels ∷ []) (posted_of old.tenants t))
-    → IsLabelSet st.labels
-    → is_known new.tenants st.tenant ≡ true
-    → ((t : List ℕ) → is_known old.tenants t ≡ true → is_known new.tenants t ≡ true)
-    → ((t : List ℕ) → kept_of new.tenants t ≡ kept_of old.tenants t)
-    → new.entries ≡ old.entries → new.stored ≡ old.stored → new.active ≡ old.active → new.flights ≡ old.flights → st.chunks.sealed ≡ [] → AreHeld new
-held_more old new st held is kept next none absent find posted label_set known stay same entries stored active taken unclaimed =
-    let sts = old.list.items in
-    let s = key_of st in
-    let others = none_others s sts absent in
-    let Known : Stream → Type 0 = λ o. is_known new.tenants o.tenant ≡ true in
-    let Labelled : Stream → Type 0 = λ o. IsLabelSet o.labels in
-    let nothing = measures_nothing st none in
-    let all = held.entries in
-    let all_stored = held.stored in
-    let all_active = held.active in
-    let empty = ap (λ k. k.stored_entries) nothing in
-    let begun : Stream → Bool = λ o. nat_lt 0 o.chunks.memory.next in
-    let none_begun = ap (λ n. length (cond (nat_lt 0 n) (st ∷ []) [])) next in
-    let more_begun = ap length (filter-append begun sts (st ∷ [])) ∙ length-append (filter begun sts) (filter begun (st ∷ [])) in
-    let bound = held.few in
-    let most = held.most in
-    record {
-      kept = subst (All IsKept) (sym is) (All-push IsKept sts st held.kept kept);
-      distinct = subst AreDistinct (sym is) (distinct_more sts st held.distinct others);
-      found = λ k. find k.tenant k.name ∙ ap (cond (same_stream s k) (Some (length sts))) (held.found k) ∙ sym (position_more sts st others k) ∙ ap (position_of k) (sym is);
-      known = subst (All Known) (sym is) (All-push Known sts st (All-weaker (λ (o : Stream). is_known old.tenants o.tenant ≡ true) Known (λ o. stay o.tenant) sts held.known) known);
-      labelled = subst (All Labelled) (sym is) (All-push Labelled sts st held.labelled label_set);
-      posted = λ t. posted t ∙ ap (λ l. cond (bytes_eq st.tenant t) (l ++ listed_as (length sts) st.labels ∷ []) l) (held.posted t) ∙ sym (listed_more t sts st) ∙ ap (listed_of t) (sym is);
-      sums = λ t. same t ∙ held.sums t ∙ measures_more t sts st nothing ∙ ap (measures_of t) (sym is);
-      entries = subst (λ l. new.entries ≡ sum_by (λ o. o.chunks.memory.next) l) (sym is) (omega (arith, entries, all, next, sum_by_push (λ (o : Stream). o.chunks.memory.next) sts st));
-      stored = subst (λ l. new.stored ≡ sum_by (λ o. (measure_of o).stored_entries) l) (sym is) (omega (arith, stored, all_stored, empty, sum_by_push (λ (o : Stream). (measure_of o).stored_entries) sts st));
-      active = subst (λ l. new.active ≡ length (filter begun l)) (sym is) (omega (arith, active, all_active, none_begun, more_begun));
-      few = omega (arith, entries, bound);
-      most = omega (arith, active, most);
-      flights = λ f. let apart = held.flights f in subst (λ n. n ≡ cond (is_some (get new.flights f)) 1 0) (flights_more f sts st unclaimed ∙ ap (flights_among f) (sym is)) (subst (λ t. flights_among f sts ≡ cond (is_some (get t f)) 1 0) (sym taken) apart);
-    }
 
 -- ---- a stream has changed
 

@@ -3,11 +3,13 @@ mod BegunLaws
 mod BookLaws
 mod ChangeLaws
 mod CheckpointLaws
+mod ClaimableLaws
 mod CountLaws
 mod FlightLaws
 mod FlownLaws
 mod FlownRowsLaws
 mod FlushLaws
+mod GrowthLaws
 mod HeldLaws
 mod JudgeLaws
 mod JudgedLaws

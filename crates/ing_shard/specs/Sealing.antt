@@ -1,11 +1,12 @@
 -- Which growing chunks are sealed, and which operations there are then.
 -- What names no section of the Loki documentation is own.
 use Rattle.std.specs.Prelude.{◌≡◌, ℕ, ◌+◌, Bool, List, [], ◌∷◌, ◌++◌, ◌<◌, true, length, sum_by, is_some, replicate, if◌then◌else◌, Option, Some, None}
+use Rattle.std.specs.List.{list_any}
 use Rattle.ing_rows.specs.declared.place.SealReason.{SealReason}
 use Rattle.ing_rows.specs.declared.place.SealReason.TheVariants as reason
 use Rattle.ing_rows.specs.declared.rules.Rules.{Rules}
 use Rattle.ing_rows.specs.Rows.{StreamKey, Row, Mark, State, IsSame}
-use Rattle.ing_rows.specs.Steps.{due_of, sealed_by}
+use Rattle.ing_rows.specs.Steps.{due_of, is_growing, sealed_by}
 use Rattle.ing_rows.specs.Events.{Event, Sweep, SealAll, sealed_count}
 use Rattle.ing_rows.specs.Claims.{claimable_count}
 use Rattle.ing_chunk.specs.Chunks.{growing_due}
@@ -53,6 +54,10 @@ event_of (Due now) = Sweep now
 event_of Forced = SealAll
 
 -- ---- one stream
+
+-- a chunk of the stream grows
+abbrev pub grows : State → StreamKey → Bool
+grows st s = list_any (is_growing s) st.marks
 
 -- its growing chunk is one of these
 abbrev pub is_sealing : Sealing → Rules → StreamContents → Bool
