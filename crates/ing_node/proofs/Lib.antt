@@ -3,6 +3,7 @@ pub mod Handing
 mod Keeping
 pub mod Once
 mod PlaceLaws
+mod RecoverLaws
 pub mod PusherLaws
 pub mod Sealed
 pub mod Selected

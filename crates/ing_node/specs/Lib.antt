@@ -10,4 +10,5 @@ pub mod AnswerFaults
 pub mod Sweeps
 pub mod Diaries
 pub mod Begun
+pub mod Recovering
 pub mod Earlier

@@ -19,6 +19,7 @@ mod no_store;
 mod opening;
 mod pusher;
 mod query;
+mod recovering;
 mod report;
 mod rounds;
 mod settling;

@@ -1,5 +1,5 @@
 //! What lies in a folder: the logs of shards, and a store.
-ghost use Rattle.std.specs.Prelude.{◌≡◌, ◌⊎◌, IfErr, IfOk, vec_len};
+ghost use Rattle.std.specs.Prelude.{◌≡◌, ◌+◌, ◌<◌, ◌^◌, ◌⊎◌, IfErr, IfOk, vec_len};
 ghost use Rattle.ing_session.specs.declared.ending.Ending.{Ending};
 
 use ing_folder::{FolderFault, FolderLog, FolderStore};
@@ -95,19 +95,21 @@ pub(crate) fn end_in<D: LogDisk, E: StoreEnd, X: Folders<D, E>>(
     }
 }
 
-/// So many ends of the store in a folder, with numbers from 1 on. As `end_in`.
+/// So many ends of the store in a folder, with numbers from this one on. As `end_in`.
 pub(crate) fn ends_in<D: LogDisk, E: StoreEnd + Drop, X: Folders<D, E>>(
     alloc: Global,
     folders: &X,
     folder: &str,
+    first: u32,
     count: u32,
 ) -> Result<Vec<E>, Ending>
+    requires { first + count < 2 ^ 32 }
     ensures count { IfOk result (λ ends. vec_len ends ≡ count) }
     ensures ending { IfErr result (λ e. (e ≡ Ending.NoMemory) ⊎ (e ≡ Ending.NoObjects)) }
 {
     let mut ends = Vec::with_capacity(alloc, count as usize)?;
-    for number in 0..count {
-        ends.push(end_in(alloc, folders, folder, number + 1)?)?;
+    for place in 0..count {
+        ends.push(end_in(alloc, folders, folder, first + place)?)?;
     }
     Ok(ends)
 }

@@ -67,18 +67,11 @@ pub fn start_over<
     let settings = settings_of_file(alloc, file)?;
     let logs = logs_in(alloc, folders, folder, settings.shards())?;
     let objects = format!(in alloc; "{folder}/objects")?;
-    let mut finder = end_in(alloc, folders, objects.as_str(), 0)?;
-    let mut end = end_in(alloc, folders, objects.as_str(), settings.flushers() + 1)?;
-    let ends = ends_in(alloc, folders, objects.as_str(), settings.flushers())?;
+    let (shards, flushers) = (settings.shards(), settings.flushers());
+    let mut end = end_in(alloc, folders, objects.as_str(), 0)?;
+    let ends = ends_in(alloc, folders, objects.as_str(), 1, flushers)?;
+    let finders = ends_in(alloc, folders, objects.as_str(), flushers + 1, shards)?;
     run_recovered(
-        rt,
-        alloc,
-        reader,
-        writer,
-        &mut end,
-        ends,
-        settings,
-        logs,
-        &mut finder,
+        rt, alloc, reader, writer, &mut end, ends, settings, logs, finders,
     )
 }

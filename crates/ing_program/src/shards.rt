@@ -85,8 +85,8 @@ fn no_logs(alloc: Global, count: u32) -> Result<Vec<NoLog>, AllocError>
 
 /// Runs over the shards that these logs, one of each shard, are of, each behind a lock: as `run_shards`, but that each shard begins with
 /// what its log says of it, as `Shards::recover`, and what it accepts and stores is written to its log. As many entries are reported
-/// recovered of each shard as its log has, where logs are honest. The stored chunks are looked for by `finder`. Besides as
-/// `run_shards`; `NotRecovered` where a shard is not made again. (Own.)
+/// recovered of each shard as its log has, where logs are honest. The stored chunks are looked for by `finders`, one of each shard.
+/// Besides as `run_shards`; `NotRecovered` where a shard is not made again. (Own.)
 pub fn run_recovered<
     I: Read,
     O: Write,
@@ -95,7 +95,7 @@ pub fn run_recovered<
     F: StoreEnd<Receipt = R> + Drop + Send,
     W: Threads + Wait + Sync,
     S: StoreEnd<Receipt = R>,
-    P: StoreEnd<Receipt = R>,
+    P: StoreEnd<Receipt = R> + Drop + Send,
 >(
     rt: &W,
     alloc: Global,
@@ -105,10 +105,11 @@ pub fn run_recovered<
     ends: Vec<F>,
     settings: Settings,
     logs: Vec<D>,
-    finder: &mut P,
+    finders: Vec<P>,
 ) -> Result<(), Ending>
     requires some { 0 < vec_len ends }
     requires logs { vec_len logs ≡ settings.shards }
+    requires finders { vec_len finders ≡ settings.shards }
     ensures output { OnOk result (IfSome (I.remaining reader.old) (λ input. (began : Began)
         × BeginsOver D.is_honest (map (λ log. (D.seen log).now.bytes) logs.items) began
         × AnswersAll (by_ledger began settings.shards) settings input (S.failure_count end.old) (S.failure_count end.new)
@@ -132,7 +133,7 @@ pub fn run_recovered<
     ensures not_opened { IfErr result (λ e. IsNotOpened e ⊎ IsNotRecovered e → writer.new ≡ writer.old) }
     ensures ending { IfErr result (λ e. IsTrue (is_of_run e) ⊎ IsNotOpened e ⊎ IsNotRecovered e) }
 {
-    match Shards::recover(alloc, settings, logs, finder) {
+    match Shards::recover(rt, alloc, settings, logs, finders) {
         Ok(shards) => run_locked::<Brand, I, O, D, R, F, W, S>(
             rt, alloc, reader, writer, end, ends, shards, true,
         ),

@@ -83,3 +83,43 @@ fn checkpoints_and_what_is_refused(rt: HostRuntime) -> Result<(), Fail> {
     fs::remove_dir_all(&rt, folder.as_str())?;
     Ok(())
 }
+
+/// What is reported of four shards in which `PUSHES` lies since an earlier run.
+const FOUR: &str =
+    "{\"report\":[{\"accepted\":0,\"kept\":1,\"recovered\":1,\"stored\":0},{\"accepted\":0,\"kept\":0,\"recovered\":0,\"stored\":0},{\"accepted\":0,\"kept\":1,\"recovered\":1,\"stored\":0},{\"accepted\":0,\"kept\":0,\"recovered\":0,\"stored\":0}]}\n";
+
+/// Several shards are made again, each of its own log. Where two are refused, the fault of the lower one is told, and the others keep
+/// what they have.
+#[test]
+fn several_shards_are_made_again(rt: HostRuntime) -> Result<(), Fail> {
+    let (folder, settings) = places(&rt, "several")?;
+    let words = [settings.as_str(), folder.as_str()];
+    let disk = Disk::new(&rt);
+    fs::write(&rt, settings.as_str(), "shards = 4\n")?;
+    let (ended, _) = started(&rt, &disk, &words, PUSHES)?;
+    assert_eq!(rt; ended, Ok(()));
+    let (ended, written) = started(&rt, &disk, &words, "")?;
+    assert_eq!(rt; ended, Ok(()));
+    assert_eq!(rt; written.as_str(), FOUR);
+    let full = format!(in rt.alloc(); "{}/wal-0", folder.as_str())?;
+    let lower = format!(in rt.alloc(); "{}/wal-1", folder.as_str())?;
+    let higher = format!(in rt.alloc(); "{}/wal-3", folder.as_str())?;
+    let of_another = fs::read(&rt, full.as_str())?;
+    fs::write(&rt, lower.as_str(), of_another.as_slice())?;
+    fs::write(
+        &rt,
+        higher.as_str(),
+        "no record at all, of more than sixteen bytes",
+    )?;
+    let (ended, _) = started(&rt, &disk, &words, "")?;
+    let mut errors = Vec::new(rt.alloc());
+    assert_eq!(rt; conclude(ended, &mut errors), 2);
+    assert_eq!(rt; errors.as_slice(), b"ingestd: OtherSettings\n".as_slice());
+    fs::remove_file(&rt, lower.as_str())?;
+    fs::remove_file(&rt, higher.as_str())?;
+    let (_, written) = started(&rt, &disk, &words, "")?;
+    assert_eq!(rt; written.as_str(), FOUR);
+    fs::remove_file(&rt, settings.as_str())?;
+    fs::remove_dir_all(&rt, folder.as_str())?;
+    Ok(())
+}
