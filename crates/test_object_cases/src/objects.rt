@@ -1,31 +1,39 @@
 //! What the bytes of an object are.
 use anyhow::{Result, bail};
 use ing_codec::{
-    LentChunk, chunk_key, chunk_name, decode_chunk, decode_lent, decode_row, encode_chunk,
-    encode_row, row_name,
+    Extent, IndexRow, LentChunk, StoredChunk, chunk_key, chunk_name, decode_chunk, decode_lent,
+    decode_row, encode_chunk, encode_row, row_name,
 };
 use std::alloc::Global;
 
 /// What a chunk is, or its first fault, which is the same one where lines stay in the bytes.
 pub fn chunk_told(alloc: Global, bytes: &[u8]) -> Result<String> {
-    let lent = decode_lent(alloc, bytes);
-    let chunk = match decode_chunk(alloc, bytes) {
-        Ok(chunk) => chunk,
+    match decode_chunk(alloc, bytes) {
+        Ok(chunk) => whole_told(alloc, bytes, &chunk),
         Err(fault) => {
-            if lent.err() != Some(fault) {
+            if decode_lent(alloc, bytes).err() != Some(fault) {
                 bail!("another fault where lines stay in the bytes");
             }
-            return Ok(format!(in alloc; "{fault:?}")?);
+            Ok(format!(in alloc; "{fault:?}")?)
         }
-    };
-    let again = encode_chunk(alloc, &chunk.view())?;
-    if again.as_slice() != bytes {
+    }
+}
+
+/// What a chunk is, which has to be written again as these bytes.
+fn whole_told(alloc: Global, bytes: &[u8], chunk: &StoredChunk) -> Result<String> {
+    if encode_chunk(alloc, &chunk.view())?.as_slice() != bytes {
         bail!("a chunk is written in another way");
     }
+    let parts = parts_told(alloc, chunk)?;
+    let last = last_told(alloc, &decode_lent(alloc, bytes)?)?;
     let name = chunk_name(alloc, &chunk_key(bytes))?;
-    let last = last_told(alloc, &lent?)?;
+    Ok(format!(in alloc; "{parts}, the last {last}, {name}")?)
+}
+
+/// Whose a chunk is, and what it has.
+fn parts_told(alloc: Global, chunk: &StoredChunk) -> Result<String> {
     Ok(format!(in alloc;
-        "{} {} from {}, {} blocks with {} entries of {} bytes, the last {last}, {name}",
+        "{} {} from {}, {} blocks with {} entries of {} bytes",
         chunk.tenant().as_str(),
         chunk.labels().name(),
         chunk.first(),
@@ -53,20 +61,30 @@ fn last_told(alloc: Global, chunk: &LentChunk<'_>) -> Result<String> {
 
 /// What a row is, or its first fault.
 pub fn row_told(alloc: Global, bytes: &[u8]) -> Result<String> {
-    let row = match decode_row(alloc, bytes) {
-        Ok(row) => row,
-        Err(fault) => return Ok(format!(in alloc; "{fault:?}")?),
-    };
-    let again = encode_row(alloc, &row)?;
-    if again.as_slice() != bytes {
+    match decode_row(alloc, bytes) {
+        Ok(row) => row_parts_told(alloc, bytes, &row),
+        Err(fault) => Ok(format!(in alloc; "{fault:?}")?),
+    }
+}
+
+/// What a row says, which has to be written again as these bytes.
+fn row_parts_told(alloc: Global, bytes: &[u8], row: &IndexRow) -> Result<String> {
+    if encode_row(alloc, row)?.as_slice() != bytes {
         bail!("a row is written in another way");
     }
-    let extent = row.extent();
+    let extent = extent_told(alloc, &row.extent())?;
     let name = row_name(alloc, row.tenant(), row.labels().name(), &row.key())?;
     Ok(format!(in alloc;
-        "{} {} from {}, {} entries of {} bytes, stamps {} to {}, {name}",
+        "{} {} {extent}, {name}",
         row.tenant().as_str(),
-        row.labels().name(),
+        row.labels().name()
+    )?)
+}
+
+/// The numbers of an extent.
+fn extent_told(alloc: Global, extent: &Extent) -> Result<String> {
+    Ok(format!(in alloc;
+        "from {}, {} entries of {} bytes, stamps {} to {}",
         extent.first,
         extent.count,
         extent.size,
