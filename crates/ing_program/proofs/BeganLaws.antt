@@ -12,7 +12,7 @@ use Rattle.ing_durable.specs.Kept.{Replays}
 use Rattle.ing_shard.specs.Contents.{stored_count}
 use Rattle.ing_node.specs.Begun.{AreBegunFrom, BegunState, HasCounted, HasReplayed, HasTornLog, IsFresh}
 use Rattle.ing_node.specs.Earlier.{earlier_of}
-use Rattle.ing_program.specs.ByLedger.{BeginsOver, IsLogged, began_new, began_with}
+use Rattle.ing_program.specs.ByLedger.{BeginsOver, BeginsAsLogged, began_new, began_with}
 
 told_none : {D : Type 0} (bs : List (BegunState D)) → AllByRecursion IsFresh bs → (i : ℕ) → amount_at i (map (λ b. b.accepted) bs) ≡ 0
 told_none [] fresh i = refl
@@ -62,7 +62,7 @@ stored_of_all (b ∷ bs) counted =
     ∙ sym (sum_by-cons (λ (st : State). stored_count st.rows) (state_of b) (map state_of bs))
 
 pub logged_began : {D : Type 0} (settings : StoreSettings) (text : D → List ℕ) (logs : List D) (bs : List (BegunState D)) → length bs ≡ length logs
-    → AreBegunFrom settings 0 bs → AllByRecursion (HasReplayed text logs) bs → AllByRecursion HasCounted bs → IsLogged (map text logs) (began_with true (earlier_of bs))
+    → AreBegunFrom settings 0 bs → AllByRecursion (HasReplayed text logs) bs → AllByRecursion HasCounted bs → BeginsAsLogged (map text logs) (began_with true (earlier_of bs))
 logged_began {D = D} settings text logs bs long placed replayed counted =
     record {
       states = map (state_of {D = D}) bs;

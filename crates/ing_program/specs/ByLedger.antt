@@ -67,7 +67,7 @@ abbrev pub began_with : Bool → EarlierState → Began
 began_with logs earlier = record { logs = logs; recovered = λ i. amount_at i earlier.told; stored = amount_of earlier.stored }
 
 -- Shards begin with what logs of these texts say, one of each shard: what its text replays to was there, and what of that was stored.
-pub record IsLogged (texts : List (List ℕ)) (began : Began) : Type 0 where
+pub record BeginsAsLogged (texts : List (List ℕ)) (began : Began) : Type 0 where
   pub states : List State
   pub all : length states ≡ length texts
   pub replays : (i : ℕ) (text : List ℕ) (st : State) → slice_get texts i ≡ Some text → slice_get states i ≡ Some st → Replays text st
@@ -76,7 +76,7 @@ pub record IsLogged (texts : List (List ℕ)) (began : Began) : Type 0 where
 
 -- they have logs, which say this where the logs are honest
 abbrev pub BeginsOver : Type 0 → List (List ℕ) → Began → Type 0
-BeginsOver honest texts began = (began.logs ≡ true) × (honest → IsLogged texts began)
+BeginsOver honest texts began = (began.logs ≡ true) × (honest → BeginsAsLogged texts began)
 
 -- how many entries were told accepted, by the number of their shard
 abbrev pub Told : Type 0
