@@ -1,5 +1,6 @@
 //! What no file can say: readers, writers and ends that fail, readers and writers that watch one another, settings files,
 //! lines of 16 MiB, and a refused allocation.
+mod faults;
 mod flushes;
 mod folders;
 
