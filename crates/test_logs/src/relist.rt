@@ -32,65 +32,112 @@ fn extent() -> Result<Extent, Fail> {
     })
 }
 
-/// A store that has these bytes under the name of that chunk.
-fn store_of<R: Wait>(rt: &R, alloc: Global, bytes: &[u8]) -> Result<MemoryStore, Fail> {
-    let store = MemoryStore::new(alloc)?;
-    let name = chunk_name(alloc, &KEY)?;
-    let _ = store.end(rt, Fuse::None).put(alloc, name.as_str(), bytes)?;
-    Ok(store)
+/// Whose a chunk is said to be.
+#[derive(Drop)]
+struct Stream {
+    tenant: Tenant,
+    labels: Labels,
 }
 
-/// The listing of a chunk under that key.
-fn relisted<'a, R: Wait>(
+fn stream_of(alloc: Global, tenant: &str, labels: &str) -> Result<Stream, Fail> {
+    Ok(Stream {
+        tenant: Tenant::of_text(alloc, tenant)?,
+        labels: Labels::parse_canonical(alloc, labels)?,
+    })
+}
+
+/// Puts these bytes under the name of that chunk.
+fn put_as_chunk<R: Wait>(
     alloc: Global,
-    end: &mut MemoryEnd<'a, R>,
-    tenant: &str,
-    name: &str,
-    extent: Extent,
-) -> Result<Result<Listing<MemoryReceipt<'a>>, RelistFault>, Fail> {
-    let tenant = Tenant::of_text(alloc, tenant)?;
-    let labels = Labels::parse_canonical(alloc, name)?;
-    Ok(relist(alloc, end, &tenant, &labels, extent, &KEY, None))
+    end: &mut MemoryEnd<'_, R>,
+    bytes: &[u8],
+) -> Result<(), Fail> {
+    let name = chunk_name(alloc, &KEY)?;
+    let _ = end.put(alloc, name.as_str(), bytes)?;
+    Ok(())
 }
 
-/// Why a chunk is not listed again.
+/// Why a chunk is not listed again under that key, as one with this extent that ends with this entry.
 fn fault_of<R: Wait>(
     alloc: Global,
     end: &mut MemoryEnd<'_, R>,
-    tenant: &str,
-    name: &str,
+    stream: &Stream,
     extent: Extent,
-) -> Result<Option<RelistFault>, Fail> {
-    Ok(relisted(alloc, end, tenant, name, extent)?.err())
+    last: Option<&Entry>,
+) -> Option<RelistFault> {
+    relist(
+        alloc,
+        end,
+        &stream.tenant,
+        &stream.labels,
+        extent,
+        &KEY,
+        last,
+    )
+    .err()
+}
+
+/// Puts that chunk: its key.
+fn put_whole<R: Wait>(alloc: Global, end: &mut MemoryEnd<'_, R>) -> Result<[u8; 32], Fail> {
+    let chunk = decode_chunk(alloc, &CHUNK)?;
+    Ok(put_chunk(alloc, end, &chunk.view())?.key)
+}
+
+/// Whether a listing is of that chunk, and its receipt means the chunk.
+fn is_of_chunk<'a, R: Wait>(
+    alloc: Global,
+    end: &mut MemoryEnd<'a, R>,
+    listing: &Listing<MemoryReceipt<'a>>,
+) -> Result<bool, Fail> {
+    let bytes = end.get(alloc, listing.receipt())?;
+    Ok(
+        listing.key() == KEY
+            && listing.tenant().as_str() == "t"
+            && listing.labels().name() == "{a=\"1\"}"
+            && listing.extent() == extent()?
+            && bytes.as_slice() == CHUNK.as_slice(),
+    )
+}
+
+/// Whether that chunk, which was put, is listed again.
+fn is_listed_again<R: Wait>(
+    alloc: Global,
+    end: &mut MemoryEnd<'_, R>,
+    stream: &Stream,
+) -> Result<bool, Fail> {
+    let listing = relist(
+        alloc,
+        end,
+        &stream.tenant,
+        &stream.labels,
+        extent()?,
+        &KEY,
+        None,
+    )?;
+    is_of_chunk(alloc, end, &listing)
 }
 
 #[test]
 fn a_stored_chunk_is_listed_again(rt: HostRuntime) -> Result<(), Fail> {
-    let alloc = rt.alloc();
-    let store = MemoryStore::new(alloc)?;
+    let stream = stream_of(rt.alloc(), "t", "{a=\"1\"}")?;
+    let store = MemoryStore::new(rt.alloc())?;
     let mut end = store.end(&rt, Fuse::None);
-    let chunk = decode_chunk(alloc, &CHUNK)?;
-    let uploaded = put_chunk(alloc, &mut end, &chunk.view())?;
-    let listing = relisted(alloc, &mut end, "t", "{a=\"1\"}", extent()?)??;
-    assert!(rt; listing.key() == KEY && uploaded.key == KEY);
-    assert!(rt; listing.tenant().as_str() == "t" && listing.labels().name() == "{a=\"1\"}");
-    assert!(rt; listing.extent() == extent()?);
-    assert!(rt; end.get(alloc, listing.receipt())?.as_slice() == CHUNK.as_slice());
-    assert_eq!(rt; end.failures(), 0);
+    assert!(rt; put_whole(rt.alloc(), &mut end)? == KEY);
+    assert!(rt; is_listed_again(rt.alloc(), &mut end, &stream)?);
+    assert!(rt; end.failures() == 0);
     Ok(())
 }
 
-/// A chunk of another tenant, of another stream, and each extent that differs in one number.
-#[test]
-fn a_chunk_is_not_taken_for_another(rt: HostRuntime) -> Result<(), Fail> {
-    let alloc = rt.alloc();
-    let store = store_of(&rt, alloc, &CHUNK)?;
-    let mut end = store.end(&rt, Fuse::None);
+/// No other extent is taken for that of the chunk, where one number differs.
+fn takes_no_other<R: Wait>(
+    rt: &impl Abort,
+    alloc: Global,
+    end: &mut MemoryEnd<'_, R>,
+) -> Result<(), Fail> {
+    let own = stream_of(alloc, "t", "{a=\"1\"}")?;
     let bad = Some(RelistFault::BadObject { key: KEY });
     let x = extent()?;
     let four = Stamp::of_nanoseconds(4).ok_or("a stamp")?;
-    assert!(rt; fault_of(alloc, &mut end, "u", "{a=\"1\"}", x)? == bad);
-    assert!(rt; fault_of(alloc, &mut end, "t", "{a=\"2\"}", x)? == bad);
     for other in [
         Extent { first: 1, ..x },
         Extent { count: 3, ..x },
@@ -101,75 +148,121 @@ fn a_chunk_is_not_taken_for_another(rt: HostRuntime) -> Result<(), Fail> {
             ..x
         },
     ] {
-        assert!(rt; fault_of(alloc, &mut end, "t", "{a=\"1\"}", other)? == bad);
+        assert!(rt; fault_of(alloc, end, &own, other, None) == bad);
     }
-    assert!(rt; fault_of(alloc, &mut end, "t", "{a=\"1\"}", x)?.is_none());
+    assert!(rt; fault_of(alloc, end, &own, x, None).is_none());
     Ok(())
 }
 
-/// The last entry of that chunk is the one of number 1, `yz` at stamp 3.
+/// The chunk is not taken for one of this tenant and stream.
+fn is_of_another<R: Wait>(
+    rt: &impl Abort,
+    alloc: Global,
+    end: &mut MemoryEnd<'_, R>,
+    tenant: &str,
+    labels: &str,
+) -> Result<(), Fail> {
+    let other = stream_of(alloc, tenant, labels)?;
+    let fault = fault_of(alloc, end, &other, extent()?, None);
+    assert!(rt; fault == Some(RelistFault::BadObject { key: KEY }));
+    Ok(())
+}
+
+/// A chunk of another tenant, of another stream, and each extent that differs in one number.
 #[test]
-fn a_chunk_ends_with_its_last_entry(rt: HostRuntime) -> Result<(), Fail> {
-    let alloc = rt.alloc();
-    let store = store_of(&rt, alloc, &CHUNK)?;
+fn a_chunk_is_not_taken_for_another(rt: HostRuntime) -> Result<(), Fail> {
+    let store = MemoryStore::new(rt.alloc())?;
     let mut end = store.end(&rt, Fuse::None);
-    let tenant = Tenant::of_text(alloc, "t")?;
-    let labels = Labels::parse_canonical(alloc, "{a=\"1\"}")?;
+    put_as_chunk(rt.alloc(), &mut end, &CHUNK)?;
+    is_of_another(&rt, rt.alloc(), &mut end, "u", "{a=\"1\"}")?;
+    is_of_another(&rt, rt.alloc(), &mut end, "t", "{a=\"2\"}")?;
+    takes_no_other(&rt, rt.alloc(), &mut end)
+}
+
+/// Whether the chunk is listed again as one that ends with this entry; if not, it is a bad object.
+fn ends_with<R: Wait>(
+    rt: &impl Abort,
+    alloc: Global,
+    end: &mut MemoryEnd<'_, R>,
+    stream: &Stream,
+    stamp: u64,
+    line: &str,
+) -> Result<bool, Fail> {
+    let extent = extent()?;
+    let last = Entry {
+        stamp: Stamp::of_nanoseconds(stamp).ok_or("a stamp")?,
+        line: Line::of_text(alloc, line)?,
+    };
+    let fault = fault_of(alloc, end, stream, extent, Some(&last));
+    assert!(rt; fault.is_none() || fault == Some(RelistFault::BadObject { key: KEY }));
+    Ok(fault.is_none())
+}
+
+/// The last entry of that chunk is the one of number 1, `yz` at stamp 3.
+fn ends_with_its_last<R: Wait>(
+    rt: &impl Abort,
+    alloc: Global,
+    end: &mut MemoryEnd<'_, R>,
+) -> Result<(), Fail> {
+    let stream = stream_of(alloc, "t", "{a=\"1\"}")?;
     for (stamp, line, ends) in [
         (3, "yz", true),
         (4, "yz", false),
         (3, "y", false),
         (5, "x", false),
     ] {
-        let last = Entry {
-            stamp: Stamp::of_nanoseconds(stamp).ok_or("a stamp")?,
-            line: Line::of_text(alloc, line)?,
-        };
-        let listed = relist(
-            alloc,
-            &mut end,
-            &tenant,
-            &labels,
-            extent()?,
-            &KEY,
-            Some(&last),
-        );
-        assert_eq!(rt; listed.is_ok(), ends);
-        assert!(rt; ends || listed.err() == Some(RelistFault::BadObject { key: KEY }));
+        assert!(rt; ends_with(rt, alloc, end, &stream, stamp, line)? == ends);
     }
     Ok(())
 }
 
-/// A store without the object, one whose object has a byte changed or lacks its last, and one that fails.
 #[test]
-fn what_a_store_has_not_is_not_listed(rt: HostRuntime) -> Result<(), Fail> {
-    let alloc = rt.alloc();
-    let empty = MemoryStore::new(alloc)?;
-    let missing = fault_of(
-        alloc,
-        &mut empty.end(&rt, Fuse::None),
-        "t",
-        "{a=\"1\"}",
-        extent()?,
-    )?;
-    assert!(rt; missing == Some(RelistFault::Missing { key: KEY }));
+fn a_chunk_ends_with_its_last_entry(rt: HostRuntime) -> Result<(), Fail> {
+    let store = MemoryStore::new(rt.alloc())?;
+    let mut end = store.end(&rt, Fuse::None);
+    put_as_chunk(rt.alloc(), &mut end, &CHUNK)?;
+    ends_with_its_last(&rt, rt.alloc(), &mut end)
+}
+
+/// Why the chunk is not listed where a store has these bytes in its place.
+fn fault_over<R: Wait>(
+    rt: &R,
+    alloc: Global,
+    stream: &Stream,
+    bytes: &[u8],
+) -> Result<Option<RelistFault>, Fail> {
+    let store = MemoryStore::new(alloc)?;
+    let mut end = store.end(rt, Fuse::None);
+    put_as_chunk(alloc, &mut end, bytes)?;
+    Ok(fault_of(alloc, &mut end, stream, extent()?, None))
+}
+
+/// An object that has a byte changed, and one that lacks its last.
+#[test]
+fn a_damaged_object_is_not_listed(rt: HostRuntime) -> Result<(), Fail> {
+    let stream = stream_of(rt.alloc(), "t", "{a=\"1\"}")?;
     let mut changed = CHUNK;
     changed[68] = b'z';
     for bytes in [changed.as_slice(), &CHUNK[..68]] {
-        let store = store_of(&rt, alloc, bytes)?;
-        let bad = fault_of(
-            alloc,
-            &mut store.end(&rt, Fuse::None),
-            "t",
-            "{a=\"1\"}",
-            extent()?,
-        )?;
-        assert!(rt; bad == Some(RelistFault::BadObject { key: KEY }));
+        let fault = fault_over(&rt, rt.alloc(), &stream, bytes)?;
+        assert!(rt; fault == Some(RelistFault::BadObject { key: KEY }));
     }
-    let store = store_of(&rt, alloc, &CHUNK)?;
+    Ok(())
+}
+
+/// A store without the object, and one that has it and fails.
+#[test]
+fn what_a_store_has_not_is_not_listed(rt: HostRuntime) -> Result<(), Fail> {
+    let stream = stream_of(rt.alloc(), "t", "{a=\"1\"}")?;
+    let extent = extent()?;
+    let store = MemoryStore::new(rt.alloc())?;
+    let mut end = store.end(&rt, Fuse::None);
+    let missing = fault_of(rt.alloc(), &mut end, &stream, extent, None);
+    assert!(rt; missing == Some(RelistFault::Missing { key: KEY }));
+    put_as_chunk(rt.alloc(), &mut end, &CHUNK)?;
     let mut dead = store.dead_end(&rt, 0);
-    let failed = fault_of(alloc, &mut dead, "t", "{a=\"1\"}", extent()?)?;
+    let failed = fault_of(rt.alloc(), &mut dead, &stream, extent, None);
     assert!(rt; failed == Some(RelistFault::Failed { key: KEY }));
-    assert_eq!(rt; dead.failures(), 1);
+    assert!(rt; dead.failures() == 1);
     Ok(())
 }
