@@ -11,6 +11,7 @@ use ing_store::{Fuse, MemoryStore, Receipt, StoreEnd};
 use ing_wal::LogDisk;
 use std::cell::Cell;
 use std::io::{Error, ErrorKind, Read, Write};
+use std::process::Abort;
 use std::rt::Files;
 use std::sync::Wait;
 use std::test::Fail;
@@ -101,17 +102,22 @@ fn temporary(rt: &HostRuntime, name: &str) -> Result<String, Fail> {
     Ok(format!(in rt.alloc(); "{}/sarymbeu-{name}", folder.as_str())?)
 }
 
-#[test]
-fn settings_from_a_file(rt: HostRuntime) -> Result<(), Fail> {
-    // What counts stands behind the first 64 KiB of the file.
+/// A settings file in which what counts stands behind the first 64 KiB: its path.
+fn long_settings(rt: &HostRuntime) -> Result<String, Fail> {
     let mut file = "#\n".repeat(rt.alloc(), 40_000)?;
     file.push_str("[tenants.acme]\nmax_line_size = 4\n")?;
     let name = format!(in rt.alloc(); "{}.toml", process::id(rt.process()))?;
-    let path = temporary(&rt, name.as_str())?;
-    fs::write(&rt, path.as_str(), file.as_bytes())?;
+    let path = temporary(rt, name.as_str())?;
+    fs::write(rt, path.as_str(), file.as_bytes())?;
+    Ok(path)
+}
+
+#[test]
+fn settings_from_a_file(rt: HostRuntime) -> Result<(), Fail> {
+    let path = long_settings(&rt)?;
     let (ended, written) = started(&rt, &Disk::new(&rt), &[path.as_str()], PUSHES)?;
     fs::remove_file(&rt, path.as_str())?;
-    assert_eq!(rt; ended, Ok(()));
+    assert!(rt; ended == Ok(()));
     assert!(rt; written.as_str().contains("\"line_too_long\""));
     Ok(())
 }
@@ -124,9 +130,25 @@ fn whole_output(rt: &HostRuntime) -> Result<String, Fail> {
 #[test]
 fn no_word_means_no_settings(rt: HostRuntime) -> Result<(), Fail> {
     let (ended, written) = started(&rt, &Disk::new(&rt), &[], PUSHES)?;
-    assert_eq!(rt; ended, Ok(()));
-    assert_eq!(rt; written.as_str(), whole_output(&rt)?.as_str());
+    assert!(rt; ended == Ok(()));
+    assert!(rt; written.as_str() == whole_output(&rt)?.as_str());
     Ok(())
+}
+
+/// Whether the program with these words ends with this status, says this, and writes nothing.
+fn is_refused<H: Files + AllocGlobal + Threads + Wait + Sync>(
+    rt: &H,
+    words: &[&str],
+    status: u8,
+    said: &[u8],
+) -> Result<bool, Fail>
+where
+    H::File: Send,
+{
+    let (ended, written) = started(rt, &Disk::new(rt), words, PUSHES)?;
+    let mut errors = Vec::new(rt.alloc());
+    let is_status = conclude(ended, &mut errors) == status;
+    Ok(is_status && errors.as_slice() == said && written.as_str().is_empty())
 }
 
 #[test]
@@ -134,11 +156,7 @@ fn words_that_name_no_file(rt: HostRuntime) -> Result<(), Fail> {
     let missing = temporary(&rt, "no-such-file.toml")?;
     let folder = env::temp_dir(&rt)?;
     for path in [missing.as_str(), folder.as_str(), ""] {
-        let (ended, written) = started(&rt, &Disk::new(&rt), &[path], PUSHES)?;
-        let mut errors = Vec::new(rt.alloc());
-        assert_eq!(rt; conclude(ended, &mut errors), 1);
-        assert_eq!(rt; errors.as_slice(), b"ingestd: NoSettings\n".as_slice());
-        assert_eq!(rt; written.as_str(), "");
+        assert!(rt; is_refused(&rt, &[path], 1, b"ingestd: NoSettings\n")?);
     }
     Ok(())
 }
@@ -146,14 +164,10 @@ fn words_that_name_no_file(rt: HostRuntime) -> Result<(), Fail> {
 #[test]
 fn more_words_than_two(rt: HostRuntime) -> Result<(), Fail> {
     let missing = temporary(&rt, "no-such-file.toml")?;
-    let (ended, written) = started(
-        &rt,
-        &Disk::new(&rt),
-        &[missing.as_str(), missing.as_str(), missing.as_str()],
-        PUSHES,
-    )?;
-    assert_eq!(rt; ended, Err(Ending::BadArguments));
-    assert_eq!(rt; written.as_str(), "");
+    let word = missing.as_str();
+    let (ended, written) = started(&rt, &Disk::new(&rt), &[word, word, word], PUSHES)?;
+    assert!(rt; ended == Err(Ending::BadArguments));
+    assert!(rt; written.as_str().is_empty());
     Ok(())
 }
 
@@ -202,15 +216,18 @@ fn run_in_pieces<H: AllocGlobal + Wait>(
 
 const PIECES: [usize; 5] = [1, 2, 3, 7, 1000];
 
-#[test]
-fn input_in_pieces(rt: HostRuntime) -> Result<(), Fail> {
-    let whole = whole_output(&rt)?;
+/// Each run on `PUSHES` in pieces ends so, and has written this.
+fn goes_in_pieces<H: AllocGlobal + Wait + Abort>(
+    rt: &H,
+    fails: bool,
+    ends: Result<(), Ending>,
+    output: &str,
+) -> Result<(), Fail> {
     for piece in PIECES {
-        let (ended, written) = run_in_pieces(&rt, piece, false)?;
-        assert_eq!(rt; ended, Ok(()), "in pieces of {piece}");
-        assert_eq!(rt;
-            written.as_slice(),
-            whole.as_bytes(),
+        let (ended, written) = run_in_pieces(rt, piece, fails)?;
+        assert!(rt; ended == ends, "in pieces of {piece}");
+        assert!(rt;
+            written.as_slice() == output.as_bytes(),
             "in pieces of {piece}"
         );
     }
@@ -218,18 +235,15 @@ fn input_in_pieces(rt: HostRuntime) -> Result<(), Fail> {
 }
 
 #[test]
+fn input_in_pieces(rt: HostRuntime) -> Result<(), Fail> {
+    let whole = whole_output(&rt)?;
+    goes_in_pieces(&rt, false, Ok(()), whole.as_str())
+}
+
+#[test]
 fn a_failed_read_ends_the_run_without_a_report(rt: HostRuntime) -> Result<(), Fail> {
     let answered = REPLY.repeat(rt.alloc(), 2)?;
-    for piece in PIECES {
-        let (ended, written) = run_in_pieces(&rt, piece, true)?;
-        assert_eq!(rt; ended, Err(Ending::InputFault), "in pieces of {piece}");
-        assert_eq!(rt;
-            written.as_slice(),
-            answered.as_bytes(),
-            "in pieces of {piece}"
-        );
-    }
-    Ok(())
+    goes_in_pieces(&rt, true, Err(Ending::InputFault), answered.as_str())
 }
 
 /// Gives a line at each read, and counts the bytes that were flushed to the other side before it.

@@ -1,8 +1,11 @@
-//! The program over a folder.
-use super::{FLUSH, PUSHES, started, temporary};
+//! The program over a folder. One function owns the paths, and the others borrow them.
+use super::{FLUSH, PUSHES, is_refused, started, temporary};
 use ing_program::Disk;
-use ing_session::conclude;
+use std::process::Abort;
+use std::rt::Files;
+use std::sync::Wait;
 use std::test::Fail;
+use std::thread::Threads;
 use std::{fs, process};
 
 /// A query that finds what `PUSHES` has of one tenant.
@@ -10,78 +13,113 @@ const QUERY: &str = "{\"cmd\":\"query\",\"tenant\":\"t\",\"query\":\"{a=\\\"1\\\
 
 const CHECKPOINT: &str = "{\"cmd\":\"checkpoint\"}\n";
 
-/// A folder of this test alone, which is not there yet, and the path of a settings file in the folder for temporary files.
-fn places(rt: &HostRuntime, name: &str) -> Result<(String, String), Fail> {
-    let number = process::id(rt.process());
-    let folder = format!(in rt.alloc(); "{name}-{number}")?;
-    let settings = format!(in rt.alloc(); "{name}-{number}.toml")?;
-    Ok((
-        temporary(rt, folder.as_str())?,
-        temporary(rt, settings.as_str())?,
-    ))
+/// A folder of one test alone, and a settings file.
+#[derive(Drop)]
+struct Places {
+    folder: String,
+    settings: String,
 }
 
-/// What was told durable is there in the next run, in memory and in the store; other settings are refused.
+/// Those of this name, in the folder for temporary files: the folder is not there yet, and the settings say nothing.
+fn places_of(rt: &HostRuntime, name: &str) -> Result<Places, Fail> {
+    let name = format!(in rt.alloc(); "{name}-{}", process::id(rt.process()))?;
+    let folder = temporary(rt, name.as_str())?;
+    let settings = format!(in rt.alloc(); "{}.toml", folder.as_str())?;
+    fs::write(rt, settings.as_str(), "")?;
+    Ok(Places { folder, settings })
+}
+
+/// Removes both.
+fn remove(rt: &HostRuntime, places: &Places) -> Result<(), Fail> {
+    fs::remove_file(rt, places.settings.as_str())?;
+    fs::remove_dir_all(rt, places.folder.as_str())?;
+    Ok(())
+}
+
+/// What a run over the folder writes, which ends well.
+fn written<H: Files + AllocGlobal + Threads + Wait + Sync>(
+    rt: &H,
+    places: &Places,
+    input: &str,
+) -> Result<String, Fail>
+where
+    H::File: Send,
+{
+    let words = [places.settings.as_str(), places.folder.as_str()];
+    let (ended, written) = started(rt, &Disk::new(rt), &words, input)?;
+    if ended.is_err() {
+        return Err("a run that ends well".into());
+    }
+    Ok(written)
+}
+
+/// How often such a run writes this text.
+fn count_of<H: Files + AllocGlobal + Threads + Wait + Sync>(
+    rt: &H,
+    places: &Places,
+    input: &str,
+    text: &str,
+) -> Result<usize, Fail>
+where
+    H::File: Send,
+{
+    Ok(written(rt, places, input)?.as_str().matches(text).count())
+}
+
+/// What was told durable is there in the next run, in memory and in the store.
+fn outlives_runs<H: Files + AllocGlobal + Threads + Wait + Sync + Abort>(
+    rt: &H,
+    places: &Places,
+) -> Result<(), Fail>
+where
+    H::File: Send,
+{
+    assert!(rt; count_of(rt, places, PUSHES, "\"durable\":true")? == 2);
+    let report = "{\"report\":[{\"accepted\":0,\"kept\":2,\"recovered\":2,\"stored\":0}]}\n";
+    assert!(rt; written(rt, places, "")?.as_str() == report);
+    let stored = "\"recovered\":2,\"stored\":2}]}\n";
+    assert!(rt; written(rt, places, FLUSH)?.as_str().ends_with(stored));
+    assert!(rt; count_of(rt, places, QUERY, "\"line\":\"hello\"")? == 1);
+    Ok(())
+}
+
+/// What was accepted is there in the next runs; other settings are refused.
 #[test]
 fn what_was_accepted_outlives_the_run(rt: HostRuntime) -> Result<(), Fail> {
-    let (folder, settings) = places(&rt, "runs")?;
-    let words = [settings.as_str(), folder.as_str()];
-    let disk = Disk::new(&rt);
-    fs::write(&rt, settings.as_str(), "")?;
-    let (ended, written) = started(&rt, &disk, &words, PUSHES)?;
-    assert_eq!(rt; ended, Ok(()));
-    assert_eq!(rt; written.as_str().matches("\"durable\":true").count(), 2);
-    let (ended, written) = started(&rt, &disk, &words, "")?;
-    assert_eq!(rt; ended, Ok(()));
-    assert_eq!(rt;
-        written.as_str(),
-        "{\"report\":[{\"accepted\":0,\"kept\":2,\"recovered\":2,\"stored\":0}]}\n"
-    );
-    let (_, written) = started(&rt, &disk, &words, FLUSH)?;
-    assert!(rt;
-        written
-            .as_str()
-            .ends_with("\"recovered\":2,\"stored\":2}]}\n")
-    );
-    let (_, written) = started(&rt, &disk, &words, QUERY)?;
-    assert_eq!(rt; written.as_str().matches("\"line\":\"hello\"").count(), 1);
-    fs::write(&rt, settings.as_str(), "shards = 2\n")?;
-    let (ended, written) = started(&rt, &disk, &words, PUSHES)?;
-    assert_eq!(rt; written.as_str(), "");
-    let mut errors = Vec::new(rt.alloc());
-    assert_eq!(rt; conclude(ended, &mut errors), 2);
-    assert_eq!(rt; errors.as_slice(), b"ingestd: OtherSettings\n".as_slice());
-    fs::remove_file(&rt, settings.as_str())?;
-    fs::remove_dir_all(&rt, folder.as_str())?;
+    let places = places_of(&rt, "runs")?;
+    let (settings, folder) = (places.settings.as_str(), places.folder.as_str());
+    outlives_runs(&rt, &places)?;
+    fs::write(&rt, settings, "shards = 2\n")?;
+    assert!(rt; is_refused(&rt, &[settings, folder], 2, b"ingestd: OtherSettings\n")?);
+    remove(&rt, &places)
+}
+
+/// Makes the log of a folder one that is damaged.
+fn damage(rt: &HostRuntime, folder: &str) -> Result<(), Fail> {
+    let log = format!(in rt.alloc(); "{folder}/wal-0")?;
+    fs::write(
+        rt,
+        log.as_str(),
+        "no record at all, of more than sixteen bytes",
+    )?;
     Ok(())
 }
 
 /// A checkpoint is published over a folder; a changed log is refused; a path that is a file is no folder.
 #[test]
 fn checkpoints_and_what_is_refused(rt: HostRuntime) -> Result<(), Fail> {
-    let (folder, settings) = places(&rt, "refused")?;
-    let words = [settings.as_str(), folder.as_str()];
-    let disk = Disk::new(&rt);
-    fs::write(&rt, settings.as_str(), "")?;
-    let (_, written) = started(&rt, &disk, &words, CHECKPOINT)?;
-    assert!(rt; written.as_str().starts_with("{\"checkpoint\":[true]}\n"));
-    let log = format!(in rt.alloc(); "{}/wal-0", folder.as_str())?;
-    fs::write(
-        &rt,
-        log.as_str(),
-        "no record at all, of more than sixteen bytes",
-    )?;
-    let (ended, _) = started(&rt, &disk, &words, "")?;
-    let mut errors = Vec::new(rt.alloc());
-    assert_eq!(rt; conclude(ended, &mut errors), 2);
-    assert_eq!(rt; errors.as_slice(), b"ingestd: DamagedLog\n".as_slice());
-    let (ended, _) = started(&rt, &disk, &[settings.as_str(), settings.as_str()], "")?;
-    let mut errors = Vec::new(rt.alloc());
-    assert_eq!(rt; conclude(ended, &mut errors), 2);
-    assert_eq!(rt; errors.as_slice(), b"ingestd: LogFault\n".as_slice());
-    fs::remove_file(&rt, settings.as_str())?;
-    fs::remove_dir_all(&rt, folder.as_str())?;
-    Ok(())
+    let places = places_of(&rt, "refused")?;
+    let (settings, folder) = (places.settings.as_str(), places.folder.as_str());
+    let published = "{\"checkpoint\":[true]}\n";
+    assert!(rt;
+        written(&rt, &places, CHECKPOINT)?
+            .as_str()
+            .starts_with(published)
+    );
+    damage(&rt, folder)?;
+    assert!(rt; is_refused(&rt, &[settings, folder], 2, b"ingestd: DamagedLog\n")?);
+    assert!(rt; is_refused(&rt, &[settings, settings], 2, b"ingestd: LogFault\n")?);
+    remove(&rt, &places)
 }
 
 /// What is reported of four shards in which `PUSHES` lies since an earlier run.
