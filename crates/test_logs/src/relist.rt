@@ -250,18 +250,24 @@ fn a_damaged_object_is_not_listed(rt: HostRuntime) -> Result<(), Fail> {
     Ok(())
 }
 
-/// A store without the object, and one that has it and fails.
 #[test]
 fn what_a_store_has_not_is_not_listed(rt: HostRuntime) -> Result<(), Fail> {
     let stream = stream_of(rt.alloc(), "t", "{a=\"1\"}")?;
-    let extent = extent()?;
     let store = MemoryStore::new(rt.alloc())?;
     let mut end = store.end(&rt, Fuse::None);
-    let missing = fault_of(rt.alloc(), &mut end, &stream, extent, None);
+    let missing = fault_of(rt.alloc(), &mut end, &stream, extent()?, None);
     assert!(rt; missing == Some(RelistFault::Missing { key: KEY }));
-    put_as_chunk(rt.alloc(), &mut end, &CHUNK)?;
+    Ok(())
+}
+
+/// The store has the chunk.
+#[test]
+fn a_store_that_fails_lists_nothing(rt: HostRuntime) -> Result<(), Fail> {
+    let stream = stream_of(rt.alloc(), "t", "{a=\"1\"}")?;
+    let store = MemoryStore::new(rt.alloc())?;
+    put_as_chunk(rt.alloc(), &mut store.end(&rt, Fuse::None), &CHUNK)?;
     let mut dead = store.dead_end(&rt, 0);
-    let failed = fault_of(rt.alloc(), &mut dead, &stream, extent, None);
+    let failed = fault_of(rt.alloc(), &mut dead, &stream, extent()?, None);
     assert!(rt; failed == Some(RelistFault::Failed { key: KEY }));
     assert!(rt; dead.failures() == 1);
     Ok(())
