@@ -94,9 +94,14 @@ fn what_was_accepted_outlives_the_run(rt: HostRuntime) -> Result<(), Fail> {
     remove(&rt, &places)
 }
 
-/// Makes the log of a folder one that is damaged.
-fn damage(rt: &HostRuntime, folder: &str) -> Result<(), Fail> {
-    let log = format!(in rt.alloc(); "{folder}/wal-0")?;
+/// The path of the log of this shard.
+fn log_of(rt: &HostRuntime, folder: &str, shard: u32) -> Result<String, Fail> {
+    Ok(format!(in rt.alloc(); "{folder}/wal-{shard}")?)
+}
+
+/// Makes the log of this shard one that is damaged.
+fn damage(rt: &HostRuntime, folder: &str, shard: u32) -> Result<(), Fail> {
+    let log = log_of(rt, folder, shard)?;
     fs::write(
         rt,
         log.as_str(),
@@ -116,7 +121,7 @@ fn checkpoints_and_what_is_refused(rt: HostRuntime) -> Result<(), Fail> {
             .as_str()
             .starts_with(published)
     );
-    damage(&rt, folder)?;
+    damage(&rt, folder, 0)?;
     assert!(rt; is_refused(&rt, &[settings, folder], 2, b"ingestd: DamagedLog\n")?);
     assert!(rt; is_refused(&rt, &[settings, settings], 2, b"ingestd: LogFault\n")?);
     remove(&rt, &places)
@@ -126,38 +131,36 @@ fn checkpoints_and_what_is_refused(rt: HostRuntime) -> Result<(), Fail> {
 const FOUR: &str =
     "{\"report\":[{\"accepted\":0,\"kept\":1,\"recovered\":1,\"stored\":0},{\"accepted\":0,\"kept\":0,\"recovered\":0,\"stored\":0},{\"accepted\":0,\"kept\":1,\"recovered\":1,\"stored\":0},{\"accepted\":0,\"kept\":0,\"recovered\":0,\"stored\":0}]}\n";
 
+/// Makes the log of the second of four shards that of the first, and the log of the last one that is damaged.
+fn damage_two(rt: &HostRuntime, folder: &str) -> Result<(), Fail> {
+    let first = log_of(rt, folder, 0)?;
+    let second = log_of(rt, folder, 1)?;
+    let of_another = fs::read(rt, first.as_str())?;
+    fs::write(rt, second.as_str(), of_another.as_slice())?;
+    damage(rt, folder, 3)
+}
+
+/// Removes these two logs.
+fn remove_two(rt: &HostRuntime, folder: &str) -> Result<(), Fail> {
+    let second = log_of(rt, folder, 1)?;
+    let last = log_of(rt, folder, 3)?;
+    fs::remove_file(rt, second.as_str())?;
+    fs::remove_file(rt, last.as_str())?;
+    Ok(())
+}
+
 /// Several shards are made again, each of its own log. Where two are refused, the fault of the lower one is told, and the others keep
 /// what they have.
 #[test]
 fn several_shards_are_made_again(rt: HostRuntime) -> Result<(), Fail> {
-    let (folder, settings) = places(&rt, "several")?;
-    let words = [settings.as_str(), folder.as_str()];
-    let disk = Disk::new(&rt);
-    fs::write(&rt, settings.as_str(), "shards = 4\n")?;
-    let (ended, _) = started(&rt, &disk, &words, PUSHES)?;
-    assert_eq!(rt; ended, Ok(()));
-    let (ended, written) = started(&rt, &disk, &words, "")?;
-    assert_eq!(rt; ended, Ok(()));
-    assert_eq!(rt; written.as_str(), FOUR);
-    let full = format!(in rt.alloc(); "{}/wal-0", folder.as_str())?;
-    let lower = format!(in rt.alloc(); "{}/wal-1", folder.as_str())?;
-    let higher = format!(in rt.alloc(); "{}/wal-3", folder.as_str())?;
-    let of_another = fs::read(&rt, full.as_str())?;
-    fs::write(&rt, lower.as_str(), of_another.as_slice())?;
-    fs::write(
-        &rt,
-        higher.as_str(),
-        "no record at all, of more than sixteen bytes",
-    )?;
-    let (ended, _) = started(&rt, &disk, &words, "")?;
-    let mut errors = Vec::new(rt.alloc());
-    assert_eq!(rt; conclude(ended, &mut errors), 2);
-    assert_eq!(rt; errors.as_slice(), b"ingestd: OtherSettings\n".as_slice());
-    fs::remove_file(&rt, lower.as_str())?;
-    fs::remove_file(&rt, higher.as_str())?;
-    let (_, written) = started(&rt, &disk, &words, "")?;
-    assert_eq!(rt; written.as_str(), FOUR);
-    fs::remove_file(&rt, settings.as_str())?;
-    fs::remove_dir_all(&rt, folder.as_str())?;
-    Ok(())
+    let places = places_of(&rt, "several")?;
+    let (settings, folder) = (places.settings.as_str(), places.folder.as_str());
+    fs::write(&rt, settings, "shards = 4\n")?;
+    assert!(rt; count_of(&rt, &places, PUSHES, "\"durable\":true")? == 2);
+    assert!(rt; written(&rt, &places, "")?.as_str() == FOUR);
+    damage_two(&rt, folder)?;
+    assert!(rt; is_refused(&rt, &[settings, folder], 2, b"ingestd: OtherSettings\n")?);
+    remove_two(&rt, folder)?;
+    assert!(rt; written(&rt, &places, "")?.as_str() == FOUR);
+    remove(&rt, &places)
 }
