@@ -136,16 +136,14 @@ fn no_word_means_no_settings(rt: HostRuntime) -> Result<(), Fail> {
 }
 
 /// Whether the program with these words ends with this status, says this, and writes nothing.
-fn is_refused<H: Files + AllocGlobal + Threads + Wait + Sync>(
-    rt: &H,
-    words: &[&str],
-    status: u8,
-    said: &[u8],
-) -> Result<bool, Fail>
-where
-    H::File: Send,
-{
-    let (ended, written) = started(rt, &Disk::new(rt), words, PUSHES)?;
+fn is_refused<
+    H: Files + AllocGlobal + Threads + Wait + Sync,
+    D: LogDisk + Drop + Send,
+    Q: Receipt + Send + Sync,
+    E: StoreEnd<Receipt = Q> + Drop + Send,
+    X: Folders<D, E>,
+>(rt: &H, folders: &X, words: &[&str], status: u8, said: &[u8]) -> Result<bool, Fail> {
+    let (ended, written) = started(rt, folders, words, PUSHES)?;
     let mut errors = Vec::new(rt.alloc());
     let is_status = conclude(ended, &mut errors) == status;
     Ok(is_status && errors.as_slice() == said && written.as_str().is_empty())
@@ -155,8 +153,9 @@ where
 fn words_that_name_no_file(rt: HostRuntime) -> Result<(), Fail> {
     let missing = temporary(&rt, "no-such-file.toml")?;
     let folder = env::temp_dir(&rt)?;
+    let disk = Disk::new(&rt);
     for path in [missing.as_str(), folder.as_str(), ""] {
-        assert!(rt; is_refused(&rt, &[path], 1, b"ingestd: NoSettings\n")?);
+        assert!(rt; is_refused(&rt, &disk, &[path], 1, b"ingestd: NoSettings\n")?);
     }
     Ok(())
 }

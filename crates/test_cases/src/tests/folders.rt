@@ -1,6 +1,8 @@
 //! The program over a folder. One function owns the paths, and the others borrow them.
 use super::{FLUSH, PUSHES, is_refused, started, temporary};
-use ing_program::Disk;
+use ing_program::{Disk, Folders};
+use ing_store::{Receipt, StoreEnd};
+use ing_wal::LogDisk;
 use std::process::Abort;
 use std::rt::Files;
 use std::sync::Wait;
@@ -37,16 +39,15 @@ fn remove(rt: &HostRuntime, places: &Places) -> Result<(), Fail> {
 }
 
 /// What a run over the folder writes, which ends well.
-fn written<H: Files + AllocGlobal + Threads + Wait + Sync>(
-    rt: &H,
-    places: &Places,
-    input: &str,
-) -> Result<String, Fail>
-where
-    H::File: Send,
-{
+fn written<
+    H: Files + AllocGlobal + Threads + Wait + Sync,
+    D: LogDisk + Drop + Send,
+    Q: Receipt + Send + Sync,
+    E: StoreEnd<Receipt = Q> + Drop + Send,
+    X: Folders<D, E>,
+>(rt: &H, folders: &X, places: &Places, input: &str) -> Result<String, Fail> {
     let words = [places.settings.as_str(), places.folder.as_str()];
-    let (ended, written) = started(rt, &Disk::new(rt), &words, input)?;
+    let (ended, written) = started(rt, folders, &words, input)?;
     if ended.is_err() {
         return Err("a run that ends well".into());
     }
@@ -54,32 +55,39 @@ where
 }
 
 /// How often such a run writes this text.
-fn count_of<H: Files + AllocGlobal + Threads + Wait + Sync>(
-    rt: &H,
-    places: &Places,
-    input: &str,
-    text: &str,
-) -> Result<usize, Fail>
-where
-    H::File: Send,
-{
-    Ok(written(rt, places, input)?.as_str().matches(text).count())
+fn count_of<
+    H: Files + AllocGlobal + Threads + Wait + Sync,
+    D: LogDisk + Drop + Send,
+    Q: Receipt + Send + Sync,
+    E: StoreEnd<Receipt = Q> + Drop + Send,
+    X: Folders<D, E>,
+>(rt: &H, folders: &X, places: &Places, input: &str, text: &str) -> Result<usize, Fail> {
+    Ok(
+        written(rt, folders, places, input)?
+            .as_str()
+            .matches(text)
+            .count(),
+    )
 }
 
 /// What was told durable is there in the next run, in memory and in the store.
-fn outlives_runs<H: Files + AllocGlobal + Threads + Wait + Sync + Abort>(
-    rt: &H,
-    places: &Places,
-) -> Result<(), Fail>
-where
-    H::File: Send,
-{
-    assert!(rt; count_of(rt, places, PUSHES, "\"durable\":true")? == 2);
+fn outlives_runs<
+    H: Files + AllocGlobal + Threads + Wait + Sync + Abort,
+    D: LogDisk + Drop + Send,
+    Q: Receipt + Send + Sync,
+    E: StoreEnd<Receipt = Q> + Drop + Send,
+    X: Folders<D, E>,
+>(rt: &H, folders: &X, places: &Places) -> Result<(), Fail> {
+    assert!(rt; count_of(rt, folders, places, PUSHES, "\"durable\":true")? == 2);
     let report = "{\"report\":[{\"accepted\":0,\"kept\":2,\"recovered\":2,\"stored\":0}]}\n";
-    assert!(rt; written(rt, places, "")?.as_str() == report);
+    assert!(rt; written(rt, folders, places, "")?.as_str() == report);
     let stored = "\"recovered\":2,\"stored\":2}]}\n";
-    assert!(rt; written(rt, places, FLUSH)?.as_str().ends_with(stored));
-    assert!(rt; count_of(rt, places, QUERY, "\"line\":\"hello\"")? == 1);
+    assert!(rt;
+        written(rt, folders, places, FLUSH)?
+            .as_str()
+            .ends_with(stored)
+    );
+    assert!(rt; count_of(rt, folders, places, QUERY, "\"line\":\"hello\"")? == 1);
     Ok(())
 }
 
@@ -88,9 +96,18 @@ where
 fn what_was_accepted_outlives_the_run(rt: HostRuntime) -> Result<(), Fail> {
     let places = places_of(&rt, "runs")?;
     let (settings, folder) = (places.settings.as_str(), places.folder.as_str());
-    outlives_runs(&rt, &places)?;
+    let disk = Disk::new(&rt);
+    outlives_runs(&rt, &disk, &places)?;
     fs::write(&rt, settings, "shards = 2\n")?;
-    assert!(rt; is_refused(&rt, &[settings, folder], 2, b"ingestd: OtherSettings\n")?);
+    assert!(rt;
+        is_refused(
+            &rt,
+            &disk,
+            &[settings, folder],
+            2,
+            b"ingestd: OtherSettings\n"
+        )?
+    );
     remove(&rt, &places)
 }
 
@@ -115,15 +132,16 @@ fn damage(rt: &HostRuntime, folder: &str, shard: u32) -> Result<(), Fail> {
 fn checkpoints_and_what_is_refused(rt: HostRuntime) -> Result<(), Fail> {
     let places = places_of(&rt, "refused")?;
     let (settings, folder) = (places.settings.as_str(), places.folder.as_str());
+    let disk = Disk::new(&rt);
     let published = "{\"checkpoint\":[true]}\n";
     assert!(rt;
-        written(&rt, &places, CHECKPOINT)?
+        written(&rt, &disk, &places, CHECKPOINT)?
             .as_str()
             .starts_with(published)
     );
     damage(&rt, folder, 0)?;
-    assert!(rt; is_refused(&rt, &[settings, folder], 2, b"ingestd: DamagedLog\n")?);
-    assert!(rt; is_refused(&rt, &[settings, settings], 2, b"ingestd: LogFault\n")?);
+    assert!(rt; is_refused(&rt, &disk, &[settings, folder], 2, b"ingestd: DamagedLog\n")?);
+    assert!(rt; is_refused(&rt, &disk, &[settings, settings], 2, b"ingestd: LogFault\n")?);
     remove(&rt, &places)
 }
 
@@ -155,12 +173,21 @@ fn remove_two(rt: &HostRuntime, folder: &str) -> Result<(), Fail> {
 fn several_shards_are_made_again(rt: HostRuntime) -> Result<(), Fail> {
     let places = places_of(&rt, "several")?;
     let (settings, folder) = (places.settings.as_str(), places.folder.as_str());
+    let disk = Disk::new(&rt);
     fs::write(&rt, settings, "shards = 4\n")?;
-    assert!(rt; count_of(&rt, &places, PUSHES, "\"durable\":true")? == 2);
-    assert!(rt; written(&rt, &places, "")?.as_str() == FOUR);
+    assert!(rt; count_of(&rt, &disk, &places, PUSHES, "\"durable\":true")? == 2);
+    assert!(rt; written(&rt, &disk, &places, "")?.as_str() == FOUR);
     damage_two(&rt, folder)?;
-    assert!(rt; is_refused(&rt, &[settings, folder], 2, b"ingestd: OtherSettings\n")?);
+    assert!(rt;
+        is_refused(
+            &rt,
+            &disk,
+            &[settings, folder],
+            2,
+            b"ingestd: OtherSettings\n"
+        )?
+    );
     remove_two(&rt, folder)?;
-    assert!(rt; written(&rt, &places, "")?.as_str() == FOUR);
+    assert!(rt; written(&rt, &disk, &places, "")?.as_str() == FOUR);
     remove(&rt, &places)
 }
