@@ -1,7 +1,10 @@
 //! One shard as it begins, with shares of what it begins with.
-ghost use Rattle.std.specs.Prelude.{◌≡◌, ◌<◌, IfErr, IfOk, length};
+ghost use Rattle.std.specs.Prelude.{◌≡◌, ◌<◌, IfErr, IfOk, OnOk, length};
 ghost use Rattle.ing_durable.specs.Kept.{Replays};
+ghost use Rattle.ing_durable.specs.Recovering.{FitsInTurn};
+ghost use Rattle.ing_durable.specs.Refusing.{IsOwnText};
 ghost use Rattle.ing_node.specs.Begun.{IsBegunAs, IsFresh};
+ghost use Rattle.ing_node.specs.Recovering.{HasSafeLog, IsRefused, LeavesOrReplays};
 ghost use Rattle.ing_shard.specs.Contents.{stored_count};
 
 use crate::told::Told;
@@ -82,12 +85,18 @@ impl<D: LogDisk, R: Receipt> Begun<D, R> {
     ) -> Result<Begun<D, R>, (RecoverFault, D)>
         requires { number < settings.now.shards }
         ensures begun { IfOk result (IsBegunAs settings.now number) }
-        ensures replays { D.is_honest → IfOk result (λ begun.
-            Replays (D.seen log).now.bytes begun.shard.memory.state) }
         ensures accepted { IfOk result (λ begun.
             begun.accepted.amount ≡ length begun.shard.memory.state.rows) }
         ensures stored { IfOk result (λ begun.
             begun.stored.amount ≡ stored_count begun.shard.memory.state.rows) }
+        ensures replays { D.is_honest → IfOk result (λ begun.
+            Replays (D.seen log).now.bytes begun.shard.memory.state) }
+        ensures own { D.is_honest → OnOk result (IsOwnText settings.now number (D.seen log).now.bytes) }
+        ensures fits { D.is_honest → OnOk result (FitsInTurn settings.now number (D.seen log).now.bytes) }
+        ensures leaves { D.is_honest → IfOk result (λ begun.
+            LeavesOrReplays D.seen D.moment D.left_since log begun.shard.log begun.shard.memory.state) }
+        ensures safe { IfOk result (HasSafeLog D.is_honest D.seen) }
+        ensures refused { IfErr result (λ e. IsRefused D.is_honest D.seen D.failure_count settings.now number log e.0 e.1) }
     {
         let Ok(settings) = settings.try_clone() else {
             return Err((RecoverFault::NoMemory, log));
@@ -109,7 +118,9 @@ impl<D: LogDisk, R: Receipt> Begun<D, R> {
     }
 
     /// Gives the shares up, which stay out, and gives the log back. Takes no memory.
-    pub(crate) fn into_log(self) -> D {
+    pub(crate) fn into_log(self) -> D
+        ensures { result ≡ self.shard.log }
+    {
         let Begun {
             shard,
             accepted,
