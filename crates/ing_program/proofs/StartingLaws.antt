@@ -1,6 +1,6 @@
 -- What the bytes of a settings file come to.
-use Rattle.std.proofs.Common.{◌≡◌, ◌<◌, ◌≤◌, ℕ, Bool, List, [], ◌∷◌, None, Some, Ok, Err, ap, arith, false, inl, inr, length, refl, sym, subst, true, ◌∙◌}
-use Rattle.std.specs.Prelude.{◌⊎◌, if◌then◌else◌, IsTrue, Option, Result, IfSome, IfErr, string_bytes}
+use Rattle.std.proofs.Common.{◌≡◌, ◌≢◌, ◌<◌, ◌≤◌, ℕ, Bool, List, [], ◌∷◌, None, Some, Ok, Err, ap, arith, false, inl, inr, length, refl, sym, subst, true, ◌∙◌}
+use Rattle.std.specs.Prelude.{◌⊎◌, if◌then◌else◌, IsTrue, Option, Result, IfSome, IfErr, IsErrOf, string_bytes}
 use Rattle.std.specs.Result.{IsErrAnd}
 use Rattle.std.specs.Str.{is_utf8, IsUtf8}
 use Rattle.std.proofs.lemmas.Bool.{false_from_ne_true}
@@ -11,6 +11,7 @@ use Rattle.ing_limits.specs.declared.fault.SettingsFault.{SettingsFault}
 use Rattle.ing_limits.specs.declared.fault.SettingsFault.TheVariants.{NoMemory, NotToml, UnknownSetting, BadSetting}
 use Rattle.ing_session.specs.Manners.{Manner}
 use Rattle.ing_session.specs.declared.ending.Ending.{Ending}
+use Rattle.ing_session.specs.declared.ending.Ending.TheVariants.{NotOpened, NotRecovered}
 use Rattle.ing_durable.specs.declared.recover_fault.RecoverFault.{RecoverFault}
 use Rattle.ing_durable.specs.declared.recover_fault.RecoverFault.TheVariants as recover
 use Rattle.ing_relist.specs.declared.fault.RelistFault.TheVariants as relist
@@ -109,3 +110,31 @@ recover_ending (recover.Relist (relist.Failed key)) = inr (inr (recover.Relist (
 recover_ending (recover.Relist (relist.Damaged key)) = inr (inr (recover.Relist (relist.Damaged key), refl))
 recover_ending (recover.Relist (relist.Missing key)) = inr (inr (recover.Relist (relist.Missing key), refl))
 recover_ending (recover.Relist (relist.BadObject key)) = inr (inr (recover.Relist (relist.BadObject key), refl))
+
+-- and of which fault a shard is not made again
+pub not_recovered : (told fault : RecoverFault) → ending_of_recover told ≡ NotRecovered fault → (told ≡ fault) × (told ≢ recover.NoMemory)
+not_recovered recover.NoMemory fault is = absurd (cc)
+not_recovered recover.LogFault fault is = (cc, λ none. cc)
+not_recovered (recover.Damaged at) fault is = (cc, λ none. cc)
+not_recovered recover.OtherSettings fault is = (cc, λ none. cc)
+not_recovered (recover.Relist relist.NoMemory) fault is = absurd (cc)
+not_recovered (recover.Relist (relist.Failed key)) fault is = (cc, λ none. cc)
+not_recovered (recover.Relist (relist.Damaged key)) fault is = (cc, λ none. cc)
+not_recovered (recover.Relist (relist.Missing key)) fault is = (cc, λ none. cc)
+not_recovered (recover.Relist (relist.BadObject key)) fault is = (cc, λ none. cc)
+
+-- the ending is what it is told to be
+pub same_ending : {X : Type 0} (e told : Ending) → IsErrOf {T = X} (Err e) told → e ≡ told
+same_ending {X} e told is = let both : ◌≡◌ {A = Result X Ending} (Err e) (Err told) = is in search (both)
+
+-- a run has no such ending
+pub not_of_run : {X : Type 0} (r : Result X Ending) (fault : RecoverFault) → IfErr r (λ e. IsTrue (is_of_run e) ⊎ IsNotOpened e) → IsErrOf r (NotRecovered fault) → ⊥
+not_of_run {X} (Ok x) fault of is = let both : ◌≡◌ {A = Result X Ending} (Ok x) (Err (NotRecovered fault)) = is in cc
+not_of_run {X} (Err e) fault (inl run) is =
+    let here : e ≡ NotRecovered fault = same_ending {X = X} e (NotRecovered fault) is in
+    let wrong : false ≡ true = subst (λ x. is_of_run x ≡ true) here run in
+    cc
+not_of_run {X} (Err e) fault (inr opened) is =
+    let here : e ≡ NotRecovered fault = same_ending {X = X} e (NotRecovered fault) is in
+    let other : NotOpened opened.0 ≡ NotRecovered fault = sym opened.1 ∙ here in
+    cc

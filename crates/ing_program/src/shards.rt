@@ -1,9 +1,11 @@
 //! A run over shards behind locks.
-ghost use Rattle.std.specs.Prelude.{◌≡◌, ◌⊎◌, ◌<◌, IfErr, IfOk, IfSome, IsErrOf, IsTrue, OnOk, false, map, reverse, vec_len};
+ghost use Rattle.std.specs.Prelude.{◌≡◌, ◌⊎◌, ◌<◌, IfErr, IfOk, IfSome, IsErrOf, IsTrue, List, OnOk, false, map, reverse, vec_len};
 ghost use Rattle.std.specs.List.{AllByRecursion};
+ghost use Rattle.ing_durable.specs.declared.recover_fault.RecoverFault.{RecoverFault};
 ghost use Rattle.ing_node.specs.Begun.{HasTornLog};
 ghost use Rattle.ing_node.specs.Earlier.{earlier_of};
 ghost use Rattle.ing_node.specs.Names.{AreNamed};
+ghost use Rattle.ing_node.specs.Recovering.{AreOwnLogs, IsLowestRefused};
 ghost use Rattle.ing_session.specs.Endings.{IsNotOpened, IsNotRecovered, is_of_run};
 ghost use Rattle.ing_session.specs.Causes.{GoesOn};
 ghost use Rattle.ing_session.specs.FlushCalls.{ObeysFlush};
@@ -86,7 +88,7 @@ fn no_logs(alloc: Global, count: u32) -> Result<Vec<NoLog>, AllocError>
 /// Runs over the shards that these logs, one of each shard, are of, each behind a lock: as `run_shards`, but that each shard begins with
 /// what its log says of it, as `Shards::recover`, and what it accepts and stores is written to its log. As many entries are reported
 /// recovered of each shard as its log has, where logs are honest. The stored chunks are looked for by `finders`, one of each shard.
-/// Besides as `run_shards`; `NotRecovered` where a shard is not made again. (Own.)
+/// Besides as `run_shards`; `NotRecovered` where a shard is not made again, with the fault of the lowest. (Own.)
 pub fn run_recovered<
     I: Read,
     O: Write,
@@ -132,12 +134,16 @@ pub fn run_recovered<
     ensures end { GoesOn S.never_fails S.failure_count end.old end.new }
     ensures not_opened { IfErr result (λ e. IsNotOpened e ⊎ IsNotRecovered e → writer.new ≡ writer.old) }
     ensures ending { IfErr result (λ e. IsTrue (is_of_run e) ⊎ IsNotOpened e ⊎ IsNotRecovered e) }
+    // Each log is that of its shard; or the lowest shard that is refused says why.
+    ensures fits { OnOk result (AreOwnLogs D.is_honest D.seen settings logs.items) }
+    ensures not_recovered { (fault : RecoverFault) → IsErrOf result (Ending.NotRecovered fault) →
+        (backs : List D) × IsLowestRefused D.is_honest D.seen D.failure_count settings logs.items fault backs }
 {
     match Shards::recover(rt, alloc, settings, logs, finders) {
         Ok(shards) => run_locked::<Brand, I, O, D, R, F, W, S>(
             rt, alloc, reader, writer, end, ends, shards, true,
         ),
-        Err((fault, _)) => Err(Ending::from(fault)),
+        Err((fault, _logs)) => Err(Ending::from(fault)),
     }
 }
 

@@ -1,13 +1,15 @@
-use Rattle.std.proofs.Common.{◌≡◌, ◌∙◌, ap, map, subst, sym, inl, inr, reverse, true}
+use Rattle.std.proofs.Common.{◌∙◌, ap, map, subst, sym, inl, inr, reverse, true}
 use Rattle.std.specs.Prelude.{◌⊎◌, IsTrue}
 use Rattle.std.proofs.lemmas.Result.{on_ok_weaker}
 use Rattle.ing_node.specs.Earlier.{earlier_of}
 use Rattle.ing_node.specs.Names.{names_in}
+use Rattle.ing_node.specs.Recovering.{IsLowestRefused}
 use Rattle.ing_session.specs.Runs.{AnswersAll, AnswersWhatWasRead, AnswersFirstLines, AnswersFront}
 use Rattle.ing_session.proofs.KnownLaws.{if_some_then}
 use Rattle.ing_session.specs.Endings.{IsNotOpened, IsNotRecovered, is_of_run}
+use Rattle.ing_session.specs.declared.ending.Ending.TheVariants.{NotRecovered}
 use Rattle.ing_program.proofs.BeganLaws.{began_over}
-use Rattle.ing_program.proofs.StartingLaws.{recover_ending}
+use Rattle.ing_program.proofs.StartingLaws.{not_of_run, not_recovered, recover_ending, same_ending}
 use Rattle.ing_program.specs.ByLedger.{Began, BeginsOver, began_with, by_ledger}
 use Rattle.ing_program.proofs.shards.run_recovered.Goals as goal
 
@@ -86,3 +88,14 @@ returns-in-Ok-clause-output_fault g c = λ is.
 pub returns-in-Err-clause-ending : goal.returns-in-Err-clause-ending
 returns-in-Err-clause-ending g c =
     subst (λ e. IsTrue (is_of_run e) ⊎ IsNotOpened e ⊎ IsNotRecovered e) (sym c.from.ensures) (recover_ending c.in-Err.fault)
+
+pub returns-in-Err-clause-not_recovered : goal.returns-in-Err-clause-not_recovered
+returns-in-Err-clause-not_recovered g c = λ fault is.
+    let D = g.D.LogDisk in
+    let backs = c.in-Err._logs.items in
+    let ending = same_ending c.from.result (NotRecovered fault) is in
+    let told = not_recovered c.in-Err.fault fault (sym c.from.ensures ∙ ending) in
+    (backs, subst (λ f. IsLowestRefused D.is_honest D.seen D.failure_count c.args.settings c.args.logs.items f backs) told.0 (c.in-Err.ensures.refused told.1))
+
+pub returns-in-Ok-clause-not_recovered : goal.returns-in-Ok-clause-not_recovered
+returns-in-Ok-clause-not_recovered g c = λ fault is. absurd (not_of_run c.run_locked.result fault c.run_locked.ensures.ending is)
