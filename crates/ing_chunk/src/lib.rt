@@ -8,8 +8,6 @@ mod head;
 mod kept;
 mod laws;
 mod numbered;
-mod run;
-mod sequence;
 
 pub use block::Block;
 pub use chunk::Chunk;

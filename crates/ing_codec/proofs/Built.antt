@@ -5,7 +5,7 @@ use Rattle.std.proofs.lemmas.Bool.Decides.{nat_tests}
 use Rattle.ing_refusals.specs.Results.{◌>>=◌}
 use Rattle.ing_chunk.specs.declared.numbered.Numbered.{Numbered}
 use Rattle.ing_chunk.specs.Chunks.{AreInOrder}
-use Rattle.ing_codec.specs.declared.part.Part.{Part}
+use Rattle.ing_codec.specs.declared.chunk_reading.Part.{Part}
 use Rattle.ing_codec.specs.declared.fault.CodecFault.TheVariants.{BadField, OutOfOrder}
 use Rattle.ing_codec.specs.Fields.{Rest, read_number, read_stamp, read_line}
 use Rattle.ing_codec.specs.ChunkReading.{read_entry, read_entries, read_block, is_free, goes_on, numbered, in_turn, part, is_count}

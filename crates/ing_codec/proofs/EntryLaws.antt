@@ -11,7 +11,7 @@ use Rattle.std.proofs.lemmas.List.{append-nil, get_or_append_left}
 use Rattle.std.proofs.lemmas.List.Concat.{flat_map-cons}
 use Rattle.ing_chunk.specs.declared.numbered.Numbered.{Numbered}
 use Rattle.ing_chunk.specs.Chunks.{AreInOrder, comes_before}
-use Rattle.ing_codec.specs.declared.part.Part.{Part}
+use Rattle.ing_codec.specs.declared.chunk_reading.Part.{Part}
 use Rattle.ing_codec.specs.Fields.{Rest, long_text}
 use Rattle.ing_chunk.specs.Parts.{max_line, IsWithin, AreApart, is_taken}
 use Rattle.ing_codec.specs.ChunkObjects.{IsEntry, entry_text}

@@ -1,7 +1,7 @@
 -- Entries and blocks read one after another, as a loop does.
 use Rattle.std.proofs.Common.{◌≡◌, ℕ, suc, ◌-◌, ◌+◌, ◌≤◌, ◌<◌, List, [], ◌∷◌, ◌++◌, length, Result, Ok, Err, refl, sym, ◌∙◌, arith}
 use Rattle.ing_chunk.specs.declared.numbered.Numbered.{Numbered}
-use Rattle.ing_codec.specs.declared.part.Part.{Part}
+use Rattle.ing_codec.specs.declared.chunk_reading.Part.{Part}
 use Rattle.ing_codec.specs.declared.fault.CodecFault.{CodecFault}
 use Rattle.ing_codec.specs.Fields.{Rest}
 use Rattle.ing_codec.specs.ChunkReading.{read_entry, read_entries, read_block, read_blocks}

@@ -5,7 +5,7 @@ use Rattle.std.specs.Int.{w32, w64, to_be_bytes}
 use Rattle.std.proofs.lemmas.Bool.Decides.{nat_tests}
 use Rattle.std.proofs.lemmas.List.{append-nil}
 use Rattle.ing_refusals.specs.Results.{◌>>=◌}
-use Rattle.ing_codec.specs.declared.extent.Extent.{Extent}
+use Rattle.ing_codec.specs.declared.index_row.Extent.{Extent}
 use Rattle.ing_codec.specs.declared.fault.CodecFault.TheVariants.{BadField}
 use Rattle.ing_codec.specs.Fields.{Rest, whole, read_number, read_bytes, read_stamp, read_first, read_front, front_text, row_version}
 use Rattle.ing_codec.specs.ChunkReading.{ended}

@@ -4,7 +4,7 @@ use Rattle.std.specs.Int.{w32}
 use Rattle.ing_refusals.specs.Results.{◌>>=◌}
 use Rattle.ing_chunk.specs.declared.numbered.Numbered.{Numbered}
 use Rattle.ing_chunk.specs.Chunks.{comes_before}
-use Rattle.ing_codec.specs.declared.part.Part.{Part}
+use Rattle.ing_codec.specs.declared.chunk_reading.Part.{Part}
 use Rattle.ing_codec.specs.declared.fault.CodecFault.{CodecFault}
 use Rattle.ing_codec.specs.declared.fault.CodecFault.TheVariants.{BadField, OutOfOrder, Trailing}
 use Rattle.ing_codec.specs.Fields.{Rest, whole, read_number, read_line, read_stamp, read_first, read_front, chunk_version}

@@ -5,7 +5,7 @@ use Rattle.std.specs.Int.{w32, w64, to_be_bytes}
 use Rattle.ing_refusals.specs.Results.{◌>>=◌}
 use Rattle.ing_rows.specs.Texts.{is_tenant}
 use Rattle.ing_chunk.specs.Chunks.{ChunkContents, count_in, size_of_chunk, span_of}
-use Rattle.ing_codec.specs.declared.extent.Extent.{Extent}
+use Rattle.ing_codec.specs.declared.index_row.Extent.{Extent}
 use Rattle.ing_codec.specs.declared.fault.CodecFault.{CodecFault}
 use Rattle.ing_codec.specs.declared.fault.CodecFault.TheVariants.{BadField}
 use Rattle.ing_codec.specs.Fields.{Rest, whole, front_text, is_name, read_number, read_bytes, read_stamp, read_first, read_front, row_version}

@@ -4,8 +4,8 @@ use Rattle.std.specs.BTreeSet.{contains}
 use Rattle.std.specs.Ordering.{nat_cmp}
 use Rattle.ing_chunk.specs.declared.numbered.Numbered.{Numbered}
 use Rattle.ing_chunk.specs.Parts.{is_taken}
-use Rattle.ing_codec.specs.declared.part.Part.{Part}
-use Rattle.ing_codec.specs.declared.seen.Seen.{Seen}
+use Rattle.ing_codec.specs.declared.chunk_reading.Part.{Part}
+use Rattle.ing_codec.specs.declared.chunk_reading.Seen.{Seen}
 
 -- the number is kept, by its flag or in the set
 abbrev pub is_seen : Seen → ℕ → Bool

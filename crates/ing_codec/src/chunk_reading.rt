@@ -1,17 +1,16 @@
 //! The entries and blocks of a chunk read from its bytes.
-ghost use Rattle.std.specs.Prelude.{◌≡◌, ◌++◌, ◌+◌, ◌*◌, ◌<◌, ◌≤◌, ◌^◌, [], ◌∷◌, IfOk, length};
+ghost use Rattle.std.specs.Prelude.{◌≡◌, ◌++◌, ◌+◌, ◌*◌, ◌<◌, ◌≤◌, ◌^◌, [], ◌∷◌, IfOk, length, ◌||◌, ◌==◌, ℕ, not, false};
 ghost use Rattle.ing_refusals.specs.Results.{Gives, Returns};
 ghost use Rattle.ing_chunk.specs.Chunks as chunks;
 ghost use Rattle.ing_codec.specs.ChunkReading as spec;
-ghost use Rattle.ing_codec.specs.ChunkReading.{read_entry, read_entries, read_block, read_blocks};
-ghost use Rattle.ing_codec.specs.Seen.{HasSeen};
+ghost use Rattle.ing_codec.specs.ChunkReading.{read_entry, read_entries, read_block, read_blocks, is_in_part};
+ghost use Rattle.ing_codec.specs.Seen.{HasSeen, is_seen};
 
 use crate::fault::CodecFault;
 use crate::fields::Fields;
-use crate::lent_block::{LentBlock, LentEntry};
-use crate::part::Part;
-use crate::seen::Seen;
-use std::alloc::Global;
+use crate::lent_chunk::{LentBlock, LentEntry};
+use std::alloc::{AllocError, Global};
+use std::collections::BTreeSet;
 
 /// The fewest bytes of an entry.
 const ENTRY_BYTES: usize = 16;
@@ -192,4 +191,64 @@ fn blocks<'a>(
         rest = after;
     }
     Ok((found, rest))
+}
+
+/// The numbers from `first` and `start` on, `count` of them: `first` is that of the chunk, and `start`
+/// entries are in the blocks before.
+#[derive(Clone, Copy, Debug)]
+pub(crate) struct Part {
+    pub(crate) first: u64,
+    pub(crate) start: u64,
+    pub(crate) count: u32,
+}
+
+impl Part {
+    /// Whether it has this number.
+    pub(crate) fn has(self, number: u64) -> bool
+        requires { self.first + self.start + self.count < 2 ^ 64 }
+        ensures { result ≡ is_in_part self number }
+    {
+        let from = self.first + self.start;
+        number >= from && number < from + u64::from(self.count)
+    }
+}
+
+/// Numbers from one on. The first of them have a flag each, and the others, which a block with a damaged
+/// count may have, stand in a set: so memory is in proportion to the flags and to what was added.
+#[derive(Debug, Drop)]
+pub(crate) struct Seen {
+    pub(crate) from: u64,
+    pub(crate) near: Vec<bool>,
+    pub(crate) far: BTreeSet<u64>,
+}
+
+impl Seen {
+    /// No number yet of those from `from` on, with flags for so many.
+    pub(crate) fn new(alloc: Global, from: u64, flags: usize) -> Result<Seen, AllocError>
+        ensures from { IfOk result (λ seen. seen.from ≡ from) }
+        ensures none { IfOk result (λ seen. (n : ℕ) → is_seen seen n ≡ false) }
+    {
+        Ok(Seen {
+            from,
+            near: vec![in alloc; false; flags]?,
+            far: BTreeSet::new(alloc),
+        })
+    }
+
+    /// Adds a number, and says whether it is new.
+    fn add(&mut self, number: u64) -> Result<bool, AllocError>
+        requires { self.old.from ≤ number }
+        ensures new { IfOk result (λ new. new ≡ not (is_seen self.old number)) }
+        ensures from { IfOk result (λ _. self.new.from ≡ self.old.from) }
+        ensures seen { IfOk result (λ _. (n : ℕ) → self.old.from ≤ n →
+            is_seen self.new n ≡ (n == number || is_seen self.old n)) }
+    {
+        let place = number - self.from;
+        if place < self.near.len() as u64 {
+            let new = !self.near[place as usize];
+            self.near[place as usize] = true;
+            return Ok(new);
+        }
+        Ok(self.far.insert(number)?)
+    }
 }

@@ -4,27 +4,21 @@
 
 mod chunk_reading;
 mod chunk_view;
-mod extent;
 mod fault;
 mod fields;
 mod index_row;
 mod laws;
-mod lent_block;
 mod lent_chunk;
 mod object_names;
-mod part;
-mod seen;
 mod stored_chunk;
 mod writers;
 
 pub use chunk_view::{CHUNK_VERSION, ChunkView, encode_chunk, put_blocks};
-pub use extent::{Extent, put_extent};
 pub use fault::CodecFault;
 pub use fields::Fields;
-pub use index_row::{IndexRow, ROW_VERSION, decode_row, encode_row};
+pub use index_row::{Extent, IndexRow, ROW_VERSION, decode_row, encode_row, put_extent};
 pub use laws::{chunks_are_exact, fields_are_exact, rows_are_exact, worked_objects};
-pub use lent_block::{LentBlock, LentEntry};
-pub use lent_chunk::{LentChunk, decode_lent};
+pub use lent_chunk::{LentBlock, LentChunk, LentEntry, decode_lent};
 pub use object_names::{chunk_key, chunk_name, row_name};
 pub use stored_chunk::{StoredChunk, decode_chunk};
 pub use writers::{put_line, put_name, put_stamp, put_tenant, put_u32, put_u64};

@@ -3,9 +3,9 @@ use Rattle.std.specs.Prelude.{ℕ, List, map}
 use Rattle.std.specs.Borrow.{Bor}
 use Rattle.ing_commands.specs.declared.push.Push as push
 use Rattle.ing_commands.specs.declared.push.StreamPush.{StreamPush}
-use Rattle.ing_commands.specs.declared.push.texts.PushTexts.{PushTexts}
+use Rattle.ing_commands.specs.declared.push.PushTexts.{PushTexts}
 use Rattle.ing_commands.specs.declared.push.stream.StreamTexts.{StreamTexts}
-use Rattle.ing_commands.specs.declared.push.texts.ValueTexts.{ValueTexts}
+use Rattle.ing_commands.specs.declared.push.ValueTexts.{ValueTexts}
 use Rattle.ing_commands.specs.declared.flush.Flush as flush
 use Rattle.ing_commands.specs.declared.gauges.GaugesOf.{GaugesOf}
 use Rattle.ing_commands.specs.declared.query.Query as query

@@ -10,7 +10,7 @@ use Rattle.std.proofs.lemmas.List.Sorted.{IsPermutation-append_left, IsPermutati
 use Rattle.ing_chunk.specs.declared.numbered.Numbered.{Numbered}
 use Rattle.ing_rows.specs.Rows.{Row, StreamKey, rows_of, same_stream}
 use Rattle.ing_parts.specs.declared.found.Found.{Found}
-use Rattle.ing_parts.specs.declared.part.Part.{Part}
+use Rattle.ing_parts.specs.declared.snapshot.Part.{Part}
 use Rattle.ing_parts.specs.Parts.{found_among, found_at, found_in}
 use Rattle.ing_diary.specs.Notes.{IsReadOf, Note, note_of, note_of_found, note_of_numbered, notes_of, numbered_of}
 use Rattle.ing_diary.proofs.NoteLaws.{stream_same, take_next}

@@ -5,7 +5,7 @@ use Rattle.std.proofs.lemmas.List.{append-nil, length-append}
 use Rattle.std.proofs.lemmas.List.Sums.{sum_by-cons}
 use mathlib.Core.Logic.{dite}
 use native.Mathlib.Decide.{ℕ_discrete}
-use Rattle.ing_shard.specs.declared.due.Op.{Op}
+use Rattle.ing_shard.specs.declared.sealing.Op.{Op}
 use Rattle.ing_tally.specs.Books.{ShareState, amount_of}
 use Rattle.ing_flush.specs.declared.flush.Flushed.{Flushed}
 use Rattle.ing_flush.specs.declared.flush.Flushed.TheVariants.{Stored, Nothing, GaveBack, Strange}

@@ -2,7 +2,7 @@
 use Rattle.std.specs.Prelude.{◌≡◌, ℕ, ◌+◌, true, false, List, [], ◌∷◌, ◌++◌, length, sum_by}
 use mathlib.Core.Option.{some}
 use lib.ListN.{get_elem?}
-use Rattle.ing_shard.specs.declared.due.Op.{Op}
+use Rattle.ing_shard.specs.declared.sealing.Op.{Op}
 use Rattle.ing_flush.specs.declared.line.Moved.{Moved}
 
 -- the first pass, and each later one: nothing was put or taken by it

@@ -1,6 +1,6 @@
 -- What flushes, one after another, leave of a flusher's shares, of its pass and of its end (own).
 use Rattle.std.specs.Prelude.{◌≡◌, ℕ, ◌+◌, ◌-◌, ◌^◌, ◌≤◌, List, ◌++◌, length, min, sum_by}
-use Rattle.ing_shard.specs.declared.due.Op.{Op}
+use Rattle.ing_shard.specs.declared.sealing.Op.{Op}
 use Rattle.ing_tally.specs.Books.{ShareState, amount_of}
 use Rattle.ing_flush.specs.Queues.{PassState}
 use Rattle.ing_flush.specs.Tallies.{amount_at}

@@ -3,8 +3,7 @@ ghost use Rattle.std.specs.Prelude.{◌≡◌, IfOk};
 ghost use Rattle.ing_store.specs.StoreFaults.{IsCounted};
 ghost use Rattle.ing_shard.specs.Flights.{IsUploaded};
 
-use crate::gate::Gate;
-use crate::gated_end::GatedEnd;
+use crate::gate::{Gate, GatedEnd};
 use crate::tally::FlusherTally;
 use ing_postings::StreamNo;
 use ing_sealed::Flushed;

@@ -5,7 +5,6 @@ mod door;
 mod flush;
 mod flusher;
 mod gate;
-mod gated_end;
 mod line;
 mod queue;
 mod round;

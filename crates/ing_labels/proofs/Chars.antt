@@ -4,7 +4,7 @@ use lib.Utf8.{encode}
 use Rattle.std.proofs.lemmas.Str.{encode_ascii, inside_one, length-encode}
 use Rattle.std.proofs.lemmas.Bool.{cases_lt}
 use Rattle.ing_labels.specs.Names.{is_name_start, is_name_byte}
-use Rattle.ing_labels.specs.declared.matcher.MatchOp.{MatchOp}
+use Rattle.ing_labels.specs.declared.selector.MatchOp.{MatchOp}
 use Rattle.ing_labels.specs.Selectors.{Match, is_space}
 use Rattle.ing_labels.specs.Reading.{Reading, Start, Opened, InName, Named, Bang, Compared, InValue, Escaped, Matched, Comma, Closed, step, step_with, step_char, run_from}
 

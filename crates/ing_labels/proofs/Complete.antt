@@ -4,8 +4,8 @@ use Rattle.std.specs.List.{flat_map, list_all}
 use Rattle.std.proofs.lemmas.Bool.{and_parts}
 use Rattle.ing_labels.specs.Names.{is_name_start, is_name_byte, is_label_name}
 use Rattle.ing_labels.specs.Canonical.{written_byte, written_value}
-use Rattle.ing_labels.specs.declared.matcher.MatchOp.{MatchOp}
-use Rattle.ing_labels.specs.declared.matcher.MatchOp.TheVariants.{Equals, Differs}
+use Rattle.ing_labels.specs.declared.selector.MatchOp.{MatchOp}
+use Rattle.ing_labels.specs.declared.selector.MatchOp.TheVariants.{Equals, Differs}
 use Rattle.ing_labels.specs.Selectors.{Match, is_space, Spaced, op_token, quoted, match_tokens, IsSelectorText, BeginsSelector}
 use Rattle.ing_labels.specs.Reading.{Reading, Start, Opened, InName, Named, Bang, Compared, InValue, Escaped, Matched, Comma, Closed, step, step_from, run_from, closed_of}
 use Rattle.ing_labels.proofs.Spelt.{HaveNames, Reads, reads_from, run-none}

@@ -4,8 +4,8 @@ use Rattle.std.specs.Char.{encode_utf8}
 use Rattle.ing_labels.specs.Names.{is_name_start, is_name_byte}
 use Rattle.ing_labels.specs.Selectors.{Match, is_space}
 use Rattle.std.specs.String.{string_bytes}
-use Rattle.ing_labels.specs.declared.matcher.MatchOp.{MatchOp}
-use Rattle.ing_labels.specs.declared.matcher.MatchOp.TheVariants.{Equals, Differs}
+use Rattle.ing_labels.specs.declared.selector.MatchOp.{MatchOp}
+use Rattle.ing_labels.specs.declared.selector.MatchOp.TheVariants.{Equals, Differs}
 use Rattle.ing_labels.specs.declared.selector_reader.State.{State}
 use Rattle.ing_labels.specs.declared.selector_reader.State.TheVariants as state
 

@@ -6,8 +6,8 @@ use Rattle.ing_labels.specs.Names.{is_label_name}
 use Rattle.ing_labels.specs.Labels.{LabelMap}
 use Rattle.ing_labels.specs.LabelValues.{label_value}
 use Rattle.ing_labels.specs.Canonical.{written_value}
-use Rattle.ing_labels.specs.declared.matcher.MatchOp.{MatchOp}
-use Rattle.ing_labels.specs.declared.matcher.MatchOp.TheVariants.{Equals, Differs}
+use Rattle.ing_labels.specs.declared.selector.MatchOp.{MatchOp}
+use Rattle.ing_labels.specs.declared.selector.MatchOp.TheVariants.{Equals, Differs}
 
 -- a matcher: the bytes of its name and value, and what it asks of the label's value
 pub record Match : Type 0 where

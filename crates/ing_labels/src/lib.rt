@@ -7,21 +7,15 @@ mod checks;
 mod fault;
 mod label_set;
 mod laws;
-mod matcher;
-mod names;
-mod pairs;
-mod pieces;
 mod selector;
 mod selector_reader;
 mod text_fault;
 
 pub use fault::{LabelFault, LabelLimits};
-pub use label_set::Labels;
+pub use label_set::{Labels, Pairs};
 pub use laws::{
     canonical_names_are_decided, canonical_names_are_exact, canonical_names_are_short,
     selector_texts_are_exact, worked_canonical_names, worked_refusals,
 };
-pub use matcher::{MatchOp, Matcher};
-pub use pairs::Pairs;
-pub use selector::Selector;
+pub use selector::{MatchOp, Matcher, Selector};
 pub use text_fault::TextFault;

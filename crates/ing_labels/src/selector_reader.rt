@@ -8,7 +8,7 @@ ghost use Rattle.ing_labels.specs.TextFaults.{IsGrammarFault};
 ghost use Rattle.ing_labels.specs.Reading as reading;
 ghost use Rattle.ing_labels.specs.Reading.{reading_of, readings_of, step_char, Opened, InName, Compared, InValue, Escaped, Matched, Comma, closed_of};
 
-use crate::matcher::{MatchOp, Matcher};
+use crate::selector::{MatchOp, Matcher};
 use crate::text_fault::TextFault;
 use std::alloc::{AllocError, Global};
 

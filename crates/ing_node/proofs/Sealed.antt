@@ -4,7 +4,7 @@ use Rattle.std.specs.Prelude.{All, replicate}
 use Rattle.std.proofs.lemmas.List.Elements.{All-nil, All-append, All-replicate}
 use Rattle.ing_rows.specs.Rows.{State, StreamKey}
 use Rattle.ing_rows.specs.Claims.{claimable_count}
-use Rattle.ing_shard.specs.declared.due.Op.{Op}
+use Rattle.ing_shard.specs.declared.sealing.Op.{Op}
 use Rattle.ing_shard.specs.Sealing.{op, ops_from}
 
 pub ops_have_number : (shard number : ℕ) (listed : List StreamKey) (state : State) → All (λ o. o.shard ≡ shard) (ops_from shard number listed state)

@@ -7,7 +7,7 @@ use Rattle.std.proofs.lemmas.List.Sorted.{All-permutation, IsPermutation-sym}
 use Rattle.std.proofs.lemmas.Slice.Eq.{bytes_eq-Decides}
 use Rattle.ing_labels.specs.Selectors.{Match, selects}
 use Rattle.ing_parts.specs.declared.found.Found.{Found}
-use Rattle.ing_parts.specs.declared.order.Question.{Question}
+use Rattle.ing_parts.specs.declared.found.Question.{Question}
 use Rattle.ing_parts.specs.declared.snapshot.Snapshot.{Snapshot}
 use Rattle.ing_parts.specs.Answers.{AreSomeOf}
 use Rattle.ing_parts.specs.Parts.{HasRows, KeepsInRange, found_at, is_within, standing}

@@ -2,7 +2,7 @@
 use Rattle.std.specs.Prelude.{◌≡◌, ◌<◌, ◌≤◌, ℕ, Bool, true, List, All, Some, slice_get}
 use Rattle.ing_labels.specs.Selectors.{Match}
 use Rattle.ing_parts.specs.declared.found.Found.{Found}
-use Rattle.ing_parts.specs.declared.order.Question.{Question}
+use Rattle.ing_parts.specs.declared.found.Question.{Question}
 use Rattle.ing_parts.specs.declared.snapshot.Snapshot.{Snapshot}
 use Rattle.ing_parts.specs.Parts.{KeepsInRange, standing}
 use Rattle.ing_rows.specs.Gauges.{gauges_of}

@@ -43,6 +43,3 @@ pub use query::{Answer, AnswerFault};
 pub use report::{CloseRefusal, Report, ShardReport};
 pub use shards::Shards;
 pub use swept::Swept;
-
-#[cfg(test)]
-mod tests;

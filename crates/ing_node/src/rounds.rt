@@ -4,7 +4,7 @@ ghost use Rattle.std.specs.List.{AllZip};
 ghost use Rattle.ing_tally.specs.Books.{amount_of};
 ghost use Rattle.ing_flush.specs.Rounds.{IsRound, IsSumOf, worker_of};
 ghost use Rattle.ing_node.specs.Names.{IsTallyOf};
-ghost use Rattle.ing_shard.specs.declared.due.Op.{Op};
+ghost use Rattle.ing_shard.specs.declared.sealing.Op.{Op};
 ghost use Rattle.ing_node.specs.Sweeps.{AreBelow, AreQueued, IsFullAt};
 
 use crate::fault::NodeFault;

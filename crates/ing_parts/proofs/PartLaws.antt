@@ -6,7 +6,7 @@ use Rattle.std.proofs.lemmas.List.Sorted.{IsPermutation-refl, IsPermutation-sym,
 use Rattle.ing_rows.specs.Rows.{Row}
 use Rattle.ing_chunk.specs.declared.numbered.Numbered.{Numbered}
 use Rattle.ing_parts.specs.declared.found.Found.{Found}
-use Rattle.ing_parts.specs.declared.part.Part.{Part}
+use Rattle.ing_parts.specs.declared.snapshot.Part.{Part}
 use Rattle.ing_parts.specs.Parts.{AddsParts, ListsRows, found_among, found_at, found_in, found_of}
 use Rattle.ing_parts.proofs.RangeLaws.{found_more}
 

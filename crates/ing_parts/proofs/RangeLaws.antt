@@ -6,7 +6,7 @@ use Rattle.std.proofs.lemmas.List.Elements.{filter-append}
 use Rattle.std.proofs.lemmas.List.Sorted.{IsPermutation-append_comm, IsPermutation-append_right}
 use Rattle.ing_chunk.specs.declared.numbered.Numbered.{Numbered}
 use Rattle.ing_chunk.specs.Chunks.{ChunkContents, entries_of, entries_of_all, is_between}
-use Rattle.ing_parts.specs.declared.part.Part.{Part}
+use Rattle.ing_parts.specs.declared.snapshot.Part.{Part}
 use Rattle.ing_parts.specs.declared.found.Found.{Found}
 use Rattle.ing_parts.specs.declared.snapshot.Snapshot.{Snapshot}
 use Rattle.ing_parts.specs.Answers.{AreSomeOf, Offers, StandFor}

@@ -3,7 +3,7 @@ use Rattle.std.specs.Prelude.{◌≡◌, ℕ, List, [], length, Result, Ok, Err}
 use Rattle.sha2.specs.Sha256.{sha256}
 use Rattle.ing_chunk.specs.declared.numbered.Numbered.{Numbered}
 use Rattle.ing_chunk.specs.Chunks.{in_blocks, size_of_entries, least_of, greatest_of}
-use Rattle.ing_codec.specs.declared.extent.Extent.{Extent}
+use Rattle.ing_codec.specs.declared.index_row.Extent.{Extent}
 use Rattle.ing_codec.specs.declared.fault.CodecFault.{CodecFault}
 use Rattle.ing_codec.specs.ChunkObjects.{ChunkObject, IsObject}
 use Rattle.ing_codec.specs.ChunkReading.{read_chunk}

@@ -6,12 +6,12 @@ use Rattle.ing_rows.specs.Rows.{StreamKey, Row}
 use Rattle.ing_chunk.specs.declared.numbered.Numbered.{Numbered}
 use Rattle.ing_chunk.specs.Chunks.{ChunksContents, block_rows, entries_in_memory, greatest_of, in_blocks, least_of, stream_state}
 use Rattle.ing_parts.specs.declared.found.Found.{Found}
-use Rattle.ing_parts.specs.declared.part.Part.{Part}
+use Rattle.ing_parts.specs.declared.snapshot.Part.{Part}
 use Rattle.ing_parts.specs.declared.snapshot.Snapshot.{Snapshot}
-use Rattle.ing_parts.specs.declared.part.Source.{Source}
-use Rattle.ing_parts.specs.declared.part.Source.TheVariants.{Block, Stored}
-use Rattle.ing_parts.specs.declared.order.Order.{Order}
-use Rattle.ing_parts.specs.declared.order.Order.TheVariants.{Forward, Backward}
+use Rattle.ing_parts.specs.declared.snapshot.Source.{Source}
+use Rattle.ing_parts.specs.declared.snapshot.Source.TheVariants.{Block, Stored}
+use Rattle.ing_parts.specs.declared.found.Order.{Order}
+use Rattle.ing_parts.specs.declared.found.Order.TheVariants.{Forward, Backward}
 use Rattle.ing_parts.specs.Answers.{AreSomeOf, StandFor}
 
 -- the entries of a place

@@ -1,8 +1,16 @@
-//! What a query gives of an entry.
-ghost use Rattle.std.specs.Prelude.{◌≡◌};
+//! What a query gives of an entry, with its stream's name, and in which order.
+ghost use Rattle.std.specs.Prelude.{◌≡◌, IfOk};
+ghost use Rattle.ing_labels.specs.Canonical.{canonical_of};
+ghost use Rattle.std.specs.Cmp.Lexicographic.{slice_cmp};
+ghost use Rattle.std.specs.Ordering.{is_lt, nat_cmp, ordering_then};
+ghost use Rattle.ing_rows.specs.declared.entry.Entry.{Entry};
+ghost use Rattle.ing_parts.specs.Answers as answers;
 
-use crate::stream_name::StreamName;
+use ing_labels::Labels;
 use ing_rows::Entry;
+use std::alloc::AllocError;
+use std::cmp::Ordering;
+use std::marker::Model;
 
 /// An entry that was found: the canonical name of its stream, how many entries of the stream were accepted before it, and
 /// its stamp and line (own).
@@ -25,5 +33,123 @@ impl Found {
         ensures number { result.2 ≡ self.now.number }
     {
         (self.entry.stamp.nanoseconds(), &self.name, self.number)
+    }
+}
+
+/// The canonical name of a stream, which several owners share: its labels hold it.
+#[derive(Drop)]
+pub struct StreamName {
+    labels: Labels,
+}
+
+impl Model for StreamName {
+    ghost use Rattle.std.specs.Prelude.{List, ℕ};
+    ghost use Rattle.ing_labels.specs.Canonical.{canonical_of};
+
+    ghost Value = { List ℕ };
+
+    ghost view = { λ name. canonical_of name.labels };
+}
+
+impl StreamName {
+    /// The canonical name of the stream with these labels. Copies no text. (Loki documentation: labels; the name is own.)
+    pub fn of_labels(labels: &Labels) -> Result<StreamName, AllocError>
+        ensures { IfOk result (λ name. name ≡ canonical_of labels.now) }
+    {
+        Ok(StreamName {
+            labels: labels.clone()?,
+        })
+    }
+
+    /// Its text.
+    pub fn as_str(&self) -> &str
+        ensures { result.now ≡ self.now }
+    {
+        self.labels.name()
+    }
+
+    /// A second owner of it. Copies no text.
+    pub fn share(&self) -> Result<StreamName, AllocError>
+        ensures { IfOk result (λ name. name ≡ self.now) }
+    {
+        StreamName::of_labels(&self.labels)
+    }
+}
+
+/// In which order an answer has its entries (Loki documentation: HTTP API, query range: direction).
+#[derive(Clone, Copy, Debug, PartialEq, Eq)]
+pub enum Order {
+    /// The oldest first.
+    Forward,
+    /// The newest first.
+    Backward,
+}
+
+/// What is asked of entries.
+#[derive(Clone, Copy, Debug, PartialEq, Eq)]
+pub struct Question {
+    /// The least stamp that is wanted, in nanoseconds.
+    pub start: u64,
+    /// What each stamp that is wanted is below, in nanoseconds.
+    pub end: u64,
+    /// The order of the answer.
+    pub order: Order,
+    /// How many entries the answer may have.
+    pub limit: usize,
+}
+
+/// How one name and number stand to others.
+#[inline(never)]
+fn compare_ties(
+    one_name: &StreamName,
+    one_number: u64,
+    other_name: &StreamName,
+    other_number: u64,
+) -> Ordering
+    ensures { result ≡ ordering_then (slice_cmp nat_cmp one_name.now other_name.now)
+        (nat_cmp one_number other_number) }
+{
+    (one_name.as_str(), one_number).cmp(&(other_name.as_str(), other_number))
+}
+
+/// How one stamp, name and number stand to others. Few stamps are the same, so names are compared out of line.
+#[inline(always)]
+fn compare_keys(one: (u64, &StreamName, u64), other: (u64, &StreamName, u64)) -> Ordering
+    ensures { let from = one.entry in let to = other.entry in
+        result ≡ ordering_then (nat_cmp from.0 to.0)
+        (ordering_then (slice_cmp nat_cmp from.1.now to.1.now) (nat_cmp from.2 to.2)) }
+{
+    match one.0.cmp(&other.0) {
+        Ordering::Equal => compare_ties(one.1, one.2, other.1, other.2),
+        unequal => unequal,
+    }
+}
+
+/// How one stands to another in an answer.
+#[inline]
+pub(crate) fn compare(order: Order, one: &Found, other: &Found) -> Ordering
+    ensures { is_lt result ≡ answers.precedes order one.now other.now }
+{
+    match order {
+        Order::Forward => compare_keys(one.key(), other.key()),
+        Order::Backward => compare_keys(other.key(), one.key()),
+    }
+}
+
+/// Whether an answer has an entry of this stamp, name and number before another.
+pub(crate) fn goes_before(
+    order: Order,
+    stamp: u64,
+    name: &StreamName,
+    number: u64,
+    other: &Found,
+) -> bool
+    ensures { (entry : Entry) → entry.stamp ≡ stamp → result ≡ answers.precedes order
+        (record { name = name.now; number = number; entry = entry }) other.now }
+{
+    let key = (stamp, name, number);
+    match order {
+        Order::Forward => compare_keys(key, other.key()).is_lt(),
+        Order::Backward => compare_keys(other.key(), key).is_lt(),
     }
 }

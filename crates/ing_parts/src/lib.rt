@@ -3,26 +3,17 @@
 
 mod best;
 mod found;
-mod heap;
 mod laws;
 mod listing;
 mod offers;
-mod order;
-mod part;
 mod snapshot;
-mod stream_name;
-mod whole;
 
 pub use best::Best;
-pub use found::Found;
+pub use found::{Found, Order, Question, StreamName};
 pub use laws::{
     additions_join, answers_are_first, found_rows_have_no_order, listed_rows_join, offers_join,
     offers_of_streams, parts_join, rows_are_found, rows_join, rows_stand, standing_joins,
 };
-pub use listing::Listing;
+pub use listing::{Listing, list_chunk, list_chunks, list_stored};
 pub use offers::offer_block;
-pub use order::{Order, Question};
-pub use part::{Part, Source};
-pub use snapshot::Snapshot;
-pub use stream_name::StreamName;
-pub use whole::{list_chunk, list_chunks, list_stored};
+pub use snapshot::{Part, Snapshot, Source};

@@ -5,9 +5,7 @@ ghost use Rattle.ing_parts.specs.Answers.{Offers};
 ghost use Rattle.ing_parts.specs.Parts.{found_between};
 
 use crate::best::Best;
-use crate::found::Found;
-use crate::order::Order;
-use crate::stream_name::StreamName;
+use crate::found::{Found, Order, StreamName};
 use ing_chunk::{Block, Head, Numbered, spans_bound_stamps, stamps_rise};
 use std::alloc::{AllocError, Global};
 

@@ -1,15 +1,13 @@
-//! What is read off a shard at one moment.
+//! What is read off a shard at one moment: parts of streams.
 ghost use Rattle.std.specs.Prelude.{◌≡◌, ℕ, [], List, OnOk, map, true};
 ghost use Rattle.ing_chunk.specs.Chunks.{IsSpanOf, entries_growing, entries_in_memory, entries_of, entries_of_all, in_blocks};
 ghost use Rattle.ing_parts.specs.Parts.{Adds, entries_in, found_of};
 
 use crate::best::Best;
+use crate::found::{Order, Question, StreamName};
 use crate::laws::additions_join;
 use crate::listing::Listing;
 use crate::offers::{is_passed_over, offer_entries, offer_head};
-use crate::order::{Order, Question};
-use crate::part::{Part, Source};
-use crate::stream_name::StreamName;
 use ing_chunk::{Block, Chunk, Chunks, Head, Numbered};
 use ing_store::Receipt;
 use std::alloc::{AllocError, Global};
@@ -257,4 +255,22 @@ impl<R: Receipt> Snapshot<R> {
         self.parts.push(Part { name, source })?;
         Ok(())
     }
+}
+
+/// Where entries stand that a query may want, and that its snapshot shares.
+#[derive(Drop)]
+pub enum Source<R: Receipt> {
+    /// A closed block in memory, which its shard holds too.
+    Block(Block),
+    /// A chunk in a store.
+    Stored(Listing<R>),
+}
+
+/// Entries of one stream, where they stand.
+#[derive(Drop)]
+pub struct Part<R: Receipt> {
+    /// The canonical name of the stream.
+    pub name: StreamName,
+    /// Where they stand.
+    pub source: Source<R>,
 }

@@ -4,7 +4,7 @@ use Rattle.std.specs.List.{filter_map, slice_get, cons_option}
 use Rattle.std.proofs.lemmas.List.{take_more, map-append}
 use Rattle.std.proofs.lemmas.List.Elements.{All-more, All-weaker, filter_map-append}
 use Rattle.ing_labels.specs.Selectors.{Match, asks_for_value}
-use Rattle.ing_postings.specs.declared.listed.Listed.{Listed}
+use Rattle.ing_postings.specs.declared.postings.Listed.{Listed}
 use Rattle.ing_postings.specs.Streams.{numbers_of}
 use Rattle.ing_postings.specs.Index.{Index, list_at, Narrows, IsNoLonger}
 

@@ -16,9 +16,9 @@ use Rattle.std.proofs.lemmas.List.Recursion.{and_at}
 use Rattle.std.proofs.lemmas.Map.Text.{is_eq-slice_cmp}
 use Rattle.ing_labels.specs.Labels.{LabelMap, Pair, name_order}
 use Rattle.ing_labels.specs.Selectors.{Match, match_holds, selects, asks_for_value, agrees}
-use Rattle.ing_labels.specs.declared.matcher.MatchOp.{MatchOp}
-use Rattle.ing_labels.specs.declared.matcher.MatchOp.TheVariants.{Equals, Differs}
-use Rattle.ing_postings.specs.declared.listed.Listed.{Listed}
+use Rattle.ing_labels.specs.declared.selector.MatchOp.{MatchOp}
+use Rattle.ing_labels.specs.declared.selector.MatchOp.TheVariants.{Equals, Differs}
+use Rattle.ing_postings.specs.declared.postings.Listed.{Listed}
 use Rattle.ing_postings.specs.Streams.{is_pair, has_label, selected}
 use Rattle.ing_postings.specs.Index.{Index, IsIndexOf, Narrows}
 use Rattle.ing_postings.proofs.Places.{places_read, places_within, places_rise}

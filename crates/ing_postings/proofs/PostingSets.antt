@@ -9,7 +9,7 @@ use Rattle.std.proofs.lemmas.Bool.{and_parts}
 use Rattle.std.proofs.lemmas.List.{map-append}
 use Rattle.std.proofs.lemmas.List.Elements.{filter-append}
 use Rattle.ing_labels.specs.Labels.{Pair, name_order}
-use Rattle.ing_postings.specs.declared.listed.Listed.{Listed}
+use Rattle.ing_postings.specs.declared.postings.Listed.{Listed}
 use Rattle.ing_postings.specs.Streams.{numbers_of, is_pair, has_label, Posting, postings_of, posted}
 use Rattle.ing_postings.proofs.Posted.{once, rest_sorted}
 

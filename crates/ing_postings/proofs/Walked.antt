@@ -10,7 +10,7 @@ use Rattle.std.proofs.lemmas.Bool.{cases_lt, cond_both, eqb-false, ltb-false, lt
 use Rattle.std.proofs.lemmas.Map.Keys.{sorted_from_strictly_increasing, non_decreasing_from_sorted}
 use Rattle.std.proofs.lemmas.Option.{slice_get_cases}
 use Rattle.ing_labels.specs.Selectors.{Match, match_holds, selects, agrees, asks_for_value}
-use Rattle.ing_postings.specs.declared.listed.Listed.{Listed}
+use Rattle.ing_postings.specs.declared.postings.Listed.{Listed}
 use Rattle.ing_postings.specs.Streams.{places_of, picks_at, is_in, selected}
 use Rattle.ing_postings.proofs.Places.{in_places}
 use Rattle.ing_postings.proofs.Narrowed.{filter_both, holds_labelled}

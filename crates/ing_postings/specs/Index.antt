@@ -7,7 +7,7 @@ use Rattle.std.specs.List.{list_any}
 use Rattle.ing_labels.specs.Labels.{Pair}
 use Rattle.ing_labels.specs.Selectors.{Match, asks_for_value}
 use Rattle.ing_postings.specs.Streams.{is_pair, places_of}
-use Rattle.ing_postings.specs.declared.listed.Listed.{Listed}
+use Rattle.ing_postings.specs.declared.postings.Listed.{Listed}
 use Rattle.std.specs.declared.string.String.{String}
 
 -- the lists of the values of one name

@@ -6,7 +6,7 @@ use Rattle.std.specs.Str.{bytes_eq}
 use Rattle.std.specs.FinMap.{entries}
 use Rattle.ing_labels.specs.Labels.{LabelMap, Pair}
 use Rattle.ing_labels.specs.Selectors.{Match, match_holds, selects}
-use Rattle.ing_postings.specs.declared.listed.Listed.{Listed}
+use Rattle.ing_postings.specs.declared.postings.Listed.{Listed}
 
 -- the numbers of streams, in their order
 abbrev pub numbers_of : List Listed → List ℕ

@@ -6,10 +6,10 @@ use Rattle.std.proofs.lemmas.List.Elements.{filter-append}
 use Rattle.std.proofs.lemmas.List.Sorted.{IsPermutation-refl, IsPermutation-trans, IsPermutation-append, IsPermutation-append_left, IsPermutation-append_right, IsPermutation-append_comm}
 use Rattle.ing_chunk.specs.Chunks.{in_blocks}
 use Rattle.ing_parts.specs.declared.found.Found.{Found}
-use Rattle.ing_parts.specs.declared.part.Part.{Part}
+use Rattle.ing_parts.specs.declared.snapshot.Part.{Part}
 use Rattle.ing_parts.specs.declared.snapshot.Snapshot.{Snapshot}
-use Rattle.ing_parts.specs.declared.part.Source.{Source}
-use Rattle.ing_parts.specs.declared.part.Source.TheVariants.{Block, Stored}
+use Rattle.ing_parts.specs.declared.snapshot.Source.{Source}
+use Rattle.ing_parts.specs.declared.snapshot.Source.TheVariants.{Block, Stored}
 use Rattle.ing_parts.specs.Parts.{entries_in, found_between, found_in, wanted, within, is_within}
 use Rattle.ing_query.specs.Answers.{wanted_in}
 use Rattle.ing_query.specs.Gathered.{wanted_there, in_memory, in_store, memory_in, waiting_in, memory_of, waiting_of}

@@ -4,15 +4,15 @@ use Rattle.std.specs.List.{flat_map, AllByRecursion, Contains}
 use Rattle.ing_chunk.specs.Chunks.{in_blocks}
 use Rattle.ing_parts.specs.declared.found.Found.{Found}
 use Rattle.ing_parts.specs.Parts.{found_between, found_of, is_within, standing}
-use Rattle.ing_parts.specs.declared.part.Part.{Part}
+use Rattle.ing_parts.specs.declared.snapshot.Part.{Part}
 use Rattle.ing_parts.specs.declared.snapshot.Snapshot.{Snapshot}
-use Rattle.ing_parts.specs.declared.part.Source.{Source}
-use Rattle.ing_parts.specs.declared.part.Source.TheVariants.{Block, Stored}
+use Rattle.ing_parts.specs.declared.snapshot.Source.{Source}
+use Rattle.ing_parts.specs.declared.snapshot.Source.TheVariants.{Block, Stored}
 use Rattle.ing_codec.specs.ChunkObjects.{ChunkObject}
-use Rattle.ing_parts.specs.declared.order.Order.{Order}
+use Rattle.ing_parts.specs.declared.found.Order.{Order}
 use Rattle.ing_parts.specs.Answers.{BestState, IsAnswer, Offers}
 use Rattle.ing_parts.specs.Listings.{Listed}
-use Rattle.ing_query.specs.declared.waiting.Waiting.{Waiting}
+use Rattle.ing_query.specs.declared.query.Waiting.{Waiting}
 use Rattle.ing_query.specs.Fetched.{IsTaken}
 
 -- what is wanted of a part that waits

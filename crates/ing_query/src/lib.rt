@@ -2,12 +2,8 @@
 #![tactic(auto)]
 
 mod fault;
-mod fetch;
-mod offers;
 mod part_reading;
 mod query;
-mod stored;
-mod waiting;
 
 pub use fault::QueryFault;
 pub use part_reading::read_part;

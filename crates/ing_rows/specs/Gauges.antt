@@ -1,6 +1,6 @@
 -- Gauges as sums over all rows, and where a number of a stream is found.
 -- What names no section of the Loki documentation is own.
-use Rattle.std.specs.Prelude.{◌≡◌, ℕ, Bool, ◌&&◌, List, filter, length, bytes_eq, ◌==◌, nat_lt, if◌then◌else◌}
+use Rattle.std.specs.Prelude.{◌≡◌, ◌+◌, ◌-◌, ◌≤◌, ◌<◌, ◌^◌, ℕ, Bool, ◌&&◌, List, filter, length, bytes_eq, ◌==◌, nat_lt, if◌then◌else◌}
 use Rattle.ing_rows.specs.declared.gauges.Gauge.{Gauge}
 use Rattle.ing_rows.specs.declared.gauges.Gauges.{Gauges}
 use Rattle.ing_rows.specs.declared.place.Place.{Place}
@@ -22,6 +22,60 @@ gauges_of rows tenant =
       flight = gauge_of is_in_flight rows tenant;
       stored = gauge_of is_stored rows tenant;
     }
+
+-- ---- sums that are kept
+
+-- both together, and what is left where some of it goes
+abbrev pub gauge_more : Gauge → Gauge → Gauge
+gauge_more a b = record { entries = a.entries + b.entries; bytes = a.bytes + b.bytes }
+
+abbrev pub gauge_less : Gauge → Gauge → Gauge
+gauge_less a b = record { entries = a.entries - b.entries; bytes = a.bytes - b.bytes }
+
+-- what each of the counts is, told by the count that is meant
+abbrev pub gauges_by : ((Gauges → ℕ) → ℕ) → Gauges
+gauges_by each =
+    record {
+      streams = each (λ k. k.streams);
+      head = record { entries = each (λ k. k.head.entries); bytes = each (λ k. k.head.bytes) };
+      block = record { entries = each (λ k. k.block.entries); bytes = each (λ k. k.block.bytes) };
+      flight = record { entries = each (λ k. k.flight.entries); bytes = each (λ k. k.flight.bytes) };
+      stored = record { entries = each (λ k. k.stored.entries); bytes = each (λ k. k.stored.bytes) };
+    }
+
+-- of no entries
+abbrev pub no_gauges : Gauges
+no_gauges = gauges_by (λ f. 0)
+
+-- what a part adds is within the sums
+pub record IsWithinGauge (part sum : Gauge) : Type 0 where
+  pub entries : part.entries ≤ sum.entries
+  pub bytes : part.bytes ≤ sum.bytes
+
+pub record AreWithin (part sums : Gauges) : Type 0 where
+  pub streams : part.streams ≤ sums.streams
+  pub head : IsWithinGauge part.head sums.head
+  pub block : IsWithinGauge part.block sums.block
+  pub flight : IsWithinGauge part.flight sums.flight
+  pub stored : IsWithinGauge part.stored sums.stored
+
+-- the sums can be kept
+pub record HasRoom (sum : Gauge) : Type 0 where
+  pub entries : sum.entries < 2 ^ 64
+  pub bytes : sum.bytes < 2 ^ 128
+
+pub record HaveRoom (sums : Gauges) : Type 0 where
+  pub streams : sums.streams < 2 ^ 64
+  pub head : HasRoom sums.head
+  pub block : HasRoom sums.block
+  pub flight : HasRoom sums.flight
+  pub stored : HasRoom sums.stored
+
+-- the sums where one of their parts has changed
+abbrev pub with_changed : Gauges → Gauges → Gauges → Gauges
+with_changed sums before after = gauges_by (λ f. f sums - f before + f after)
+
+-- ---- where numbers stand
 
 -- where a number of a stream is found, looking through all rows
 abbrev pub spots_of : List Row → StreamKey → ℕ → List Row

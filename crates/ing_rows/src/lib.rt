@@ -5,15 +5,13 @@ mod entry;
 mod fault;
 mod gauges;
 mod laws;
-mod line;
 mod place;
 mod placement;
 mod rules;
-mod stamp;
 mod tenant;
 mod verdict;
 
-pub use entry::Entry;
+pub use entry::{Entry, Line, Stamp, value_of_digits, window_limit};
 pub use fault::RowFault;
 pub use gauges::{Gauge, Gauges};
 pub use laws::{
@@ -22,10 +20,8 @@ pub use laws::{
     flushes_have_no_order, flushes_keep_facts, order_does_not_count, parts_are_apart,
     pushes_keep_states_sound, seals_are_apart, seals_have_no_order, worked_rows,
 };
-pub use line::Line;
 pub use place::{Place, SealReason};
 pub use placement::shard_of;
 pub use rules::Rules;
-pub use stamp::{Stamp, value_of_digits, window_limit};
 pub use tenant::{Tenant, is_tenant_id};
 pub use verdict::Verdict;

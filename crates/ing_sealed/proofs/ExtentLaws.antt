@@ -3,7 +3,7 @@ use Rattle.std.proofs.Common.{◌≡◌, ℕ, ◌+◌, ◌-◌, ◌^◌, ◌<◌
 use Rattle.std.proofs.lemmas.Bool.Decides.{nat_tests}
 use Rattle.ing_chunk.specs.declared.numbered.Numbered.{Numbered}
 use Rattle.ing_chunk.specs.Chunks.{ChunkContents, IsWhole, count_in, in_blocks, least_of, greatest_of, size_of_entries, size_of_chunk}
-use Rattle.ing_codec.specs.declared.extent.Extent.{Extent}
+use Rattle.ing_codec.specs.declared.index_row.Extent.{Extent}
 use Rattle.ing_codec.specs.RowObjects.{IsExtentOf}
 use Rattle.ing_parts.specs.Listings.{extent_of}
 use Rattle.ing_sealed.proofs.JoinLaws.{some_block}

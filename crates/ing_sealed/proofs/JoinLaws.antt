@@ -10,8 +10,8 @@ use Rattle.ing_rows.specs.Turns.{beside}
 use Rattle.ing_chunk.specs.declared.numbered.Numbered.{Numbered}
 use Rattle.ing_chunk.specs.Chunks.{ChunkContents, IsWhole, Follow, row_in, block_rows, count_in, chunk_state, chunks_state, in_blocks}
 use Rattle.ing_chunk.specs.Parts.{AreParts}
-use Rattle.ing_sealed.specs.declared.held.Held.{Held}
-use Rattle.ing_sealed.specs.declared.held.Held.TheVariants.{Waiting}
+use Rattle.ing_sealed.specs.declared.sealed_chunks.Held.{Held}
+use Rattle.ing_sealed.specs.declared.sealed_chunks.Held.TheVariants.{Waiting}
 use Rattle.ing_sealed.specs.declared.sealed_chunks.SealedChunks.TheInside.{Inside}
 use Rattle.ing_sealed.specs.Slots.{Slot, slot_at, at_place, slot_state, slots_state, IsSlot, AreBelow, AreRising, NoneInFlight, FlyApart, AreSlots}
 use Rattle.ing_sealed.specs.KeptSlots.{slot_of, HoldsWhole, AreKept}

@@ -10,7 +10,7 @@ use Rattle.std.proofs.Math.Seq.{map-set_same, take-append-add}
 use Rattle.ing_rows.specs.declared.place.Place.TheVariants.{Block, Flight}
 use Rattle.ing_rows.specs.Rows.{is_block, is_flight, is_stored}
 use Rattle.ing_chunk.specs.Chunks.{ChunkContents}
-use Rattle.ing_sealed.specs.declared.held.Held.{Held}
+use Rattle.ing_sealed.specs.declared.sealed_chunks.Held.{Held}
 use Rattle.ing_sealed.specs.declared.sealed_chunks.SealedChunks.TheInside.{Inside}
 use Rattle.ing_sealed.specs.Slots.{Slot, slot_at, put_at, stored_at, IsSlot, NoneInFlight, AreSlots, Changes}
 use Rattle.ing_sealed.specs.KeptSlots.{slot_of, HoldsWhole, AreKept}

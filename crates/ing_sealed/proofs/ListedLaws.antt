@@ -7,7 +7,7 @@ use Rattle.ing_rows.specs.Rows.{is_block, is_flight, is_stored}
 use Rattle.ing_chunk.specs.declared.numbered.Numbered.{Numbered}
 use Rattle.ing_chunk.specs.Chunks.{in_blocks}
 use Rattle.ing_parts.specs.Listings.{Listed, IsSpelt}
-use Rattle.ing_sealed.specs.declared.held.Held.TheVariants.{Stored}
+use Rattle.ing_sealed.specs.declared.sealed_chunks.Held.TheVariants.{Stored}
 use Rattle.ing_sealed.specs.declared.sealed_chunks.SealedChunks.TheInside.{Inside}
 use Rattle.ing_sealed.specs.Slots.{Slot, slot_listed, IsSlot, AreBelow, FlyApart, AreSlots}
 use Rattle.ing_sealed.specs.KeptSlots.{slot_of, HoldsWhole, AreKept}

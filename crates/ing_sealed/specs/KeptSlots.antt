@@ -3,8 +3,8 @@ use Rattle.std.specs.Prelude.{◌≡◌, ◌≤◌, Bool, false, not, All, map, 
 use Rattle.ing_rows.specs.declared.place.Place.TheVariants as place
 use Rattle.ing_rows.specs.Rows.{is_block, is_stored}
 use Rattle.ing_chunk.specs.Chunks.{IsWhole}
-use Rattle.ing_sealed.specs.declared.held.Held.{Held}
-use Rattle.ing_sealed.specs.declared.held.Held.TheVariants.{Waiting, Shared, Flying, Stored}
+use Rattle.ing_sealed.specs.declared.sealed_chunks.Held.{Held}
+use Rattle.ing_sealed.specs.declared.sealed_chunks.Held.TheVariants.{Waiting, Shared, Flying, Stored}
 use Rattle.ing_sealed.specs.declared.sealed_chunks.SealedChunks.TheInside.{Inside}
 use Rattle.ing_sealed.specs.Slots.{Slot, slot_at, slot_listed, AreSlots}
 

@@ -1,8 +1,6 @@
 //! The sealed chunks of one stream, each where it stands: in the blocks of memory, in flight to the store, or stored.
 #![tactic(auto)]
 
-mod held;
-mod same;
 mod sealed_chunks;
 mod uploads;
 

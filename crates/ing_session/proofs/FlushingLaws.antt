@@ -15,7 +15,7 @@ use Rattle.ing_store.specs.declared.fault.StoreFault.TheVariants as faults
 use Rattle.ing_store.specs.StoreFaults.{IsCounted}
 use Rattle.ing_codec.specs.ChunkObjects.{chunk_text}
 use Rattle.sha2.specs.Sha256.{sha256}
-use Rattle.ing_shard.specs.declared.due.Op.{Op}
+use Rattle.ing_shard.specs.declared.sealing.Op.{Op}
 use Rattle.ing_shard.specs.Flights.{Flown, key_in, object_in}
 use Rattle.ing_session.proofs.CausesLaws.{one_failure}
 use Rattle.ing_session.specs.Causes.{HaveCause}

@@ -17,7 +17,7 @@ use Rattle.ing_rows.specs.Turns.{accepted_among}
 use Rattle.ing_limits.specs.Settings.{StoreSettings}
 use Rattle.ing_tally.specs.declared.counts.Counts.{Counts}
 use Rattle.ing_limits.specs.Ranges.{rules_for}
-use Rattle.ing_shard.specs.declared.due.Op.{Op}
+use Rattle.ing_shard.specs.declared.sealing.Op.{Op}
 use Rattle.ing_shard.specs.Contents.{stream_of, stored_count, listed_after}
 use Rattle.ing_shard.specs.Sealing.{ops_from}
 use Rattle.ing_node.specs.declared.report.ShardReport.{ShardReport}

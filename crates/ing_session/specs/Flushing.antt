@@ -5,7 +5,7 @@ use Rattle.ing_codec.specs.ChunkObjects.{chunk_text}
 use Rattle.ing_rows.specs.declared.rules.Rules.{Rules}
 use Rattle.ing_rows.specs.Rows.{StreamKey, State, IsSame}
 use Rattle.ing_rows.specs.Events.{Event, Reply, Claim, Finish, GiveBack, Claimed, NothingToClaim, Finished, GivenBack, Step, Run}
-use Rattle.ing_shard.specs.declared.due.Op.{Op}
+use Rattle.ing_shard.specs.declared.sealing.Op.{Op}
 use Rattle.ing_shard.specs.Flights.{Flown, key_in, object_in}
 
 -- What became of an operation: no chunk of its stream waited any more; or the oldest that waited was claimed, and its upload

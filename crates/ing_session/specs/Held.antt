@@ -1,7 +1,7 @@
 -- What a shard that nobody shares holds between one line and the next.
 use Rattle.std.specs.Prelude.{◌≡◌, ℕ, List, []}
 use Rattle.ing_rows.specs.Rows.{StreamKey, State, empty_state}
-use Rattle.ing_shard.specs.declared.due.Op.{Op}
+use Rattle.ing_shard.specs.declared.sealing.Op.{Op}
 use Rattle.ing_shard.specs.Contents.{Stands}
 use Rattle.ing_store.specs.declared.store_end.Receipt.{Ghosts}
 use Rattle.ing_session.specs.declared.one_shard.OneShard.{OneShard}

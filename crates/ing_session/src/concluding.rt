@@ -5,7 +5,7 @@ ghost use Rattle.ing_session.specs.Endings.{ending_text, status_of};
 ghost use Rattle.ing_session.specs.Fronts.{AppendsFront};
 
 use crate::ending::Ending;
-use crate::output::{put, put_out};
+use crate::transport::{put, put_out};
 use std::io;
 use std::io::Write;
 

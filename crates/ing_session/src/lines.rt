@@ -1,12 +1,8 @@
 //! Reading an input line by line, with a bound on what is kept of a line.
-ghost use Rattle.std.specs.Prelude.{◌≡◌, ◌≢◌, ◌*◌, ◌^◌, ◌<◌, ◌≤◌, [], true, false, Bool, List, ℕ, vec_len, IfOk, IfErr, OnOk, IsErrOf};
+ghost use Rattle.std.specs.Prelude.{◌≡◌, ◌≢◌, ◌*◌, ◌^◌, ◌<◌, ◌≤◌, [], true, false, Bool, List, ℕ, vec_len, IfOk, IfErr, OnOk, IsErrOf, ◌+◌, ◌++◌, ◌∷◌, length, take, drop, MatchOption, ◌==◌, if◌then◌else◌};
+ghost use Rattle.ing_session.specs.Parts.{HasNoFeed, Holds};
 
-mod laws;
-mod parts;
-
-pub use laws::lines_end_at_line_feeds;
-pub(crate) use parts::found;
-use parts::{add, at_end, feed_at};
+use memchr::memchr;
 use std::alloc::{AllocError, Global};
 use std::io::{ErrorKind, Read};
 
@@ -226,5 +222,54 @@ impl Lines {
                 Ok(Part::Open(long))
             }
         }
+    }
+}
+
+/// Where the first line feed stands.
+fn feed_at(bytes: &[u8]) -> Option<usize>
+    ensures { MatchOption result (HasNoFeed bytes.now) (λ index. (index < length bytes.now)
+        × HasNoFeed (take index bytes.now)
+        × (bytes.now ≡ take index bytes.now ++ 10 ∷ drop (index + 1) bytes.now)) }
+{
+    memchr(b'\n', bytes)
+}
+
+/// Adds a part to a line, or drops the line where it is too long. Gives whether it is.
+fn add(line: &mut Vec<u8>, too_long: bool, part: &[u8]) -> Result<bool, AllocError>
+    requires { vec_len line.old ≤ MAX_LINE }
+    ensures holds { IfOk result (λ long. (taken : List ℕ) → Holds too_long line.old.items taken
+        → Holds long line.new.items (taken ++ part.now)) }
+    ensures short { vec_len line.new ≤ MAX_LINE }
+{
+    if too_long || part.len() > MAX_LINE - line.len() {
+        line.clear();
+        return Ok(true);
+    }
+    line.extend_from_slice(part)?;
+    Ok(false)
+}
+
+/// What a line is that a line feed ended.
+pub(crate) fn found(too_long: bool) -> NextLine
+    ensures { result ≡ (if too_long then NextLine.TooLong else NextLine.Line) }
+{
+    if too_long {
+        NextLine::TooLong
+    } else {
+        NextLine::Line
+    }
+}
+
+/// What the end of the input makes of a line.
+fn at_end(line: &[u8], too_long: bool) -> NextLine
+    ensures { result ≡ (if too_long then NextLine.TooLong
+        else (if length line.now == 0 then NextLine.End else NextLine.Line)) }
+{
+    if too_long {
+        NextLine::TooLong
+    } else if line.is_empty() {
+        NextLine::End
+    } else {
+        NextLine::Line
     }
 }

@@ -16,14 +16,14 @@ use crate::answer::{answer, refuse_long};
 use crate::ending::Ending;
 use crate::lines::{Lines, MAX_LINE, NextLine, Part, found};
 use crate::one_shard::OneShard;
-use crate::output::put_out;
 use crate::reply::{Reply, add_line};
 use crate::service::Service;
 use ing_commands::Flush;
 use ing_limits::Settings;
 use ing_store::StoreEnd;
 use std::alloc::{AllocError, Global};
-use std::io::{Read, Write};
+use std::io;
+use std::io::{Error, ErrorKind, Read, Write};
 
 /// How many bytes of replies are enough to be written out, though a further line is at hand.
 const ENOUGH: usize = 65_536;
@@ -410,4 +410,40 @@ fn write_out<W: Write>(writer: &mut W, replies: &mut Vec<u8>) -> Result<(), Endi
         }
         Err(_) => Err(Ending::OutputFault),
     }
+}
+
+/// Writes bytes, and flushes the writer. After an error a front of them is written, and nothing else. Takes no memory.
+pub(crate) fn put_out<W: Write>(writer: &mut W, bytes: &[u8]) -> io::Result<()>
+    ensures whole { OnOk result
+        (Appends (W.contents writer.old) (W.contents writer.new) bytes.now) }
+    ensures front { OnErr result
+        (AppendsFront (W.contents writer.old) (W.contents writer.new) bytes.now) }
+{
+    put(writer, bytes)?;
+    writer.flush()
+}
+
+/// Writes bytes. A write that a signal interrupted is tried again. After an error a front of them is written, and nothing
+/// else. Takes no memory.
+///
+/// The error of the writer, or `WriteZero` where it takes no byte. (Own.)
+pub(crate) fn put<W: Write>(writer: &mut W, bytes: &[u8]) -> io::Result<()>
+    ensures whole { OnOk result
+        (Appends (W.contents writer.old) (W.contents writer.new) bytes.now) }
+    ensures front { OnErr result
+        (AppendsFront (W.contents writer.old) (W.contents writer.new) bytes.now) }
+{
+    let mut rest = bytes;
+    for _ in 0..u64::MAX {
+        if rest.is_empty() {
+            return Ok(());
+        }
+        match writer.write(rest) {
+            Ok(0) => return Err(Error::from(ErrorKind::WriteZero)),
+            Ok(count) => rest = &rest[count..],
+            Err(error) if error.kind() == ErrorKind::Interrupted => {}
+            Err(error) => return Err(error),
+        }
+    }
+    Err(Error::from(ErrorKind::Interrupted))
 }

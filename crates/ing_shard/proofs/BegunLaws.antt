@@ -17,8 +17,9 @@ use Rattle.ing_shard.specs.Contents.{chunks_flying}
 use Rattle.ing_shard.specs.Flights.{AreApart, flights_in}
 use Rattle.ing_shard.specs.Recovered.{counts_with}
 use Rattle.ing_shard.specs.declared.streams.Streams.{Streams}
-use Rattle.ing_shard.specs.declared.tenants.TenantKept.{TenantKept}
-use Rattle.ing_shard.specs.Tenants.{Fits, IsWithin, changed, find_of, is_known, kept_of, listed_as, nothing_kept, posted_of}
+use Rattle.ing_rows.specs.declared.gauges.Gauges.{Gauges}
+use Rattle.ing_shard.specs.Tenants.{find_of, is_known, kept_of, listed_as, posted_of}
+use Rattle.ing_rows.specs.Gauges.{HaveRoom, AreWithin, with_changed, no_gauges}
 use Rattle.ing_shard.specs.Streams.{AreDistinct, AreHeld, IsKept, counted_by, counts_of, entries_flying, key_of, listed_of, measure_of, measures_of, position_of, slots_of}
 use Rattle.ing_shard.proofs.BookLaws.{few_stored}
 use Rattle.ing_shard.proofs.ChangeLaws.{begun_fits}
@@ -47,30 +48,26 @@ without_entries st =
       chunks = record { memory = record { next = 0; waiting = []; growing = None }; sealed = [] };
     }
 
-begun_nothing : (st : Stream) → measure_of (without_entries st) ≡ nothing_kept
+begun_nothing : (st : Stream) → measure_of (without_entries st) ≡ no_gauges
 begun_nothing st = measures_nothing (without_entries st) refl
 
 -- those of its tenant have what it adds
 measures_with : (t : List ℕ) (sts : List Stream) (st : Stream)
-    → measures_of t (sts ++ st ∷ []) ≡ cond (bytes_eq st.tenant t) (changed (measures_of st.tenant sts) nothing_kept (measure_of st)) (measures_of t sts)
+    → measures_of t (sts ++ st ∷ []) ≡ cond (bytes_eq st.tenant t) (with_changed (measures_of st.tenant sts) no_gauges (measure_of st)) (measures_of t sts)
 measures_with t sts st =
     let before = without_entries st in
     let none = begun_nothing st in
     measures_changed sts before st [] refl t
-    ∙ (λ i. cond (bytes_eq st.tenant t) (changed (sym (measures_more st.tenant sts before none) i) (none i) (measure_of st)) (sym (measures_more t sts before none) i))
+    ∙ (λ i. cond (bytes_eq st.tenant t) (with_changed (sym (measures_more st.tenant sts before none) i) (none i) (measure_of st)) (sym (measures_more t sts before none) i))
 
 -- nothing is within any sums
-pub nothing_within : (sums : TenantKept) → IsWithin nothing_kept sums
+pub nothing_within : (sums : Gauges) → AreWithin no_gauges sums
 nothing_within sums = record {
-  live = omega arith;
-  head_entries = omega arith;
-  head_bytes = omega arith;
-  block_entries = omega arith;
-  block_bytes = omega arith;
-  flight_entries = omega arith;
-  flight_bytes = omega arith;
-  stored_entries = omega arith;
-  stored_bytes = omega arith;
+  streams = omega arith;
+  head = record { entries = omega arith; bytes = omega arith };
+  block = record { entries = omega arith; bytes = omega arith };
+  flight = record { entries = omega arith; bytes = omega arith };
+  stored = record { entries = omega arith; bytes = omega arith };
 }
 
 -- ---- flights
@@ -84,23 +81,23 @@ apart_with taken sts st landed apart f =
     omega (arith, none, all, is)
 
 -- what was accepted is all that the books count of it, where none of it is stored
-pub counts_accepted : (st : Stream) (n : ℕ) (count : Count) → st.chunks.memory.next ≡ n → (measure_of st).stored_entries ≡ 0 → counts_with st count ≡ with_accepted n count
+pub counts_accepted : (st : Stream) (n : ℕ) (count : Count) → st.chunks.memory.next ≡ n → (measure_of st).stored.entries ≡ 0 → counts_with st count ≡ with_accepted n count
 counts_accepted st n count next none =
-    let stored : count.stored + (measure_of st).stored_entries ≡ count.stored = omega (arith, none) in
+    let stored : count.stored + (measure_of st).stored.entries ≡ count.stored = omega (arith, none) in
     λ i. record count { accepted = count.accepted + next i; stored = stored i }
 
 module _ {R : Type 0} (old : Streams R) (st : Stream) (held : AreHeld old) where
   -- its tenant's sums can be kept with what it adds
-  pub fits_with : IsKept st → old.entries + st.chunks.memory.next ≤ 2 ^ 62 → Fits (changed (kept_of old.tenants st.tenant) nothing_kept (measure_of st))
+  pub fits_with : IsKept st → old.entries + st.chunks.memory.next ≤ 2 ^ 62 → HaveRoom (with_changed (kept_of old.tenants st.tenant) no_gauges (measure_of st))
   fits_with kept few =
-      subst (λ none. Fits (changed (kept_of old.tenants st.tenant) none (measure_of st))) (begun_nothing st)
+      subst (λ none. HaveRoom (with_changed (kept_of old.tenants st.tenant) none (measure_of st))) (begun_nothing st)
       (begun_fits old (without_entries st) st held refl refl refl kept few)
 
   -- no more are stored with it than there are entries
-  pub stored_with : IsKept st → old.stored + (measure_of st).stored_entries ≤ old.entries + st.chunks.memory.next
+  pub stored_with : IsKept st → old.stored + (measure_of st).stored.entries ≤ old.entries + st.chunks.memory.next
   stored_with kept =
       let all = few_stored old held in
-      let own : (measure_of st).stored_entries ≤ st.chunks.memory.next * 1 = entries_small st (λ r. bytes_eq r.stream.tenant st.tenant && is_stored r.place) kept in
+      let own : (measure_of st).stored.entries ≤ st.chunks.memory.next * 1 = entries_small st (λ r. bytes_eq r.stream.tenant st.tenant && is_stored r.place) kept in
       omega (arith, all, own)
 
   -- ---- what the books count
@@ -112,7 +109,7 @@ module _ {R : Type 0} (old : Streams R) (st : Stream) (held : AreHeld old) where
       omega (arith, all, none)
 
   pub counts_listed : (entries stored : ℕ) (news : List Stream) → news ≡ old.list.items ++ st ∷ [] → flights_of st.chunks.sealed ≡ []
-      → entries ≡ old.entries + st.chunks.memory.next → stored ≡ old.stored + (measure_of st).stored_entries
+      → entries ≡ old.entries + st.chunks.memory.next → stored ≡ old.stored + (measure_of st).stored.entries
       → counted_by entries stored (map slots_of news) ≡ counts_with st (counts_of old)
   counts_listed entries stored news is landed more more_stored =
       let chunks = ap (λ l. chunks_flying (map slots_of l)) is ∙ slots_with (λ slots. length (flights_of slots)) (ap length landed) in
@@ -128,9 +125,9 @@ module _ {R : Type 0} (old : Streams R) (st : Stream) (held : AreHeld old) where
       → IsLabelSet st.labels
       → is_known new.tenants st.tenant ≡ true
       → ((t : List ℕ) → is_known old.tenants t ≡ true → is_known new.tenants t ≡ true)
-      → ((t : List ℕ) → kept_of new.tenants t ≡ cond (bytes_eq st.tenant t) (changed (kept_of old.tenants st.tenant) nothing_kept (measure_of st)) (kept_of old.tenants t))
+      → ((t : List ℕ) → kept_of new.tenants t ≡ cond (bytes_eq st.tenant t) (with_changed (kept_of old.tenants st.tenant) no_gauges (measure_of st)) (kept_of old.tenants t))
       → new.entries ≡ old.entries + st.chunks.memory.next
-      → new.stored ≡ old.stored + (measure_of st).stored_entries
+      → new.stored ≡ old.stored + (measure_of st).stored.entries
       → new.active ≡ old.active + 1
       → new.entries ≤ 2 ^ 62 → old.active < 2 ^ 32 - 1 → new.flights ≡ old.flights → flights_of st.chunks.sealed ≡ [] → AreHeld new
   held_with new is kept some absent find posted label_set known stay sums entries stored active few room taken landed =
@@ -143,7 +140,7 @@ module _ {R : Type 0} (old : Streams R) (st : Stream) (held : AreHeld old) where
       let all_stored = held.stored in
       let all_active = held.active in
       let more_entries = sum_by_push (λ (o : Stream). o.chunks.memory.next) sts st in
-      let more_stored = sum_by_push (λ (o : Stream). (measure_of o).stored_entries) sts st in
+      let more_stored = sum_by_push (λ (o : Stream). (measure_of o).stored.entries) sts st in
       let more_begun : ◌≡◌ {A = ℕ} (length (filter begun (sts ++ st ∷ []))) (1 + length (filter begun sts)) =
       count_split begun sts st [] ∙ (λ i. cond (lt-ltb 0 st.chunks.memory.next some i) 1 0 + length (filter begun (append-nil sts i))) in
       record {
@@ -153,9 +150,9 @@ module _ {R : Type 0} (old : Streams R) (st : Stream) (held : AreHeld old) where
         known = subst (All Known) (sym is) (All-push Known sts st (All-weaker (λ (o : Stream). is_known old.tenants o.tenant ≡ true) Known (λ o. stay o.tenant) sts held.known) known);
         labelled = subst (All Labelled) (sym is) (All-push Labelled sts st held.labelled label_set);
         posted = λ t. posted t ∙ ap (λ l. cond (bytes_eq st.tenant t) (l ++ listed_as (length sts) st.labels ∷ []) l) (held.posted t) ∙ sym (listed_more t sts st) ∙ ap (listed_of t) (sym is);
-        sums = λ t. sums t ∙ (λ i. cond (bytes_eq st.tenant t) (changed (held.sums st.tenant i) nothing_kept (measure_of st)) (held.sums t i)) ∙ sym (measures_with t sts st) ∙ ap (measures_of t) (sym is);
+        sums = λ t. sums t ∙ (λ i. cond (bytes_eq st.tenant t) (with_changed (held.sums st.tenant i) no_gauges (measure_of st)) (held.sums t i)) ∙ sym (measures_with t sts st) ∙ ap (measures_of t) (sym is);
         entries = subst (λ l. new.entries ≡ sum_by (λ o. o.chunks.memory.next) l) (sym is) (omega (arith, entries, all, more_entries));
-        stored = subst (λ l. new.stored ≡ sum_by (λ o. (measure_of o).stored_entries) l) (sym is) (omega (arith, stored, all_stored, more_stored));
+        stored = subst (λ l. new.stored ≡ sum_by (λ o. (measure_of o).stored.entries) l) (sym is) (omega (arith, stored, all_stored, more_stored));
         active = subst (λ l. new.active ≡ length (filter begun l)) (sym is) (omega (arith, active, all_active, more_begun));
         few = few;
         most = omega (arith, active, room);

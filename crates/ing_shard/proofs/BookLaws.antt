@@ -18,7 +18,7 @@ use Rattle.ing_sealed.proofs.JoinLaws.{some_block}
 use Rattle.ing_shard.specs.Books.{BookStates, Count, lent, raised, told_by, with_accepted, with_flown, with_stored}
 use Rattle.ing_shard.specs.Contents.{BooksCount, Contents, chunks_flying, flying_count, stored_count}
 use Rattle.ing_shard.specs.declared.streams.Streams.{Streams}
-use Rattle.ing_shard.specs.declared.tenants.TenantKept.{TenantKept}
+use Rattle.ing_rows.specs.declared.gauges.Gauges.{Gauges}
 use Rattle.ing_shard.specs.Streams.{AreHeld, IsKept, counted_by, counts_of, entries_flying, key_of, measure_of, part_of, slots_of, whole}
 use Rattle.ing_shard.proofs.ChangeLaws.{Around, stored_of, written_in}
 use Rattle.ing_shard.proofs.CountLaws.{filter_short, own_rows, rows_total, stored_total}
@@ -49,7 +49,7 @@ sum_around g front st back =
     sum_mapped g (front ++ st ∷ back) ∙ sum_by-append (λ (o : Stream). g (slots_of o)) front (st ∷ back)
     ∙ ap (λ n. sum_by (λ o. g (slots_of o)) front + n) (sum_by-cons (λ (o : Stream). g (slots_of o)) st back)
 
-module _ {R : Type 0} (old : Streams R) {i : ℕ} {st : Stream} (now : Stream) {m : TenantKept} (split : Around old.list.items i st) (is : m ≡ measure_of st) (stored : ℕ) (total : stored + m.stored_entries ≡ old.stored + (measure_of now).stored_entries) where
+module _ {R : Type 0} (old : Streams R) {i : ℕ} {st : Stream} (now : Stream) {m : Gauges} (split : Around old.list.items i st) (is : m ≡ measure_of st) (stored : ℕ) (total : stored + m.stored.entries ≡ old.stored + (measure_of now).stored.entries) where
   abbrev counts_now : Count
   counts_now = counted_by old.entries stored (map slots_of (set old.list.items i now))
 
@@ -62,7 +62,7 @@ module _ {R : Type 0} (old : Streams R) {i : ℕ} {st : Stream} (now : Stream) {
 
   stored_by : stored + stored_in (slots_of st) ≡ old.stored + stored_in (slots_of now)
   stored_by =
-      let was = ap (λ k. k.stored_entries) is ∙ stored_of st in
+      let was = ap (λ k. k.stored.entries) is ∙ stored_of st in
       let after = stored_of now in
       omega (arith, total, was, after)
 
@@ -111,7 +111,7 @@ module _ {R : Type 0} (old : Streams R) {i : ℕ} {st : Stream} (now : Stream) {
 
 -- ---- the rows
 
-flying_of : (st : Stream) → (measure_of st).flight_entries ≡ flying_in st.chunks.sealed
+flying_of : (st : Stream) → (measure_of st).flight.entries ≡ flying_in st.chunks.sealed
 flying_of st = ap (λ g. g.entries) (gauge_claimed is_in_flight refl refl (key_of st) st.chunks.memory st.chunks.sealed)
 
 -- how many rows are in flight

@@ -9,7 +9,8 @@ use Rattle.ing_shard.specs.OneStream.{Stream}
 use Rattle.ing_shard.specs.Flights.{AreApart}
 use Rattle.ing_shard.specs.declared.streams.Streams.{Streams}
 use Rattle.ing_shard.specs.Streams.{key_of, part_of, position_of, AreDistinct, IsKept, AreHeld, Stays, measure_of, measures_of}
-use Rattle.ing_shard.specs.Tenants.{Fits, IsWithin, changed, find_of, is_known, kept_of, posted_of}
+use Rattle.ing_shard.specs.Tenants.{find_of, is_known, kept_of, posted_of}
+use Rattle.ing_rows.specs.Gauges.{HaveRoom, AreWithin, with_changed}
 use Rattle.ing_shard.proofs.CountLaws.{middle, replaced, sum_split}
 use Rattle.ing_shard.proofs.HeldLaws.{apart_kept, held_changed, measures_more, measures_nothing}
 use Rattle.ing_shard.proofs.PositionLaws.{position_splits, splits_read}
@@ -18,10 +19,10 @@ use Rattle.ing_shard.proofs.TakeLaws.{sums_fit, changed_own}
 use Rattle.ing_shard.proofs.WholeLaws.{AreOthers}
 
 -- what is stored of a stream is told by the chunks that were claimed
-pub stored_of : (st : Stream) → (measure_of st).stored_entries ≡ (gauge_at is_stored st.chunks.sealed).entries
+pub stored_of : (st : Stream) → (measure_of st).stored.entries ≡ (gauge_at is_stored st.chunks.sealed).entries
 stored_of st = ap (λ g. g.entries) (gauge_claimed is_stored refl refl (key_of st) st.chunks.memory st.chunks.sealed)
 
-pub stored_same : (st now : Stream) → now.chunks.sealed ≡ st.chunks.sealed → (measure_of now).stored_entries ≡ (measure_of st).stored_entries
+pub stored_same : (st now : Stream) → now.chunks.sealed ≡ st.chunks.sealed → (measure_of now).stored.entries ≡ (measure_of st).stored.entries
 stored_same st now same = stored_of now ∙ ap (λ xs. (gauge_at is_stored xs).entries) same ∙ sym (stored_of st)
 
 -- the list around a stream that is read there
@@ -81,16 +82,16 @@ module _ {R : Type 0} (old : Streams R) {i : ℕ} {st : Stream} (held : AreHeld 
   pub known_here : is_known old.tenants st.tenant ≡ true
   known_here = middle (λ (o : Stream). is_known old.tenants o.tenant ≡ true) split.front st split.back (subst (All (λ (o : Stream). is_known old.tenants o.tenant ≡ true)) split.is held.known)
 
-  pub within_here : IsWithin (measure_of st) (kept_of old.tenants st.tenant)
-  within_here = subst (IsWithin (measure_of st)) (sym sums_here) (within split.front st split.back)
+  pub within_here : AreWithin (measure_of st) (kept_of old.tenants st.tenant)
+  within_here = subst (AreWithin (measure_of st)) (sym sums_here) (within split.front st split.back)
 
   pub all_entries : ◌≡◌ {A = ℕ} old.entries (st.chunks.memory.next + sum_by (λ (o : Stream). o.chunks.memory.next) (split.front ++ split.back))
   all_entries = held.entries ∙ ap (sum_by (λ o. o.chunks.memory.next)) split.is ∙ sum_split (λ o. o.chunks.memory.next) split.front st split.back
 
-  pub fits_here : (now : Stream) → IsKept now → now.tenant ≡ st.tenant → old.entries + now.chunks.memory.next ≤ 2 ^ 62 + st.chunks.memory.next → Fits (changed (kept_of old.tenants st.tenant) (measure_of st) (measure_of now))
+  pub fits_here : (now : Stream) → IsKept now → now.tenant ≡ st.tenant → old.entries + now.chunks.memory.next ≤ 2 ^ 62 + st.chunks.memory.next → HaveRoom (with_changed (kept_of old.tenants st.tenant) (measure_of st) (measure_of now))
   fits_here now kept tenant few =
       let before = all_entries in
-      subst Fits (sym (ap (λ k. changed k (measure_of st) (measure_of now)) sums_here ∙ sym (changed_own split.front st now split.back tenant)))
+      subst HaveRoom (sym (ap (λ k. with_changed k (measure_of st) (measure_of now)) sums_here ∙ sym (changed_own split.front st now split.back tenant)))
       (sums_fit st.tenant (split.front ++ now ∷ split.back) (replaced IsKept split.front st now split.back all_kept kept)
       (omega (arith, few, before, sum_split (λ (o : Stream). o.chunks.memory.next) split.front now split.back)))
 
@@ -99,8 +100,8 @@ module _ {R : Type 0} (old : Streams R) {i : ℕ} {st : Stream} (held : AreHeld 
       → ((t n : List ℕ) → find_of new.tenants t n ≡ find_of old.tenants t n)
       → ((t : List ℕ) → posted_of new.tenants t ≡ posted_of old.tenants t)
       → ((t : List ℕ) → is_known new.tenants t ≡ is_known old.tenants t)
-      → ((t : List ℕ) → kept_of new.tenants t ≡ cond (bytes_eq st.tenant t) (changed (kept_of old.tenants st.tenant) (measure_of st) (measure_of now)) (kept_of old.tenants t))
-      → new.entries ≡ old.entries → new.stored + (measure_of st).stored_entries ≡ old.stored + (measure_of now).stored_entries → new.active ≡ old.active
+      → ((t : List ℕ) → kept_of new.tenants t ≡ cond (bytes_eq st.tenant t) (with_changed (kept_of old.tenants st.tenant) (measure_of st) (measure_of now)) (kept_of old.tenants t))
+      → new.entries ≡ old.entries → new.stored + (measure_of st).stored.entries ≡ old.stored + (measure_of now).stored.entries → new.active ≡ old.active
       → AreApart new.flights (split.front ++ now ∷ split.back) → AreHeld new
   stays_here new now is stays find posted known sums entries stored active apart =
       let next = stays.next in
@@ -110,7 +111,7 @@ module _ {R : Type 0} (old : Streams R) {i : ℕ} {st : Stream} (held : AreHeld 
       (omega (arith, entries, next)) stored (λ i. active i + cond (nat_lt 0 (sym next i)) 1 0) (omega (arith, entries, few)) (omega (arith, active, most)) apart
 
   -- and they can be
-  pub stays_fits : (now : Stream) → Stays st now → Fits (changed (kept_of old.tenants st.tenant) (measure_of st) (measure_of now))
+  pub stays_fits : (now : Stream) → Stays st now → HaveRoom (with_changed (kept_of old.tenants st.tenant) (measure_of st) (measure_of now))
   stays_fits now stays =
       let next = stays.next in
       let few = held.few in
@@ -125,16 +126,16 @@ module _ {R : Type 0} (old : Streams R) (st now : Stream) (held : AreHeld old) (
   abbrev items : List Stream
   items = old.list.items
 
-  begun_sums : changed (kept_of old.tenants st.tenant) (measure_of st) (measure_of now) ≡ measures_of st.tenant (items ++ now ∷ [])
+  begun_sums : with_changed (kept_of old.tenants st.tenant) (measure_of st) (measure_of now) ≡ measures_of st.tenant (items ++ now ∷ [])
   begun_sums =
-      ap (λ k. changed k (measure_of st) (measure_of now)) (held.sums st.tenant ∙ measures_more st.tenant items st (measures_nothing st none))
+      ap (λ k. with_changed k (measure_of st) (measure_of now)) (held.sums st.tenant ∙ measures_more st.tenant items st (measures_nothing st none))
       ∙ sym (changed_own items st now [] tenant)
 
-  pub begun_fits : IsKept now → old.entries + now.chunks.memory.next ≤ 2 ^ 62 → Fits (changed (kept_of old.tenants st.tenant) (measure_of st) (measure_of now))
+  pub begun_fits : IsKept now → old.entries + now.chunks.memory.next ≤ 2 ^ 62 → HaveRoom (with_changed (kept_of old.tenants st.tenant) (measure_of st) (measure_of now))
   begun_fits kept few =
       let before = held.entries in
       let after : ◌≡◌ {A = ℕ} (sum_by (λ (o : Stream). o.chunks.memory.next) (items ++ now ∷ [])) (sum_by (λ o. o.chunks.memory.next) (items ++ []) + now.chunks.memory.next) =
       sum_split (λ (o : Stream). o.chunks.memory.next) items now [] ∙ omega arith in
       let all = ap (sum_by (λ (o : Stream). o.chunks.memory.next)) (append-nil items) in
-      subst Fits (sym begun_sums)
+      subst HaveRoom (sym begun_sums)
       (sums_fit st.tenant (items ++ now ∷ []) (All-push IsKept items now held.kept kept) (omega (arith, before, after, all, few)))

@@ -167,10 +167,10 @@ bytes_total at g is t sts =
     tenant_sum t (λ r. at r.place) (λ r. size_of r.entry) g sts (λ st. ap (sum_by (λ r. size_of r.entry)) (sym (own_rows st (λ r. at r.place))) ∙ sym (is st))
 
 -- how many entries are stored
-pub stored_total : (sts : List Stream) → stored_count (whole sts).rows ≡ sum_by (λ st. (measure_of st).stored_entries) sts
+pub stored_total : (sts : List Stream) → stored_count (whole sts).rows ≡ sum_by (λ st. (measure_of st).stored.entries) sts
 stored_total [] = refl
 stored_total (st ∷ sts) =
     ap length (filter-append (λ (r : Row). is_stored r.place) (part_of st).rows (whole sts).rows)
     ∙ length-append (filter (λ (r : Row). is_stored r.place) (part_of st).rows) (filter (λ (r : Row). is_stored r.place) (whole sts).rows)
     ∙ (λ i. length (sym (own_rows st (λ r. is_stored r.place)) i) + stored_total sts i)
-    ∙ sym (sum_by-cons (λ (o : Stream). (measure_of o).stored_entries) st sts)
+    ∙ sym (sum_by-cons (λ (o : Stream). (measure_of o).stored.entries) st sts)

@@ -13,9 +13,10 @@ use Rattle.ing_rows.specs.declared.place.Place.TheVariants.{Flight}
 use Rattle.ing_sealed.specs.Slots.{slot_at}
 use Rattle.ing_shard.specs.Flights.{AreApart, Flown, IsAt, flights_among, flights_in, key_in}
 use Rattle.ing_shard.specs.declared.streams.Streams.{Streams}
-use Rattle.ing_shard.specs.declared.tenants.TenantKept.{TenantKept}
+use Rattle.ing_rows.specs.declared.gauges.Gauges.{Gauges}
 use Rattle.ing_shard.specs.Streams.{key_of, slots_of, whole, AreHeld, CanSettle, FliesAt, Stays, measure_of}
-use Rattle.ing_shard.specs.Tenants.{Fits, IsWithin, changed, find_of, is_known, kept_of, posted_of}
+use Rattle.ing_shard.specs.Tenants.{find_of, is_known, kept_of, posted_of}
+use Rattle.ing_rows.specs.Gauges.{HaveRoom, AreWithin, with_changed}
 use Rattle.ing_labels.specs.Canonical.{canonical_of}
 use Rattle.ing_shard.proofs.ChangeLaws.{Around, all_entries, around, known_here, stays_fits, stays_here, within_here, written_in}
 use Rattle.ing_shard.proofs.CountLaws.{filter_short, rows_total, stored_total, sum_split, map_same}
@@ -25,11 +26,11 @@ use Rattle.ing_shard.proofs.TakeLaws.{entries_small}
 pub same_name : (st now : Stream) → Stays st now → key_of now ≡ key_of st
 same_name st now stays = λ i. record { tenant = stays.tenant i; name = canonical_of (stays.labels i) }
 
-module _ {R : Type 0} (old : Streams R) {i : ℕ} {st now : Stream} {m : TenantKept} (held : AreHeld old) (split : Around old.list.items i st) (stays : Stays st now) (is : m ≡ measure_of st) where
-  all_stored : ◌≡◌ {A = ℕ} old.stored ((measure_of st).stored_entries + sum_by (λ o. (measure_of o).stored_entries) (split.front ++ split.back))
-  all_stored = held.stored ∙ ap (sum_by (λ o. (measure_of o).stored_entries)) split.is ∙ sum_split (λ o. (measure_of o).stored_entries) split.front st split.back
+module _ {R : Type 0} (old : Streams R) {i : ℕ} {st now : Stream} {m : Gauges} (held : AreHeld old) (split : Around old.list.items i st) (stays : Stays st now) (is : m ≡ measure_of st) where
+  all_stored : ◌≡◌ {A = ℕ} old.stored ((measure_of st).stored.entries + sum_by (λ o. (measure_of o).stored.entries) (split.front ++ split.back))
+  all_stored = held.stored ∙ ap (sum_by (λ o. (measure_of o).stored.entries)) split.is ∙ sum_split (λ o. (measure_of o).stored.entries) split.front st split.back
 
-  few_stored : old.stored + (measure_of now).stored_entries < 2 ^ 64
+  few_stored : old.stored + (measure_of now).stored.entries < 2 ^ 64
   few_stored =
       let stored = held.stored ∙ sym (stored_total old.list.items) in
       let short = filter_short (λ r. is_stored r.place) (whole old.list.items).rows in
@@ -43,13 +44,13 @@ module _ {R : Type 0} (old : Streams R) {i : ℕ} {st now : Stream} {m : TenantK
   pub can_settle : CanSettle old.tenants old.stored now m
   can_settle =
       let all = all_stored in
-      let same = ap (λ k. k.stored_entries) is in
+      let same = ap (λ k. k.stored.entries) is in
       record {
         known = ap (is_known old.tenants) stays.tenant ∙ known_here old held split;
-        before = subst (λ k. IsWithin k (kept_of old.tenants now.tenant)) (sym is)
-            (subst (λ t. IsWithin (measure_of st) (kept_of old.tenants t)) (sym stays.tenant) (within_here old held split));
-        after = subst (λ k. Fits (changed (kept_of old.tenants now.tenant) k (measure_of now))) (sym is)
-            (subst (λ t. Fits (changed (kept_of old.tenants t) (measure_of st) (measure_of now))) (sym stays.tenant) (stays_fits old held split now stays));
+        before = subst (λ k. AreWithin k (kept_of old.tenants now.tenant)) (sym is)
+            (subst (λ t. AreWithin (measure_of st) (kept_of old.tenants t)) (sym stays.tenant) (within_here old held split));
+        after = subst (λ k. HaveRoom (with_changed (kept_of old.tenants now.tenant) k (measure_of now))) (sym is)
+            (subst (λ t. HaveRoom (with_changed (kept_of old.tenants t) (measure_of st) (measure_of now))) (sym stays.tenant) (stays_fits old held split now stays));
         stored = omega (arith, all, same);
         few = few_stored;
       }
@@ -58,13 +59,13 @@ module _ {R : Type 0} (old : Streams R) {i : ℕ} {st now : Stream} {m : TenantK
       → ((t n : List ℕ) → find_of tenants t n ≡ find_of old.tenants t n)
       → ((t : List ℕ) → posted_of tenants t ≡ posted_of old.tenants t)
       → ((t : List ℕ) → is_known tenants t ≡ is_known old.tenants t)
-      → ((t : List ℕ) → kept_of tenants t ≡ cond (bytes_eq now.tenant t) (changed (kept_of old.tenants now.tenant) m (measure_of now)) (kept_of old.tenants t))
-      → stored + m.stored_entries ≡ old.stored + (measure_of now).stored_entries
+      → ((t : List ℕ) → kept_of tenants t ≡ cond (bytes_eq now.tenant t) (with_changed (kept_of old.tenants now.tenant) m (measure_of now)) (kept_of old.tenants t))
+      → stored + m.stored.entries ≡ old.stored + (measure_of now).stored.entries
       → AreApart flights (split.front ++ now ∷ split.back) → AreHeld (record old { list = with_item old.list i now; tenants = tenants; stored = stored; flights = flights })
   settled tenants stored flights find posted known sums total apart =
       stays_here old held split (record old { list = with_item old.list i now; tenants = tenants; stored = stored; flights = flights }) now (written_in split now) stays find posted known
-      (λ t. sums t ∙ (λ j. cond (bytes_eq (stays.tenant j) t) (changed (kept_of old.tenants (stays.tenant j)) (is j) (measure_of now)) (kept_of old.tenants t)))
-      refl (ap (λ k. stored + k.stored_entries) (sym is) ∙ total) refl apart
+      (λ t. sums t ∙ (λ j. cond (bytes_eq (stays.tenant j) t) (with_changed (kept_of old.tenants (stays.tenant j)) (is j) (measure_of now)) (kept_of old.tenants t)))
+      refl (ap (λ k. stored + k.stored.entries) (sym is) ∙ total) refl apart
 
   pub settled_keys : map key_of (set old.list.items i now) ≡ map key_of old.list.items
   settled_keys = ap (map key_of) (written_in split now) ∙ map_same key_of split.front st now split.back (same_name st now stays) ∙ ap (map key_of) (sym split.is)

@@ -10,8 +10,9 @@ use Rattle.ing_stream.specs.Contents.{flights_of}
 use Rattle.ing_shard.specs.OneStream.{Stream}
 use Rattle.ing_shard.specs.Flights.{AreApart, flights_among, flights_in}
 use Rattle.ing_shard.specs.declared.streams.Streams.{Streams}
-use Rattle.ing_shard.specs.declared.tenants.TenantKept.{TenantKept}
-use Rattle.ing_shard.specs.Tenants.{find_of, is_known, kept_of, changed, nothing_kept, posted_of}
+use Rattle.ing_rows.specs.declared.gauges.Gauges.{Gauges}
+use Rattle.ing_shard.specs.Tenants.{find_of, is_known, kept_of, posted_of}
+use Rattle.ing_rows.specs.Gauges.{with_changed, no_gauges}
 use Rattle.ing_shard.specs.Streams.{key_of, part_of, whole, IsKept, AreDistinct, AreHeld, listed_of, position_of, measure_in, measure_of, measures_of, sum_of}
 use Rattle.ing_shard.proofs.ListedLaws.{listed_same}
 use Rattle.ing_shard.proofs.PositionLaws.{position_same, distinct_same}
@@ -24,30 +25,26 @@ pub whole_more : (sts : List Stream) (st : Stream) → part_of st ≡ empty_stat
 whole_more [] st none = ap (λ p. beside p empty_state) none
 whole_more (f ∷ sts) st none = ap (beside (part_of f)) (whole_more sts st none)
 
-pub measures_nothing : (st : Stream) → part_of st ≡ empty_state → measure_of st ≡ nothing_kept
+pub measures_nothing : (st : Stream) → part_of st ≡ empty_state → measure_of st ≡ no_gauges
 measures_nothing st none = ap (λ (p : State). measure_in p.rows st.tenant) none
 
 none_more : (b : Bool) (n r : ℕ) → n ≡ 0 → r ≡ cond b n 0 + r
 none_more true n r none = omega (arith, none)
 none_more false n r none = omega arith
 
-sum_more : (f : TenantKept → ℕ) (t : List ℕ) (sts : List Stream) (st : Stream) → f (measure_of st) ≡ 0 → sum_of f t sts ≡ sum_of f t (sts ++ st ∷ [])
+sum_more : (f : Gauges → ℕ) (t : List ℕ) (sts : List Stream) (st : Stream) → f (measure_of st) ≡ 0 → sum_of f t sts ≡ sum_of f t (sts ++ st ∷ [])
 sum_more f t sts st none =
     none_more (bytes_eq st.tenant t) (f (measure_of st)) (sum_of f t sts) none
     ∙ ap (λ l. cond (bytes_eq st.tenant t) (f (measure_of st)) 0 + sum_of f t l) (sym (append-nil sts))
     ∙ sym (chosen_split (λ o. bytes_eq o.tenant t) (λ o. f (measure_of o)) sts st [])
 
-pub measures_more : (t : List ℕ) (sts : List Stream) (st : Stream) → measure_of st ≡ nothing_kept → measures_of t sts ≡ measures_of t (sts ++ st ∷ [])
+pub measures_more : (t : List ℕ) (sts : List Stream) (st : Stream) → measure_of st ≡ no_gauges → measures_of t sts ≡ measures_of t (sts ++ st ∷ [])
 measures_more t sts st none = λ i. record {
-  live = sum_more (λ k. k.live) t sts st (ap (λ k. k.live) none) i;
-  head_entries = sum_more (λ k. k.head_entries) t sts st (ap (λ k. k.head_entries) none) i;
-  head_bytes = sum_more (λ k. k.head_bytes) t sts st (ap (λ k. k.head_bytes) none) i;
-  block_entries = sum_more (λ k. k.block_entries) t sts st (ap (λ k. k.block_entries) none) i;
-  block_bytes = sum_more (λ k. k.block_bytes) t sts st (ap (λ k. k.block_bytes) none) i;
-  flight_entries = sum_more (λ k. k.flight_entries) t sts st (ap (λ k. k.flight_entries) none) i;
-  flight_bytes = sum_more (λ k. k.flight_bytes) t sts st (ap (λ k. k.flight_bytes) none) i;
-  stored_entries = sum_more (λ k. k.stored_entries) t sts st (ap (λ k. k.stored_entries) none) i;
-  stored_bytes = sum_more (λ k. k.stored_bytes) t sts st (ap (λ k. k.stored_bytes) none) i;
+  streams = sum_more (λ k. k.streams) t sts st (ap (λ k. k.streams) none) i;
+  head = record { entries = sum_more (λ k. k.head.entries) t sts st (ap (λ k. k.head.entries) none) i; bytes = sum_more (λ k. k.head.bytes) t sts st (ap (λ k. k.head.bytes) none) i };
+  block = record { entries = sum_more (λ k. k.block.entries) t sts st (ap (λ k. k.block.entries) none) i; bytes = sum_more (λ k. k.block.bytes) t sts st (ap (λ k. k.block.bytes) none) i };
+  flight = record { entries = sum_more (λ k. k.flight.entries) t sts st (ap (λ k. k.flight.entries) none) i; bytes = sum_more (λ k. k.flight.bytes) t sts st (ap (λ k. k.flight.bytes) none) i };
+  stored = record { entries = sum_more (λ k. k.stored.entries) t sts st (ap (λ k. k.stored.entries) none) i; bytes = sum_more (λ k. k.stored.bytes) t sts st (ap (λ k. k.stored.bytes) none) i };
 }
 
 -- ---- a stream has changed
@@ -66,9 +63,9 @@ pub held_changed : {R : Type 0} (old new : Streams R) (front : List Stream) (st 
     → ((t n : List ℕ) → find_of new.tenants t n ≡ find_of old.tenants t n)
     → ((t : List ℕ) → posted_of new.tenants t ≡ posted_of old.tenants t)
     → ((t : List ℕ) → is_known new.tenants t ≡ is_known old.tenants t)
-    → ((t : List ℕ) → kept_of new.tenants t ≡ cond (bytes_eq st.tenant t) (changed (kept_of old.tenants st.tenant) (measure_of st) (measure_of now)) (kept_of old.tenants t))
+    → ((t : List ℕ) → kept_of new.tenants t ≡ cond (bytes_eq st.tenant t) (with_changed (kept_of old.tenants st.tenant) (measure_of st) (measure_of now)) (kept_of old.tenants t))
     → new.entries + st.chunks.memory.next ≡ old.entries + now.chunks.memory.next
-    → new.stored + (measure_of st).stored_entries ≡ old.stored + (measure_of now).stored_entries
+    → new.stored + (measure_of st).stored.entries ≡ old.stored + (measure_of now).stored.entries
     → new.active + cond (nat_lt 0 st.chunks.memory.next) 1 0 ≡ old.active + cond (nat_lt 0 now.chunks.memory.next) 1 0
     → new.entries ≤ 2 ^ 62 → new.active ≤ 2 ^ 32 - 1 → AreApart new.flights (front ++ now ∷ back) → AreHeld new
 held_changed old new front st now back held was is kept tenant labels find posted known sums entries stored active few most apart =
@@ -82,9 +79,9 @@ held_changed old new front st now back held was is kept tenant labels find poste
     let before = held.entries ∙ ap (sum_by (λ o. o.chunks.memory.next)) was ∙ sum_split (λ o. o.chunks.memory.next) front st back in
     let after = sum_split (λ o. o.chunks.memory.next) front now back in
     omega (arith, before, after, entries) in
-    let stored_sum : ◌≡◌ {A = ℕ} new.stored (sum_by (λ o. (measure_of o).stored_entries) (front ++ now ∷ back)) =
-    let before = held.stored ∙ ap (sum_by (λ o. (measure_of o).stored_entries)) was ∙ sum_split (λ o. (measure_of o).stored_entries) front st back in
-    let after = sum_split (λ o. (measure_of o).stored_entries) front now back in
+    let stored_sum : ◌≡◌ {A = ℕ} new.stored (sum_by (λ o. (measure_of o).stored.entries) (front ++ now ∷ back)) =
+    let before = held.stored ∙ ap (sum_by (λ o. (measure_of o).stored.entries)) was ∙ sum_split (λ o. (measure_of o).stored.entries) front st back in
+    let after = sum_split (λ o. (measure_of o).stored.entries) front now back in
     omega (arith, before, after, stored) in
     let counted : ◌≡◌ {A = ℕ} new.active (length (filter (λ o. nat_lt 0 o.chunks.memory.next) (front ++ now ∷ back))) =
     let before = held.active ∙ ap (λ l. length (filter (λ o. nat_lt 0 o.chunks.memory.next) l)) was ∙ count_split (λ o. nat_lt 0 o.chunks.memory.next) front st back in
@@ -98,10 +95,10 @@ held_changed old new front st now back held was is kept tenant labels find poste
       labelled = subst (All Labelled) (sym is) (replaced Labelled front st now back labelled_before (subst IsLabelSet (sym labels) (middle Labelled front st back labelled_before)));
       posted = λ t. posted t ∙ held.posted t ∙ ap (listed_of t) was ∙ sym (listed_same t front st now back tenant labels) ∙ ap (listed_of t) (sym is);
       sums = λ t. sums t
-          ∙ (λ i. cond (bytes_eq st.tenant t) (changed ((held.sums st.tenant ∙ ap (measures_of st.tenant) was) i) (measure_of st) (measure_of now)) ((held.sums t ∙ ap (measures_of t) was) i))
+          ∙ (λ i. cond (bytes_eq st.tenant t) (with_changed ((held.sums st.tenant ∙ ap (measures_of st.tenant) was) i) (measure_of st) (measure_of now)) ((held.sums t ∙ ap (measures_of t) was) i))
           ∙ sym (measures_changed front st now back tenant t) ∙ ap (measures_of t) (sym is);
       entries = next_sum ∙ ap (sum_by (λ o. o.chunks.memory.next)) (sym is);
-      stored = stored_sum ∙ ap (sum_by (λ o. (measure_of o).stored_entries)) (sym is);
+      stored = stored_sum ∙ ap (sum_by (λ o. (measure_of o).stored.entries)) (sym is);
       active = counted ∙ ap (λ l. length (filter (λ o. nat_lt 0 o.chunks.memory.next) l)) (sym is);
       few = few;
       most = most;

@@ -5,7 +5,7 @@ use Rattle.std.proofs.lemmas.List.{map-append}
 use Rattle.std.proofs.lemmas.List.Elements.{All-cons, All-head, All-nil, All-tail, All-weaker, filter-append}
 use Rattle.ing_labels.specs.Labels.{IsLabelSet}
 use Rattle.ing_labels.specs.Selectors.{Match, selects}
-use Rattle.ing_postings.specs.declared.listed.Listed.{Listed}
+use Rattle.ing_postings.specs.declared.postings.Listed.{Listed}
 use Rattle.ing_postings.specs.Streams.{numbers_of, selected}
 use Rattle.ing_rows.specs.Rows.{StreamKey}
 use Rattle.ing_shard.specs.OneStream.{Stream}

@@ -85,7 +85,7 @@ chosen true false s ss g st sts one rest = let sum = sum_by-cons g st sts in ome
 chosen false q s ss g st sts one rest = rest
 
 -- how many of a tenant's streams are live
-pub live_total : (t : List ℕ) (sts : List Stream) → AreDistinct sts → length (live_streams (whole sts).rows t) ≡ sum_of (λ k. k.live) t sts
+pub live_total : (t : List ℕ) (sts : List Stream) → AreDistinct sts → length (live_streams (whole sts).rows t) ≡ sum_of (λ k. k.streams) t sts
 live_total t [] distinct = refl
 live_total t (st ∷ sts) distinct =
     let s = key_of st in
@@ -94,7 +94,7 @@ live_total t (st ∷ sts) distinct =
     ∙ ap length (streams_front (is_live t) s (part_of st).rows rest (all_rows s (λ r. r.stream ≡ s) (λ first block place e. refl) st.chunks)
     (none_has s rest (All-filter (is_live t) (λ (r : Row). same_stream r.stream s ≡ false) (whole sts).rows (others_rows s sts distinct.0))))
     ∙ ap (λ b. length (front b s (streams_of rest))) (live_any t st)
-    ∙ chosen (bytes_eq st.tenant t) (has_live st) s (streams_of rest) (λ o. (measure_of o).live) st (filter (λ o. bytes_eq o.tenant t) sts) refl (live_total t sts distinct.1)
+    ∙ chosen (bytes_eq st.tenant t) (has_live st) s (streams_of rest) (λ o. (measure_of o).streams) st (filter (λ o. bytes_eq o.tenant t) sts) refl (live_total t sts distinct.1)
 
 -- ---- by counts
 

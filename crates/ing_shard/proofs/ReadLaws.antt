@@ -9,7 +9,7 @@ use Rattle.ing_rows.specs.Facts.{facts_of}
 use Rattle.ing_rows.specs.Sound.{IsSound}
 use Rattle.ing_shard.specs.OneStream.{Stream}
 use Rattle.ing_shard.specs.declared.streams.Streams.{Streams}
-use Rattle.ing_shard.specs.declared.tenants.TenantKept.{TenantKept}
+use Rattle.ing_rows.specs.declared.gauges.Gauges.{Gauges}
 use Rattle.ing_shard.specs.Tenants.{kept_of}
 use Rattle.ing_shard.specs.Streams.{key_of, part_of, whole, facts_kept, with_live, IsKept, AreHeld, measure_of, sum_of}
 use Rattle.ing_shard.proofs.CountLaws.{bytes_total, entries_total, filter_eq, filter_false, middle, reordered, rows_total, stored_total, streams_total}
@@ -17,16 +17,6 @@ use Rattle.ing_shard.proofs.LiveLaws.{live_total}
 use Rattle.ing_shard.specs.Contents.{stored_count}
 use Rattle.ing_shard.proofs.PositionLaws.{Splits}
 use Rattle.ing_shard.proofs.WholeLaws.{AreOthers, FactsGo, FactsBeside, SoundBeside, whole_front, whole_sound, whole_facts, unlisted_facts, others_rows}
-
--- a tenant's sums as its gauges
-abbrev pub gauges_in : TenantKept → Gauges
-gauges_in kept = record {
-  streams = kept.live;
-  head = record { entries = kept.head_entries; bytes = kept.head_bytes };
-  block = record { entries = kept.block_entries; bytes = kept.block_bytes };
-  flight = record { entries = kept.flight_entries; bytes = kept.flight_bytes };
-  stored = record { entries = kept.stored_entries; bytes = kept.stored_bytes };
-}
 
 abbrev pub CountsStreams : Type 0
 CountsStreams = (st : State) → IsSound st → length (streams_of st.rows) ≡ length (filter (λ r. r.number == 0) st.rows)
@@ -44,10 +34,10 @@ module _ (go : FactsGo) (beside_facts : FactsBeside) (joined : SoundBeside) (fre
   pub sound : IsSound (whole streams.list.items)
   sound = whole_sound joined fresh streams.list.items held.distinct held.kept
 
-  pub live_is : (t : List ℕ) → length (live_streams (whole streams.list.items).rows t) ≡ (kept_of streams.tenants t).live
-  live_is t = live_total t streams.list.items held.distinct ∙ ap (λ k. k.live) (sym (held.sums t))
+  pub live_is : (t : List ℕ) → length (live_streams (whole streams.list.items).rows t) ≡ (kept_of streams.tenants t).streams
+  live_is t = live_total t streams.list.items held.distinct ∙ ap (λ k. k.streams) (sym (held.sums t))
 
-  pub facts_listed : (s : StreamKey) (i : ℕ) (split : Splits s streams.list.items i) → facts_of (whole streams.list.items).rows s ≡ with_live (kept_of streams.tenants s.tenant).live (facts_kept split.st)
+  pub facts_listed : (s : StreamKey) (i : ℕ) (split : Splits s streams.list.items i) → facts_of (whole streams.list.items).rows s ≡ with_live (kept_of streams.tenants s.tenant).streams (facts_kept split.st)
   facts_listed s i split =
       let kept : IsKept split.st = middle IsKept split.front split.st split.back (subst (All IsKept) split.is held.kept) in
       let here : facts_of (whole (split.front ++ split.st ∷ split.back)).rows (key_of split.st) ≡ with_live (length (live_streams (whole (split.front ++ split.st ∷ split.back)).rows split.st.tenant)) (facts_kept split.st) =
@@ -57,7 +47,7 @@ module _ (go : FactsGo) (beside_facts : FactsBeside) (joined : SoundBeside) (fre
       subst (λ k. facts_of (whole streams.list.items).rows k ≡ with_live (length (live_streams (whole streams.list.items).rows k.tenant)) (facts_kept split.st)) split.key there
       ∙ ap (λ n. with_live n (facts_kept split.st)) (live_is s.tenant)
 
-  pub facts_unlisted : (s : StreamKey) → AreOthers s streams.list.items → facts_of (whole streams.list.items).rows s ≡ record { count = 0; greatest = 0; last = None; is_live = false; live = (kept_of streams.tenants s.tenant).live }
+  pub facts_unlisted : (s : StreamKey) → AreOthers s streams.list.items → facts_of (whole streams.list.items).rows s ≡ record { count = 0; greatest = 0; last = None; is_live = false; live = (kept_of streams.tenants s.tenant).streams }
   facts_unlisted s others = unlisted_facts beside_facts s streams.list.items others ∙ ap (λ n. record { count = 0; greatest = 0; last = None; is_live = false; live = n }) (live_is s.tenant)
 
   pub starts_listed : (s : StreamKey) (i : ℕ) (split : Splits s streams.list.items i) → length (chunk_starts s (whole streams.list.items).rows) ≡ length (chunk_starts s (part_of split.st).rows)
@@ -82,17 +72,17 @@ module _ (go : FactsGo) (beside_facts : FactsBeside) (joined : SoundBeside) (fre
 
   -- ---- gauges
 
-  pub gauges_are : (t : List ℕ) → gauges_in (kept_of streams.tenants t) ≡ gauges_of (whole streams.list.items).rows t
+  pub gauges_are : (t : List ℕ) → kept_of streams.tenants t ≡ gauges_of (whole streams.list.items).rows t
   gauges_are t =
       let sts = streams.list.items in
-      let entries : (at : Place → Bool) (f : TenantKept → ℕ) → f (kept_of streams.tenants t) ≡ sum_of f t sts → ((st : Stream) → f (measure_of st) ≡ (gauge_of at (part_of st).rows st.tenant).entries) → f (kept_of streams.tenants t) ≡ (gauge_of at (whole sts).rows t).entries =
+      let entries : (at : Place → Bool) (f : Gauges → ℕ) → f (kept_of streams.tenants t) ≡ sum_of f t sts → ((st : Stream) → f (measure_of st) ≡ (gauge_of at (part_of st).rows st.tenant).entries) → f (kept_of streams.tenants t) ≡ (gauge_of at (whole sts).rows t).entries =
       λ at f sums is. sums ∙ sym (entries_total at (λ st. f (measure_of st)) is t sts) in
-      let bytes : (at : Place → Bool) (f : TenantKept → ℕ) → f (kept_of streams.tenants t) ≡ sum_of f t sts → ((st : Stream) → f (measure_of st) ≡ (gauge_of at (part_of st).rows st.tenant).bytes) → f (kept_of streams.tenants t) ≡ (gauge_of at (whole sts).rows t).bytes =
+      let bytes : (at : Place → Bool) (f : Gauges → ℕ) → f (kept_of streams.tenants t) ≡ sum_of f t sts → ((st : Stream) → f (measure_of st) ≡ (gauge_of at (part_of st).rows st.tenant).bytes) → f (kept_of streams.tenants t) ≡ (gauge_of at (whole sts).rows t).bytes =
       λ at f sums is. sums ∙ sym (bytes_total at (λ st. f (measure_of st)) is t sts) in
       λ i. record {
         streams = sym (live_is t) i;
-        head = record { entries = entries is_head (λ k. k.head_entries) (ap (λ k. k.head_entries) (held.sums t)) (λ st. refl) i; bytes = bytes is_head (λ k. k.head_bytes) (ap (λ k. k.head_bytes) (held.sums t)) (λ st. refl) i };
-        block = record { entries = entries is_block (λ k. k.block_entries) (ap (λ k. k.block_entries) (held.sums t)) (λ st. refl) i; bytes = bytes is_block (λ k. k.block_bytes) (ap (λ k. k.block_bytes) (held.sums t)) (λ st. refl) i };
-        flight = record { entries = entries is_in_flight (λ k. k.flight_entries) (ap (λ k. k.flight_entries) (held.sums t)) (λ st. refl) i; bytes = bytes is_in_flight (λ k. k.flight_bytes) (ap (λ k. k.flight_bytes) (held.sums t)) (λ st. refl) i };
-        stored = record { entries = entries is_stored (λ k. k.stored_entries) (ap (λ k. k.stored_entries) (held.sums t)) (λ st. refl) i; bytes = bytes is_stored (λ k. k.stored_bytes) (ap (λ k. k.stored_bytes) (held.sums t)) (λ st. refl) i };
+        head = record { entries = entries is_head (λ k. k.head.entries) (ap (λ k. k.head.entries) (held.sums t)) (λ st. refl) i; bytes = bytes is_head (λ k. k.head.bytes) (ap (λ k. k.head.bytes) (held.sums t)) (λ st. refl) i };
+        block = record { entries = entries is_block (λ k. k.block.entries) (ap (λ k. k.block.entries) (held.sums t)) (λ st. refl) i; bytes = bytes is_block (λ k. k.block.bytes) (ap (λ k. k.block.bytes) (held.sums t)) (λ st. refl) i };
+        flight = record { entries = entries is_in_flight (λ k. k.flight.entries) (ap (λ k. k.flight.entries) (held.sums t)) (λ st. refl) i; bytes = bytes is_in_flight (λ k. k.flight.bytes) (ap (λ k. k.flight.bytes) (held.sums t)) (λ st. refl) i };
+        stored = record { entries = entries is_stored (λ k. k.stored.entries) (ap (λ k. k.stored.entries) (held.sums t)) (λ st. refl) i; bytes = bytes is_stored (λ k. k.stored.bytes) (ap (λ k. k.stored.bytes) (held.sums t)) (λ st. refl) i };
       }

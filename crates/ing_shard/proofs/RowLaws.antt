@@ -11,7 +11,7 @@ use Rattle.ing_labels.specs.Canonical.{canonical_of}
 use Rattle.ing_labels.specs.Labels.{IsLabelSet}
 use Rattle.ing_labels.specs.Selectors.{Match, selects}
 use Rattle.ing_parts.specs.declared.found.Found.{Found}
-use Rattle.ing_parts.specs.declared.part.Part.{Part}
+use Rattle.ing_parts.specs.declared.snapshot.Part.{Part}
 use Rattle.ing_parts.specs.declared.snapshot.Snapshot.{Snapshot}
 use Rattle.ing_parts.specs.Parts.{HasRows, ListsRows, found_among, found_at, standing}
 use Rattle.ing_rows.specs.Placement.{shard_of}

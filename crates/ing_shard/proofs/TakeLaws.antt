@@ -13,13 +13,14 @@ use Rattle.ing_rows.specs.Events.{is_full}
 use Rattle.ing_rows.specs.Turns.{accepted_among}
 use Rattle.ing_rows.specs.Verdicts.{accepted_number}
 use Rattle.ing_rows.specs.declared.place.Place.{Place}
-use Rattle.ing_shard.specs.declared.tenants.TenantKept.{TenantKept}
+use Rattle.ing_rows.specs.declared.gauges.Gauges.{Gauges}
 use Rattle.ing_rows.specs.Rows.{StreamKey, Row, State, chunk_starts, count_of, streams_of, is_head, is_block, is_in_flight, is_stored}
 use Rattle.slab.specs.Slab.{get}
 use Rattle.ing_shard.specs.OneStream.{Stream}
 use Rattle.ing_shard.specs.Flights.{AreApart, flights_among}
 use Rattle.ing_shard.specs.declared.streams.Streams.{Streams}
-use Rattle.ing_shard.specs.Tenants.{Fits, changed, find_of, is_known, kept_of, posted_of}
+use Rattle.ing_shard.specs.Tenants.{find_of, is_known, kept_of, posted_of}
+use Rattle.ing_rows.specs.Gauges.{HaveRoom, with_changed}
 use Rattle.ing_shard.specs.Streams.{part_of, IsKept, AreDistinct, AreHeld, listed_of, measure_of, measures_of, position_of, sum_of}
 use Rattle.ing_shard.proofs.CountLaws.{filter_short, part_count}
 use Rattle.ing_shard.proofs.SumLaws.{measures_changed, sum_bound}
@@ -28,7 +29,7 @@ any_short : {X : Type 0} (p : X → Bool) (xs : List X) → cond (list_any p xs)
 any_short p [] = omega arith
 any_short p (x ∷ xs) = cond_both {A = ℕ} (list_any p (x ∷ xs)) 1 0 (λ n. n ≤ length (x ∷ xs)) (λ yes. omega arith) (λ no. omega arith)
 
-live_small : (st : Stream) → IsKept st → (measure_of st).live ≤ st.chunks.memory.next * 1
+live_small : (st : Stream) → IsKept st → (measure_of st).streams ≤ st.chunks.memory.next * 1
 live_small st kept =
     let short = any_short (λ (r : Row). not (is_stored r.place)) (part_of st).rows in
     let count = part_count st kept in
@@ -38,29 +39,37 @@ pub entries_small : (st : Stream) (p : Row → Bool) → IsKept st → length (f
 entries_small st p kept = let short = filter_short p (part_of st).rows in let count = part_count st kept in omega (arith, short, count)
 
 -- the sums of a tenant's streams can be kept
-pub sums_fit : (t : List ℕ) (sts : List Stream) → All IsKept sts → sum_by (λ st. st.chunks.memory.next) sts ≤ 2 ^ 62 → Fits (measures_of t sts)
+pub sums_fit : (t : List ℕ) (sts : List Stream) → All IsKept sts → sum_by (λ st. st.chunks.memory.next) sts ≤ 2 ^ 62 → HaveRoom (measures_of t sts)
 sums_fit t sts kept few =
-    let bound : (f : TenantKept → ℕ) (k : ℕ) → ((st : Stream) → IsKept st → f (measure_of st) ≤ st.chunks.memory.next * k) → sum_of f t sts ≤ sum_by (λ st. st.chunks.memory.next) sts * k =
+    let bound : (f : Gauges → ℕ) (k : ℕ) → ((st : Stream) → IsKept st → f (measure_of st) ≤ st.chunks.memory.next * k) → sum_of f t sts ≤ sum_by (λ st. st.chunks.memory.next) sts * k =
     λ f k each. sum_bound f k t sts (All-weaker IsKept (λ st. f (measure_of st) ≤ st.chunks.memory.next * k) each sts kept) in
     let at : (Place → Bool) → Stream → Row → Bool = λ test st r. bytes_eq r.stream.tenant st.tenant && test r.place in
     record {
-      live = let most = bound (λ k. k.live) 1 live_small in omega (arith, most, few);
-      head_entries = let most = bound (λ k. k.head_entries) 1 (λ st. entries_small st (at is_head st)) in omega (arith, most, few);
-      head_bytes = let most = bound (λ k. k.head_bytes) (2 ^ 65) (λ st k. k.small.head) in omega (arith, most, few);
-      block_entries = let most = bound (λ k. k.block_entries) 1 (λ st. entries_small st (at is_block st)) in omega (arith, most, few);
-      block_bytes = let most = bound (λ k. k.block_bytes) (3 * 2 ^ 64) (λ st k. k.small.block) in omega (arith, most, few);
-      flight_entries = let most = bound (λ k. k.flight_entries) 1 (λ st. entries_small st (at is_in_flight st)) in omega (arith, most, few);
-      flight_bytes = let most = bound (λ k. k.flight_bytes) (2 ^ 64) (λ st k. k.small.flight) in omega (arith, most, few);
-      stored_entries = let most = bound (λ k. k.stored_entries) 1 (λ st. entries_small st (at is_stored st)) in omega (arith, most, few);
-      stored_bytes = let most = bound (λ k. k.stored_bytes) (2 ^ 64) (λ st k. k.small.stored) in omega (arith, most, few);
+      streams = let most = bound (λ k. k.streams) 1 live_small in omega (arith, most, few);
+      head = record {
+        entries = let most = bound (λ k. k.head.entries) 1 (λ st. entries_small st (at is_head st)) in omega (arith, most, few);
+        bytes = let most = bound (λ k. k.head.bytes) (2 ^ 65) (λ st k. k.small.head) in omega (arith, most, few);
+      };
+      block = record {
+        entries = let most = bound (λ k. k.block.entries) 1 (λ st. entries_small st (at is_block st)) in omega (arith, most, few);
+        bytes = let most = bound (λ k. k.block.bytes) (3 * 2 ^ 64) (λ st k. k.small.block) in omega (arith, most, few);
+      };
+      flight = record {
+        entries = let most = bound (λ k. k.flight.entries) 1 (λ st. entries_small st (at is_in_flight st)) in omega (arith, most, few);
+        bytes = let most = bound (λ k. k.flight.bytes) (2 ^ 64) (λ st k. k.small.flight) in omega (arith, most, few);
+      };
+      stored = record {
+        entries = let most = bound (λ k. k.stored.entries) 1 (λ st. entries_small st (at is_stored st)) in omega (arith, most, few);
+        bytes = let most = bound (λ k. k.stored.bytes) (2 ^ 64) (λ st k. k.small.stored) in omega (arith, most, few);
+      };
     }
 
 -- the changed sums are those of the changed streams
 pub changed_own : (front : List Stream) (st new : Stream) (back : List Stream) → new.tenant ≡ st.tenant
-    → measures_of st.tenant (front ++ new ∷ back) ≡ changed (measures_of st.tenant (front ++ st ∷ back)) (measure_of st) (measure_of new)
+    → measures_of st.tenant (front ++ new ∷ back) ≡ with_changed (measures_of st.tenant (front ++ st ∷ back)) (measure_of st) (measure_of new)
 changed_own front st new back tenant =
     measures_changed front st new back tenant st.tenant
-    ∙ ap (λ b. cond b (changed (measures_of st.tenant (front ++ st ∷ back)) (measure_of st) (measure_of new)) (measures_of st.tenant (front ++ st ∷ back))) ((bytes_eq-Decides st.tenant st.tenant).1 refl)
+    ∙ ap (λ b. cond b (with_changed (measures_of st.tenant (front ++ st ∷ back)) (measure_of st) (measure_of new)) (measures_of st.tenant (front ++ st ∷ back))) ((bytes_eq-Decides st.tenant st.tenant).1 refl)
 
 -- the same list of streams, where the tenants' streams are found alike
 pub held_found : {R : Type 0} (old new : Streams R) → AreHeld old → new.list.items ≡ old.list.items → ((t n : List ℕ) → find_of new.tenants t n ≡ find_of old.tenants t n)
@@ -79,7 +88,7 @@ held_found old new held is find posted stay kept entries stored active taken =
       posted = λ t. posted t ∙ held.posted t ∙ ap (listed_of t) (sym is);
       sums = λ t. kept t ∙ held.sums t ∙ ap (measures_of t) (sym is);
       entries = entries ∙ held.entries ∙ ap (sum_by (λ st. st.chunks.memory.next)) (sym is);
-      stored = stored ∙ held.stored ∙ ap (sum_by (λ st. (measure_of st).stored_entries)) (sym is);
+      stored = stored ∙ held.stored ∙ ap (sum_by (λ st. (measure_of st).stored.entries)) (sym is);
       active = active ∙ held.active ∙ ap (λ l. length (filter (λ st. nat_lt 0 st.chunks.memory.next) l)) (sym is);
       few = omega (arith, entries, few);
       most = omega (arith, active, most);
@@ -92,9 +101,9 @@ held_same old new held is tenants =
     held_found old new held is (λ t n. ap (λ ts. find_of ts t n) tenants) (λ t. ap (λ ts. posted_of ts t) tenants) (λ t known. ap (λ ts. is_known ts t) tenants ∙ known) (λ t. ap (λ ts. kept_of ts t) tenants)
 
 -- a tenant has no more live streams than all have entries
-pub live_fits : (t : List ℕ) (sts : List Stream) → All IsKept sts → sum_by (λ st. st.chunks.memory.next) sts ≤ 2 ^ 62 → (measures_of t sts).live ≤ 2 ^ 62
+pub live_fits : (t : List ℕ) (sts : List Stream) → All IsKept sts → sum_by (λ st. st.chunks.memory.next) sts ≤ 2 ^ 62 → (measures_of t sts).streams ≤ 2 ^ 62
 live_fits t sts kept few =
-    let live = sum_bound (λ k. k.live) 1 t sts (All-weaker IsKept (λ st. (measure_of st).live ≤ st.chunks.memory.next * 1) live_small sts kept) in
+    let live = sum_bound (λ k. k.streams) 1 t sts (All-weaker IsKept (λ st. (measure_of st).streams ≤ st.chunks.memory.next * 1) live_small sts kept) in
     omega (arith, live, few)
 
 -- those that are accepted are among those that are judged

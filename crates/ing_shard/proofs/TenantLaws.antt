@@ -6,9 +6,10 @@ use Rattle.std.specs.BTreeMap.{get_by_text}
 use Rattle.std.proofs.lemmas.Slice.Eq.{bytes_eq-Decides}
 use Rattle.ing_shard.specs.declared.tenants.TenantStreams.{TenantStreams}
 use Rattle.ing_shard.specs.declared.tenants.Tenants.{Tenants}
-use Rattle.ing_postings.specs.declared.listed.Listed.{Listed}
+use Rattle.ing_postings.specs.declared.postings.Listed.{Listed}
 use Rattle.ing_shard.specs.Names.{find_in}
-use Rattle.ing_shard.specs.Tenants.{find_of, is_known, kept_of, nothing_kept, posted_of}
+use Rattle.ing_shard.specs.Tenants.{find_of, is_known, kept_of, posted_of}
+use Rattle.ing_rows.specs.Gauges.{no_gauges}
 
 -- what holds holds after an error
 pub always_on_err : {T E P : Type 0} (r : Result T E) → P → OnErr r P
@@ -59,7 +60,7 @@ Writes id w old new = (t : List ℕ) → get_by_text new.by_id t ≡ update byte
 
 module _ (id : List ℕ) (w : TenantStreams) (old new : Tenants) (writes : Writes id w old new) where
   pub kept_written : (t : List ℕ) → kept_of new t ≡ cond (bytes_eq id t) w.kept (kept_of old t)
-  kept_written t = ap (λ o. option_map_or (λ s. s.kept) o nothing_kept) (writes t) ∙ cond_map (λ o. option_map_or (λ (s : TenantStreams). s.kept) o nothing_kept) (bytes_eq id t) (Some w) (get_by_text old.by_id t)
+  kept_written t = ap (λ o. option_map_or (λ s. s.kept) o no_gauges) (writes t) ∙ cond_map (λ o. option_map_or (λ (s : TenantStreams). s.kept) o no_gauges) (bytes_eq id t) (Some w) (get_by_text old.by_id t)
 
   find_written : (t n : List ℕ) → find_of new t n ≡ cond (bytes_eq id t) (find_in w.by_name n) (find_of old t n)
   find_written t n =

@@ -4,8 +4,8 @@ use Rattle.ing_refusals.specs.declared.refusal.Refusal.{Refusal}
 use Rattle.ing_refusals.specs.declared.refusal.Refusal.TheVariants as refusal
 use Rattle.ing_tally.specs.Books.{ShareState}
 use Rattle.ing_sealed.specs.declared.uploads.Flushed.{Flushed}
-use Rattle.ing_shard.specs.declared.finish_fault.FinishFault.{FinishFault}
-use Rattle.ing_shard.specs.declared.finish_fault.FinishFault.TheVariants.{NoMemory, Stranger}
+use Rattle.ing_shard.specs.declared.claimed.FinishFault.{FinishFault}
+use Rattle.ing_shard.specs.declared.claimed.FinishFault.TheVariants.{NoMemory, Stranger}
 use Rattle.ing_shard.specs.Flights.{Flown}
 
 -- all that was handed over; it is a stranger only where the chunk does not fly

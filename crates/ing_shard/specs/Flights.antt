@@ -13,7 +13,7 @@ use Rattle.ing_codec.specs.ChunkObjects.{ChunkObject, chunk_text}
 use Rattle.ing_codec.specs.ChunkReading.{chunk_object}
 use Rattle.ing_codec.specs.ObjectNames.{chunk_name, row_name}
 use Rattle.ing_codec.specs.RowObjects.{IsExtentOf, row_object, row_text}
-use Rattle.ing_codec.specs.declared.extent.Extent.{Extent}
+use Rattle.ing_codec.specs.declared.index_row.Extent.{Extent}
 use Rattle.ing_parts.specs.Listings.{Listed}
 use Rattle.ing_sealed.specs.Slots.{Slot, slot_at}
 use Rattle.ing_stream.specs.Contents.{flights_of}

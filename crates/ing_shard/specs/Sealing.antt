@@ -13,7 +13,7 @@ use Rattle.ing_chunk.specs.Chunks.{growing_due}
 use Rattle.ing_logged.specs.LoggedRecords.{StreamSeal}
 use Rattle.ing_replay.specs.Records.{names_of}
 use Rattle.ing_stream.specs.Contents.{StreamContents, named_as}
-use Rattle.ing_shard.specs.declared.due.Op.{Op}
+use Rattle.ing_shard.specs.declared.sealing.Op.{Op}
 use Rattle.ing_shard.specs.declared.sealing.Sealing.{Sealing}
 use Rattle.ing_shard.specs.declared.sealing.Sealing.TheVariants.{Due, Forced}
 use Rattle.ing_shard.specs.OneStream.{Stream}

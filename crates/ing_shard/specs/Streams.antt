@@ -5,11 +5,11 @@ use Rattle.std.specs.Option.{option_map}
 use Rattle.ing_labels.specs.Canonical.{canonical_of}
 use Rattle.ing_labels.specs.Labels.{IsLabelSet}
 use Rattle.ing_limits.specs.Settings.{StoreSettings}
-use Rattle.ing_postings.specs.declared.listed.Listed.{Listed}
+use Rattle.ing_postings.specs.declared.postings.Listed.{Listed}
 use Rattle.ing_rows.specs.declared.entry.Entry.{Entry}
 use Rattle.ing_rows.specs.Rows.{StreamKey, Row, State, empty_state, is_head, is_block, is_in_flight, is_stored, same_stream}
 use Rattle.ing_rows.specs.Facts.{Facts, facts_of}
-use Rattle.ing_rows.specs.Gauges.{gauge_of}
+use Rattle.ing_rows.specs.Gauges.{gauge_of, HaveRoom, AreWithin, with_changed, gauges_by}
 use Rattle.ing_rows.specs.Sound.{IsSound}
 use Rattle.ing_rows.specs.declared.place.Place.TheVariants.{Flight}
 use Rattle.ing_rows.specs.Steps.{Claims}
@@ -22,12 +22,12 @@ use Rattle.ing_shard.specs.Books.{BookStates, Count, told_by}
 use Rattle.ing_shard.specs.Contents.{AreOwn, chunks_flying}
 use Rattle.ing_shard.specs.OneStream.{Stream}
 use Rattle.ing_shard.specs.Flights.{AreApart, Flies, Flown}
-use Rattle.ing_shard.specs.declared.tenants.TenantKept.{TenantKept}
+use Rattle.ing_rows.specs.declared.gauges.Gauges.{Gauges}
 use Rattle.ing_shard.specs.declared.books.Books.{Books}
 use Rattle.ing_shard.specs.declared.streams.Streams.{Streams}
 use Rattle.ing_shard.specs.declared.tenants.Tenants.{Tenants}
 use Rattle.ing_shard.specs.Writable.{AllCanBeWritten}
-use Rattle.ing_shard.specs.Tenants.{Fits, IsWithin, changed, find_of, is_known, kept_by, kept_of, listed_as, posted_of}
+use Rattle.ing_shard.specs.Tenants.{find_of, is_known, kept_of, listed_as, posted_of}
 
 abbrev pub key_of : Stream → StreamKey
 key_of st = record { tenant = st.tenant; name = canonical_of st.labels }
@@ -66,34 +66,26 @@ abbrev pub with_live : ℕ → Facts → Facts
 with_live live facts = record facts { live = live }
 
 -- what rows of a tenant's stream add to the sums over its tenant's
-abbrev pub measure_in : List Row → List ℕ → TenantKept
+abbrev pub measure_in : List Row → List ℕ → Gauges
 measure_in rows tenant =
-    let head = gauge_of is_head rows tenant in
-    let block = gauge_of is_block rows tenant in
-    let flight = gauge_of is_in_flight rows tenant in
-    let stored = gauge_of is_stored rows tenant in
     record {
-      live = if list_any (λ r. not (is_stored r.place)) rows then 1 else 0;
-      head_entries = head.entries;
-      head_bytes = head.bytes;
-      block_entries = block.entries;
-      block_bytes = block.bytes;
-      flight_entries = flight.entries;
-      flight_bytes = flight.bytes;
-      stored_entries = stored.entries;
-      stored_bytes = stored.bytes;
+      streams = if list_any (λ r. not (is_stored r.place)) rows then 1 else 0;
+      head = gauge_of is_head rows tenant;
+      block = gauge_of is_block rows tenant;
+      flight = gauge_of is_in_flight rows tenant;
+      stored = gauge_of is_stored rows tenant;
     }
 
 -- what a stream adds to them
-abbrev pub measure_of : Stream → TenantKept
+abbrev pub measure_of : Stream → Gauges
 measure_of st = measure_in (part_of st).rows st.tenant
 
 -- sums over so many entries, of which no line is longer than memory
-pub record IsSmall (count : ℕ) (sums : TenantKept) : Type 0 where
-  pub head : sums.head_bytes ≤ count * 2 ^ 65
-  pub block : sums.block_bytes ≤ count * (3 * 2 ^ 64)
-  pub flight : sums.flight_bytes ≤ count * 2 ^ 64
-  pub stored : sums.stored_bytes ≤ count * 2 ^ 64
+pub record IsSmall (count : ℕ) (sums : Gauges) : Type 0 where
+  pub head : sums.head.bytes ≤ count * 2 ^ 65
+  pub block : sums.block.bytes ≤ count * (3 * 2 ^ 64)
+  pub flight : sums.flight.bytes ≤ count * 2 ^ 64
+  pub stored : sums.stored.bytes ≤ count * 2 ^ 64
 
 -- it is what its rows give, each of its chunks has one mark, no line is longer than memory, and each chunk in flight has an entry
 pub record IsKept (st : Stream) : Type 0 where
@@ -118,11 +110,11 @@ greatest_with before (e ∷ es) = greatest_with (max e.stamp before) es
 -- ---- sums over streams
 
 -- the sum over a tenant's streams
-abbrev pub sum_of : (TenantKept → ℕ) → List ℕ → List Stream → ℕ
+abbrev pub sum_of : (Gauges → ℕ) → List ℕ → List Stream → ℕ
 sum_of f tenant streams = sum_by (λ st. f (measure_of st)) (filter (λ st. bytes_eq st.tenant tenant) streams)
 
-abbrev pub measures_of : List ℕ → List Stream → TenantKept
-measures_of tenant streams = kept_by (λ f. sum_of f tenant streams)
+abbrev pub measures_of : List ℕ → List Stream → Gauges
+measures_of tenant streams = gauges_by (λ f. sum_of f tenant streams)
 
 -- ---- streams by name
 
@@ -155,7 +147,7 @@ pub record AreHeld {R : Type 0} (streams : Streams R) : Type 0 where
   pub posted : (tenant : List ℕ) → posted_of streams.tenants tenant ≡ listed_of tenant streams.list.items
   pub sums : (tenant : List ℕ) → kept_of streams.tenants tenant ≡ measures_of tenant streams.list.items
   pub entries : streams.entries ≡ sum_by (λ st. st.chunks.memory.next) streams.list.items
-  pub stored : streams.stored ≡ sum_by (λ st. (measure_of st).stored_entries) streams.list.items
+  pub stored : streams.stored ≡ sum_by (λ st. (measure_of st).stored.entries) streams.list.items
   pub active : streams.active ≡ length (filter (λ st. nat_lt 0 st.chunks.memory.next) streams.list.items)
   pub few : streams.entries ≤ 2 ^ 62
   pub most : streams.active ≤ 2 ^ 32 - 1
@@ -176,12 +168,12 @@ abbrev pub OthersStayAmong : ℕ → List Stream → List Stream → Type 0
 OthersStayAmong flight olds news = (f : Flown) → f.flight ≢ flight → FliesAmong f olds → FliesAmong f news
 
 -- what is kept beside the streams can be set right after a flush has changed a stream, which had this measure
-pub record CanSettle (tenants : Tenants) (total : ℕ) (now : Stream) (was : TenantKept) : Type 0 where
+pub record CanSettle (tenants : Tenants) (total : ℕ) (now : Stream) (was : Gauges) : Type 0 where
   pub known : is_known tenants now.tenant ≡ true
-  pub before : IsWithin was (kept_of tenants now.tenant)
-  pub after : Fits (changed (kept_of tenants now.tenant) was (measure_of now))
-  pub stored : was.stored_entries ≤ total
-  pub few : total + (measure_of now).stored_entries < 2 ^ 64
+  pub before : AreWithin was (kept_of tenants now.tenant)
+  pub after : HaveRoom (with_changed (kept_of tenants now.tenant) was (measure_of now))
+  pub stored : was.stored.entries ≤ total
+  pub few : total + (measure_of now).stored.entries < 2 ^ 64
 
 -- of the stream under this number, a chunk was put into this flight
 pub record FliesAt (number f index : ℕ) (chunk : ChunkContents) (olds news : List Stream) : Type 0 where

@@ -197,3 +197,31 @@ impl Ticket {
         upload_row(alloc, end, &claimed.tenant, &claimed.labels, &claimed.chunk)
     }
 }
+
+/// Why a chunk was not listed as stored. All that was handed over comes back. It cannot be dropped: a ticket may be in it.
+pub enum FinishFault<R: Receipt> {
+    /// Memory ran out.
+    NoMemory {
+        /// The ticket.
+        ticket: Ticket,
+        /// The listing and the receipt of the index row.
+        flushed: Flushed<R>,
+    },
+    /// The chunk is not in flight in the shard.
+    Stranger(Stranger<R>),
+}
+
+impl<R: Receipt> FinishFault<R> {
+    ghost use Rattle.std.specs.Prelude.{◌≡◌};
+    ghost use Rattle.ing_shard.specs.FinishFaults.{finish_refusal_of};
+
+    /// Which refusal it is. Takes no memory.
+    pub fn refusal(&self) -> Refusal
+        ensures { result ≡ finish_refusal_of self.now }
+    {
+        match self {
+            FinishFault::NoMemory { .. } => Refusal::NoMemory,
+            FinishFault::Stranger(_) => Refusal::Stranger,
+        }
+    }
+}

@@ -5,36 +5,15 @@ ghost use Rattle.ing_labels.specs.Canonical.{canonical_of};
 ghost use Rattle.ing_labels.specs.Labels.{IsLabelSet};
 ghost use Rattle.ing_postings.specs.Streams.{numbers_of, selected};
 ghost use Rattle.ing_shard.specs.Names.{find_in};
-ghost use Rattle.ing_shard.specs.Tenants.{find_of, kept_of, posted_of, is_known, listed_as, nothing_kept, IsWithin, Fits, changed};
+ghost use Rattle.ing_shard.specs.Tenants.{find_of, kept_of, posted_of, is_known, listed_as};
+ghost use Rattle.ing_rows.specs.Gauges.{no_gauges};
 
 use crate::names::StreamNames;
 use ing_labels::{Labels, Selector};
 use ing_postings::{Postings, StreamNo};
+use ing_rows::Gauges;
 use std::alloc::{AllocError, Global};
 use std::collections::BTreeMap;
-
-/// Sums over the streams of one tenant.
-#[derive(Clone, Copy, Debug, PartialEq, Eq)]
-pub struct TenantKept {
-    /// Streams with an entry that is not stored.
-    pub live: u64,
-    /// Entries in heads.
-    pub head_entries: u64,
-    /// Their sizes in bytes.
-    pub head_bytes: u128,
-    /// Entries in closed blocks.
-    pub block_entries: u64,
-    /// Their sizes in bytes.
-    pub block_bytes: u128,
-    /// Entries in chunks in flight.
-    pub flight_entries: u64,
-    /// Their sizes in bytes.
-    pub flight_bytes: u128,
-    /// Entries in stored chunks.
-    pub stored_entries: u64,
-    /// Their sizes in bytes.
-    pub stored_bytes: u128,
-}
 
 /// One tenant: the number of each of its streams by the canonical name, its streams by their labels, and the
 /// sums over them.
@@ -42,7 +21,7 @@ pub struct TenantKept {
 pub struct TenantStreams {
     pub by_name: StreamNames,
     pub postings: Postings,
-    pub kept: TenantKept,
+    pub kept: Gauges,
 }
 
 /// The tenants of a shard. The map is ordered, so that no choice of tenants makes a look-up slow.
@@ -51,51 +30,17 @@ pub struct Tenants {
     pub by_id: BTreeMap<String, TenantStreams>,
 }
 
-/// Of a tenant without streams.
-pub(crate) const NOTHING: TenantKept = TenantKept {
-    live: 0,
-    head_entries: 0,
-    head_bytes: 0,
-    block_entries: 0,
-    block_bytes: 0,
-    flight_entries: 0,
-    flight_bytes: 0,
-    stored_entries: 0,
-    stored_bytes: 0,
-};
-
-impl TenantKept {
-    /// The sums where one of the streams has changed.
-    pub fn with(self, before: TenantKept, after: TenantKept) -> TenantKept
-        requires before { IsWithin before self }
-        requires after { Fits (changed self before after) }
-        ensures { result ≡ changed self before after }
-    {
-        TenantKept {
-            live: self.live - before.live + after.live,
-            head_entries: self.head_entries - before.head_entries + after.head_entries,
-            head_bytes: self.head_bytes - before.head_bytes + after.head_bytes,
-            block_entries: self.block_entries - before.block_entries + after.block_entries,
-            block_bytes: self.block_bytes - before.block_bytes + after.block_bytes,
-            flight_entries: self.flight_entries - before.flight_entries + after.flight_entries,
-            flight_bytes: self.flight_bytes - before.flight_bytes + after.flight_bytes,
-            stored_entries: self.stored_entries - before.stored_entries + after.stored_entries,
-            stored_bytes: self.stored_bytes - before.stored_bytes + after.stored_bytes,
-        }
-    }
-}
-
 impl TenantStreams {
     /// A tenant without streams.
     fn new(alloc: Global) -> TenantStreams
         ensures names { (n : List ℕ) → find_in result.by_name n ≡ None }
         ensures posted { result.postings ≡ [] }
-        ensures kept { result.kept ≡ nothing_kept }
+        ensures kept { result.kept ≡ no_gauges }
     {
         TenantStreams {
             by_name: StreamNames::new(alloc),
             postings: Postings::new(alloc),
-            kept: NOTHING,
+            kept: Gauges::NONE,
         }
     }
 
@@ -128,7 +73,7 @@ impl Tenants {
     /// No tenant.
     pub fn new(alloc: Global) -> Tenants
         ensures find { (t n : List ℕ) → find_of result t n ≡ None }
-        ensures kept { (t : List ℕ) → kept_of result t ≡ nothing_kept }
+        ensures kept { (t : List ℕ) → kept_of result t ≡ no_gauges }
         ensures posted { (t : List ℕ) → posted_of result t ≡ [] }
     {
         Tenants {
@@ -145,12 +90,12 @@ impl Tenants {
     }
 
     /// The sums over a tenant's streams.
-    pub fn kept(&self, tenant: &str) -> TenantKept
+    pub fn kept(&self, tenant: &str) -> Gauges
         ensures { result ≡ kept_of self.now tenant.now }
     {
         match self.by_id.get(tenant) {
             Some(streams) => streams.kept,
-            None => NOTHING,
+            None => Gauges::NONE,
         }
     }
 
@@ -208,7 +153,7 @@ impl Tenants {
     }
 
     /// The sums over a listed tenant's streams are these now.
-    pub fn keep(&mut self, tenant: &str, kept: TenantKept)
+    pub fn keep(&mut self, tenant: &str, kept: Gauges)
         requires { is_known self.old tenant.now ≡ true }
         ensures find { (t n : List ℕ) → find_of self.new t n ≡ find_of self.old t n }
         ensures known { (t : List ℕ) → is_known self.new t ≡ is_known self.old t }

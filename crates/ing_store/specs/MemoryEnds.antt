@@ -1,8 +1,8 @@
 -- How an end of a store in memory counts its calls, and which of them fail (own).
 use Rattle.std.specs.Prelude.{ℕ, Bool, false, ◌==◌, nat_le, if◌then◌else◌}
 use Rattle.ing_refusals.specs.Failures.{one_more}
-use Rattle.ing_store.specs.declared.fuse.Fuse.{Fuse}
-use Rattle.ing_store.specs.declared.fuse.Fuse.TheVariants as fuse
+use Rattle.ing_store.specs.declared.memory_end.Fuse.{Fuse}
+use Rattle.ing_store.specs.declared.memory_end.Fuse.TheVariants as fuse
 
 -- the calls that it was given and how often it has failed, both up to 2^64-1, and which of the calls fail
 pub record EndState : Type 0 where

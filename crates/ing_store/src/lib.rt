@@ -4,20 +4,16 @@
 
 mod digest_receipt;
 mod fault;
-mod fuse;
 mod meaning;
 mod memory_end;
-mod memory_object;
 mod memory_store;
 mod store_end;
 mod upload;
 
 pub use digest_receipt::DigestReceipt;
 pub use fault::StoreFault;
-pub use fuse::Fuse;
 pub use meaning::Meaning;
-pub use memory_end::MemoryEnd;
-pub use memory_object::{MemoryObject, MemoryReceipt};
-pub use memory_store::MemoryStore;
+pub use memory_end::{Fuse, MemoryEnd};
+pub use memory_store::{MemoryObject, MemoryReceipt, MemoryStore};
 pub use store_end::{Receipt, StoreEnd};
 pub use upload::{Uploaded, put_chunk, put_row};

@@ -1,15 +1,13 @@
-//! An end of a store in memory.
+//! An end of a store in memory, and which of its calls fail.
 ghost use Rattle.std.specs.Prelude.{◌≡◌, ◌≢◌, ◌↔◌, IfOk, IfErr, IsErr, IfSome, true, Err};
 ghost use Rattle.std.specs.Cow.{cow_slice_items};
 ghost use Rattle.ing_store.specs.Digests.{HasDigestOf};
-ghost use Rattle.ing_store.specs.MemoryEnds.{called, is_failing, new_end};
+ghost use Rattle.ing_store.specs.MemoryEnds.{called, is_failing, new_end, fails_at};
 ghost use Rattle.ing_store.specs.StoreFaults.{IsCounted};
 ghost use Rattle.ing_store.specs.StoredObjects.{stored_object};
 
 use crate::fault::StoreFault;
-use crate::fuse::Fuse;
-use crate::memory_object::MemoryReceipt;
-use crate::memory_store::MemoryStore;
+use crate::memory_store::{MemoryReceipt, MemoryStore};
 use crate::store_end::StoreEnd;
 use std::alloc::Global;
 use std::borrow::CowSlice;
@@ -65,7 +63,7 @@ impl<'a, R: Wait> MemoryEnd<'a, R> {
 
 impl<'a, R: Wait> StoreEnd for MemoryEnd<'a, R> {
     ghost use Rattle.std.specs.Prelude.{◌≡◌, ⊤};
-    ghost use Rattle.ing_store.specs.declared.fuse.Fuse.{Fuse};
+    ghost use Rattle.ing_store.specs.declared.memory_end.Fuse.{Fuse};
 
     type Receipt = MemoryReceipt<'a>;
 
@@ -177,5 +175,33 @@ impl<'a, R: Wait> StoreEnd for MemoryEnd<'a, R> {
         };
         let bytes = object.bytes().to_vec(alloc)?;
         Ok(Some((MemoryReceipt { object }, bytes)))
+    }
+}
+
+/// Which calls of an end of a store in memory fail, by their numbers. The calls `put`, `get`, `find` and `found` are
+/// counted together, from 0. (Own.)
+#[derive(Clone, Copy, Debug, PartialEq, Eq)]
+pub enum Fuse {
+    /// None fails.
+    None,
+    /// The call of this number fails, and does nothing.
+    Failed(u64),
+    /// The call of this number fails; where it is a `put`, it stores the object and fails yet.
+    StoredYetFailed(u64),
+    /// The call of this number and each later one fail, and do nothing.
+    FailedFrom(u64),
+}
+
+impl Fuse {
+    /// Whether the call of this number fails. Takes no memory.
+    pub fn fails_at(self, call: u64) -> bool
+        ensures { result ≡ fails_at self call }
+    {
+        match self {
+            Fuse::None => false,
+            Fuse::Failed(k) => call == k,
+            Fuse::StoredYetFailed(k) => call == k,
+            Fuse::FailedFrom(k) => k <= call,
+        }
     }
 }

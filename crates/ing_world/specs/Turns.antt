@@ -7,7 +7,7 @@ use Rattle.ing_codec.specs.ChunkObjects.{chunk_text}
 use Rattle.ing_labels.specs.Canonical.{canonical_of}
 use Rattle.ing_labels.specs.Selectors.{Match}
 use Rattle.ing_parts.specs.declared.found.Found.{Found}
-use Rattle.ing_parts.specs.declared.order.Question.{Question}
+use Rattle.ing_parts.specs.declared.found.Question.{Question}
 use Rattle.ing_parts.specs.Answers.{IsAnswer}
 use Rattle.ing_parts.specs.Parts.{within}
 use Rattle.ing_rows.specs.declared.entry.Entry.{Entry}

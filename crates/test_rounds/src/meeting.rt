@@ -1,4 +1,5 @@
-//! Two flushers whose first puts overlap, and a push that is answered meanwhile: an upload holds no lock.
+//! Two flushers whose first puts overlap, and a push that is answered meanwhile: an upload holds no lock. Then all are given up, and the
+//! close misses them.
 ghost use Rattle.std.specs.Prelude.{◌≡◌, ◌<◌, IfOk, length, reverse, true};
 ghost use Rattle.ing_flush.specs.Tallies.{AreStoredIn};
 ghost use Rattle.ing_node.specs.Earlier.{earlier_of};
@@ -7,9 +8,9 @@ ghost use Rattle.ing_node.specs.Names.{AreNamed};
 use ing_flush::{Flushed, Flusher, Gate, flush_one};
 use ing_labels::{LabelLimits, Labels};
 use ing_limits::Settings;
-use ing_node::{Earlier, Ingester, NodeName, Pusher, Shards};
+use ing_node::{CloseFault, CloseRefusal, Earlier, Ingester, NodeName, Pusher, Shards};
 use ing_rows::{Entry, Line, Stamp, Tenant};
-use ing_shard::Op;
+use ing_shard::{Missing, Op};
 use ing_store::{Fuse, MemoryEnd, MemoryReceipt, MemoryStore, Receipt, StoreEnd};
 use ing_wal::NoLog;
 use std::alloc::Global;
@@ -236,8 +237,31 @@ fn count_met<'a, N: NodeName, W: Wait + Clock>(
     met
 }
 
-/// Pushes to both streams, seals, and lets a flusher for each and the pusher meet. Gives how many of the three have; `None` where
-/// they could not.
+/// Why an ingester is not closed without pushers and tallies; `None` where it is.
+fn refused_close<N: NodeName, R: Receipt, S: StoreEnd<Receipt = R>>(
+    alloc: Global,
+    node: Ingester<N, NoLog, R>,
+    end: &mut S,
+    earlier: Earlier<N>,
+) -> Option<CloseRefusal> {
+    match node.close(alloc, end, earlier, Vec::new(alloc), Vec::new(alloc)) {
+        Ok(_) => None,
+        Err(fault) => {
+            let CloseFault {
+                why,
+                ingester,
+                earlier,
+                pushers,
+                tallies,
+            } = fault;
+            ingester.abandon(earlier, pushers, tallies);
+            Some(why)
+        }
+    }
+}
+
+/// Pushes to both streams, seals, and lets a flusher for each and the pusher meet. Gives how many of the three have, and why the close
+/// without them is refused; `None` where they could not.
 fn meet<'a, N: NodeName + Send + Sync, W: Threads + Wait + Sync + Clock>(
     rt: &'a W,
     alloc: Global,
@@ -246,7 +270,7 @@ fn meet<'a, N: NodeName + Send + Sync, W: Threads + Wait + Sync + Clock>(
     meeting: &'a Meeting,
     tenant: &Tenant,
     streams: &[Labels; 2],
-) -> Option<usize>
+) -> Option<(usize, Option<CloseRefusal>)>
     requires settings { shards.settings ≡ N.settings }
     requires named { AreNamed N.books (reverse shards.last_first.items) }
     requires earlier { N.earlier ≡ earlier_of (reverse shards.last_first.items) }
@@ -262,7 +286,30 @@ fn meet<'a, N: NodeName + Send + Sync, W: Threads + Wait + Sync + Clock>(
             return None;
         }
     };
-    earlier.strand();
+    let Some(actors) = act_on(rt, alloc, &node, count, store, meeting, tenant, streams) else {
+        earlier.strand();
+        return None;
+    };
+    let met = count_met(actors);
+    Some((
+        met,
+        refused_close(alloc, node, &mut store.end(rt, Fuse::None), earlier),
+    ))
+}
+
+/// The three, when they have acted.
+fn act_on<'a, N: NodeName + Send + Sync, W: Threads + Wait + Sync + Clock>(
+    rt: &'a W,
+    alloc: Global,
+    node: &Ingester<N, NoLog, MemoryReceipt<'a>>,
+    shards: u32,
+    store: &'a MemoryStore,
+    meeting: &'a Meeting,
+    tenant: &Tenant,
+    streams: &[Labels; 2],
+) -> Option<Vec<Actor<N, MemoryEnd<'a, W>, MeetingGate<'a, W>>>>
+    requires { shards ≡ N.settings.shards }
+{
     let mut actors = Vec::with_capacity(alloc, 1).ok()?;
     let Ok(pusher) = node.pusher(rt, alloc, false) else {
         actors.destroy_empty();
@@ -273,25 +320,26 @@ fn meet<'a, N: NodeName + Send + Sync, W: Threads + Wait + Sync + Clock>(
         is_answered: false,
     };
     let [first, second] = streams;
-    let pushed = presser.push(rt, alloc, &node, tenant, first, 1).is_some()
-        && presser.push(rt, alloc, &node, tenant, second, 1).is_some();
+    let pushed = presser.push(rt, alloc, node, tenant, first, 1).is_some()
+        && presser.push(rt, alloc, node, tenant, second, 1).is_some();
     actors.push_reserved(Actor::Presses(presser));
-    let added = add_uploaders(rt, alloc, &node, count, store, meeting, &mut actors);
+    let added = add_uploaders(rt, alloc, node, shards, store, meeting, &mut actors);
     if pushed && added.is_some() {
         act_all(
             rt,
             alloc,
-            &node,
+            node,
             actors.as_mut_slice(),
             meeting,
             tenant,
             first,
         );
     }
-    Some(count_met(actors))
+    Some(actors)
 }
 
-/// While two flushers stand before their first put, each with a chunk of the one shard, a push to it is answered.
+/// While two flushers stand before their first put, each with a chunk of the one shard, a push to it is answered. A close without their
+/// shares and the pusher's is refused, and names them.
 #[test]
 fn uploads_hold_no_lock(rt: HostRuntime) -> Result<(), Fail> {
     let alloc = rt.alloc();
@@ -314,6 +362,11 @@ fn uploads_hold_no_lock(rt: HostRuntime) -> Result<(), Fail> {
         return Err("memory".into());
     };
     let met = meet::<Brand, HostRuntime>(&rt, alloc, shards, &store, &meeting, &tenant, &streams);
-    assert_eq!(rt; met, Some(3));
+    let missing = Missing {
+        accepted: 1,
+        flight: 0,
+        stored: 2,
+    };
+    assert_eq!(rt; met, Some((3, Some(CloseRefusal::StillOut(missing)))));
     Ok(())
 }

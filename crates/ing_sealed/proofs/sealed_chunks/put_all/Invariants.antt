@@ -1,7 +1,7 @@
 use Rattle.std.proofs.Common.{◌≡◌, ◌+◌, ◌≤◌, ◌++◌, length, map}
 use Rattle.std.specs.Prelude.{vec_len, vec_capacity}
 use Rattle.std.specs.Vec.Iter.{into_iter_items}
-use Rattle.ing_sealed.specs.declared.held.Held.TheVariants.{Waiting}
+use Rattle.ing_sealed.specs.declared.sealed_chunks.Held.TheVariants.{Waiting}
 use Rattle.ing_sealed.proofs.sealed_chunks.put_all.Given as goal
 
 -- with those that are left they are all, and there is room for them

@@ -2,7 +2,7 @@ use Rattle.std.proofs.Common.{◌≡◌, ◌++◌, ◌∷◌, [], cond, length, 
 use Rattle.std.specs.List.Sorted.{IsStrictlyIncreasing}
 use Rattle.std.proofs.lemmas.List.Elements.{All-push}
 use Rattle.ing_labels.specs.Labels.{IsLabelSet}
-use Rattle.ing_postings.specs.declared.listed.Listed.{Listed}
+use Rattle.ing_postings.specs.declared.postings.Listed.{Listed}
 use Rattle.ing_postings.specs.Streams.{numbers_of, places_of, has_label}
 use Rattle.ing_postings.proofs.Numbers.{rising-push}
 use Rattle.ing_postings.proofs.Places.{places-push}

@@ -3,7 +3,7 @@ use Rattle.std.proofs.lemmas.List.{take_more}
 use Rattle.std.proofs.lemmas.List.{map-append}
 use Rattle.ing_parts.specs.declared.found.Found.{Found}
 use Rattle.ing_parts.specs.Parts.{AddsParts}
-use Rattle.ing_sealed.specs.declared.held.Held.{Held}
+use Rattle.ing_sealed.specs.declared.sealed_chunks.Held.{Held}
 use Rattle.ing_sealed.specs.KeptSlots.{slot_of}
 use Rattle.ing_sealed.specs.Slots.{found_at_slot, found_at_slots}
 use Rattle.ing_sealed.proofs.FoundLaws.{slots_more}
