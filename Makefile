@@ -52,7 +52,7 @@ check:
 	rt all check
 
 test: documents
-	rt ci
+	@scripts/gate.sh
 
 mutants:
 	@mutants/try.sh $(CRATE)
