@@ -11,16 +11,20 @@ ghost use Rattle.ing_session.specs.Views.{reply_data};
 use crate::reply::{Reply, add_line};
 use crate::service::Service;
 use ing_commands::{Command, Flush, LineFault, command_of, read_value};
+use ing_pushes::usual_push;
+use json::Scratch;
 use std::alloc::{AllocError, Global};
 
-/// Answers a line of at most the length that a line may have: puts the reply behind `replies`. It fails only where memory
-/// runs out; then there is no reply, and a part of what the line says may be done.
+/// Answers a line of at most the length that a line may have: puts the reply behind `replies`. `scratch` is room that reading
+/// takes, kept from line to line. It fails only where memory runs out; then there is no reply, and a part of what the line says
+/// may be done.
 pub fn answer<S, C: Service<S>, X: Fn(&mut C, &mut S, Flush) -> Result<Reply, AllocError>>(
     alloc: Global,
     service: &mut C,
     flush: &X,
     end: &mut S,
     line: &[u8],
+    scratch: &mut Scratch,
     replies: &mut Vec<u8>,
 ) -> Result<(), AllocError>
     requires short { is_long line.now ≡ false }
@@ -36,7 +40,7 @@ pub fn answer<S, C: Service<S>, X: Fn(&mut C, &mut S, Flush) -> Result<Reply, Al
     if is_blank(line) {
         return Ok(());
     }
-    let reply = reply_to(alloc, service, flush, end, line)?;
+    let reply = reply_to(alloc, service, flush, end, line, scratch)?;
     add_line(alloc, replies, &reply)
 }
 
@@ -57,6 +61,7 @@ fn reply_to<S, C: Service<S>, X: Fn(&mut C, &mut S, Flush) -> Result<Reply, Allo
     flush: &X,
     end: &mut S,
     line: &[u8],
+    scratch: &mut Scratch,
 ) -> Result<Reply, AllocError>
     requires may_flush { X.IsAlwaysCallable flush.now }
     requires flushes { FlushesSo C.manner C.holds C.settings_of C.failures C.never_fails (X.post flush.now) }
@@ -66,6 +71,10 @@ fn reply_to<S, C: Service<S>, X: Fn(&mut C, &mut S, Flush) -> Result<Reply, Allo
     ensures settings { C.settings_of service.new ≡ C.settings_of service.old }
     ensures end { GoesOn C.never_fails C.failures end.old end.new }
 {
+    // Nearly all lines are pushes in one form, which is read without a copy of its texts.
+    if let Some(push) = usual_push(alloc, line, scratch)? {
+        return service.obey(end, Command::Push(push));
+    }
     let value = match read_value(alloc, line) {
         Ok(value) => value,
         Err(fault) => return fault_reply(fault),

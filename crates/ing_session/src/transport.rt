@@ -21,6 +21,7 @@ use crate::service::Service;
 use ing_commands::Flush;
 use ing_limits::Settings;
 use ing_store::StoreEnd;
+use json::Scratch;
 use std::alloc::{AllocError, Global};
 use std::io;
 use std::io::{Error, ErrorKind, Read, Write};
@@ -248,10 +249,20 @@ fn answer_lines<
     ensures end { GoesOn C.never_fails C.failures end.old end.new }
     ensures ending { IfErr result (λ e. IsTrue (is_of_run e)) }
 {
+    let mut scratch = Scratch::new(alloc);
     let mut line = Vec::new(alloc);
     loop {
         if !serve(
-            alloc, reader, writer, end, lines, &mut line, service, flush, replies,
+            alloc,
+            reader,
+            writer,
+            end,
+            lines,
+            &mut line,
+            &mut scratch,
+            service,
+            flush,
+            replies,
         )? {
             return Ok(());
         }
@@ -272,6 +283,7 @@ fn serve<
     end: &mut S,
     lines: &mut Lines,
     line: &mut Vec<u8>,
+    scratch: &mut Scratch,
     service: &mut C,
     flush: &X,
     replies: &mut Vec<u8>,
@@ -318,7 +330,7 @@ fn serve<
 {
     match next_line(reader, writer, lines, line, replies)? {
         NextLine::Line => {
-            answer(alloc, service, flush, end, line, replies)?;
+            answer(alloc, service, flush, end, line, scratch, replies)?;
             Ok(true)
         }
         NextLine::TooLong => {

@@ -5,6 +5,8 @@
 #[cfg(test)]
 mod labels;
 #[cfg(test)]
+mod pushes;
+#[cfg(test)]
 mod rows;
 #[cfg(test)]
 mod settings;

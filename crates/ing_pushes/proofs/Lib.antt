@@ -1,0 +1,3 @@
+mod Entries
+mod Read
+mod Rising
