@@ -1,4 +1,4 @@
-//! Tests alone: worked values of labels, settings, windows and shard numbers that no case can show. They need no private item, and
+//! Tests alone: worked values of labels, settings, windows and shard numbers, and which pushes are read fast, that no case can show. They need no private item, and
 //! stand in no crate that they test, since a crate with tests is proved twice.
 #![tactic(auto)]
 
