@@ -1,3 +1,4 @@
 mod Entries
+mod Members
 mod Read
 mod Rising

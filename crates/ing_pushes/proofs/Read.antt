@@ -4,10 +4,7 @@ use Rattle.std.specs.Option.{ok_or, option_and_then}
 use Rattle.std.specs.Str.{is_utf8}
 use Rattle.json.specs.Json as json
 use Rattle.json.specs.Lex.{tokens}
-use Rattle.json.specs.Value.{value_view, items_of, items_view, members_view}
-use Rattle.json.specs.declared.value.Value.{Value}
-use Rattle.std.specs.declared.alloc.Global.{Global}
-use Rattle.serde_json.specs.Data.{Data, array, object, Items, Members, no_members, member}
+use Rattle.json.specs.Value.{items_of}
 use Rattle.serde_json.specs.Read.{of_json, read}
 use Rattle.ing_refusals.specs.Results.{◌>>=◌}
 use Rattle.ing_rows.specs.Texts.{is_tenant, stamp_of}
@@ -15,9 +12,8 @@ use Rattle.ing_rows.specs.declared.entry.Entry.{Entry}
 use Rattle.ing_commands.specs.declared.fault.LineFault.TheVariants.{BadCommand}
 use Rattle.ing_commands.specs.Commands.{Push, said_by, command_of}
 use Rattle.ing_commands.specs.PushCommands.{StreamEntries, PushCommand, raw_stream, raw_push}
-use Rattle.ing_pushes.specs.Usual.{AreLabels, HasParts, IsStream, IsPush, push_said}
+use Rattle.ing_pushes.specs.Usual.{AreLabels, HasParts, HasStream, IsStream, IsPush, push_said, stream_said}
 use Rattle.ing_pushes.proofs.Entries.{EntriesRead, StreamsRead}
-use Rattle.ing_pushes.proofs.Rising.{Member}
 
 -- the two values of a list of two
 pub two : {A : Type 0} (xs : List A) (a b : A) → 2 ≤ length xs → length xs < 3 → a ≡ get_or xs 0 a → b ≡ get_or xs 1 b → xs ≡ a ∷ b ∷ []
@@ -27,26 +23,17 @@ two (x ∷ y ∷ []) a b some few first second = rw (first, second) refl
 two (x ∷ y ∷ z ∷ xs) a b some few first second = absurd (omega arith)
 
 -- a stream, by its two members
-abbrev pub stream_json : json.Members → json.Items → json.Json
-stream_json ms vs = json.object (json.member (codes "stream") (json.object ms) (json.member (codes "values") (json.array vs) json.no_members))
-
-abbrev pub stream_said : Members → Items → Data
-stream_said ms vs = object (member (codes "stream") (object ms) (member (codes "values") (array vs) no_members))
-
-pub stream_read : (ms : json.Members) (js : List json.Json) (labels : List (List ℕ × List ℕ)) (es : List Entry) → AreLabels ms labels → EntriesRead js es → IsStream (stream_json ms (items_of js)) (record { labels = labels; entries = es })
+pub stream_read : (ms named : json.Members) (js : List json.Json) (labels : List (List ℕ × List ℕ)) (es : List Entry) → HasStream ms named (items_of js) → AreLabels named labels → EntriesRead js es → IsStream (json.object ms) (record { labels = labels; entries = es })
 unfolding raw_stream
-stream_read ms js labels es named timed = record {
-  said = stream_said named.said timed.said;
+stream_read ms named js labels es parts of_labels timed = record {
+  said = stream_said of_labels.said timed.said;
   raw = record { labels = labels; values = timed.raws };
-  read = rw (named.read, timed.read) refl;
-  shape = rw (named.shape, timed.shape) refl;
+  read = parts of_labels.said timed.said of_labels.read timed.read;
+  shape = rw (of_labels.shape, timed.shape) refl;
   bare = timed.bare;
   timed = timed.timed;
   stream = rw timed.entries refl;
 }
-
-pub stream_seen : (xs : List Member) (a b : Member) (ms : List Member) (vs : List (Value Global)) → xs ≡ a ∷ b ∷ [] → a.0.now ≡ codes "stream" → value_view a.1 ≡ json.object (members_view ms) → b.0.now ≡ codes "values" → value_view b.1 ≡ json.array (items_view vs) → json.object (members_view xs) ≡ stream_json (members_view ms) (items_view vs)
-stream_seen xs a b ms vs is n1 v1 n2 v2 = rw (is, n1, v1, n2, v2) refl
 
 -- a push, by its four members
 pub push_read : (ms : json.Members) (cmd tenant text : List ℕ) (now : ℕ) (js : List json.Json) (ss : List StreamEntries) → HasParts ms cmd tenant text (items_of js) → cmd ≡ codes "push" → is_tenant tenant ≡ true → stamp_of text ≡ Some now → StreamsRead js ss → IsPush (json.object ms) (record { tenant = tenant; now = now; streams = ss })

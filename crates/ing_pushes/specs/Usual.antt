@@ -1,6 +1,9 @@
 -- What the reader of commands makes of a JSON value that has no fault.
-use Rattle.std.specs.Prelude.{◌≡◌, ℕ, List, [], ◌∷◌, codes, Some, false, Ok}
+use Rattle.std.specs.Prelude.{◌≡◌, ℕ, List, [], ◌∷◌, take, drop, codes, Some, false, Ok}
 use Rattle.std.specs.List.{list_any}
+use Rattle.std.specs.declared.cmp.Ordering.TheVariants.{Less}
+use Rattle.std.specs.Ordering.{nat_cmp}
+use Rattle.std.specs.Cmp.Lexicographic.{slice_cmp}
 use Rattle.json.specs.Json as json
 use Rattle.serde_json.specs.Data.{Data, string, array, object, Items, Members, no_members, member}
 use Rattle.serde_json.specs.Read.{of_json, of_items, of_members}
@@ -24,6 +27,26 @@ pub record AreLabels (ms : json.Members) (labels : List (List ℕ × List ℕ)) 
   pub read : of_members ms no_members ≡ Some said
   pub shape : raw_labels said ≡ Ok labels
 
+-- the name lies below each of these
+abbrev pub Under : List ℕ → List (List ℕ × List ℕ) → Type 0
+Under name [] = Unit {0}
+Under name (label ∷ labels) = (slice_cmp nat_cmp name label.0 ≡ Less) × Under name labels
+
+-- each of these lies below the name
+abbrev pub Over : List ℕ → List (List ℕ × List ℕ) → Type 0
+Over name [] = Unit {0}
+Over name (label ∷ labels) = (slice_cmp nat_cmp label.0 name ≡ Less) × Over name labels
+
+-- each name lies below all behind it, in byte order
+abbrev pub Rise : List (List ℕ × List ℕ) → Type 0
+Rise [] = Unit {0}
+Rise (label ∷ labels) = Under label.0 labels × Rise labels
+
+-- a label of this name goes there
+pub record GoesAt (name : List ℕ) (labels : List (List ℕ × List ℕ)) (place : ℕ) : Type 0 where
+  pub over : Over name (take place labels)
+  pub under : Under name (drop place labels)
+
 -- it is a stream with entries
 pub record IsStream (j : json.Json) (s : StreamEntries) : Type 0 where
   pub said : Data
@@ -33,6 +56,16 @@ pub record IsStream (j : json.Json) (s : StreamEntries) : Type 0 where
   pub bare : list_any (λ (v : RawValue). v.has_metadata) raw.values ≡ false
   pub timed : has_bad_value raw ≡ false
   pub stream : entries_of raw ≡ s
+
+-- the members of a stream, in byte order of their names
+abbrev pub stream_said : Members → Items → Data
+stream_said labels values = object (member (codes "stream") (object labels) (member (codes "values") (array values) no_members))
+
+-- the members are these, in either order
+abbrev pub HasStream : json.Members → json.Members → json.Items → Type 0
+HasStream ms labels values =
+    (named : Members) (timed : Items) → of_members labels no_members ≡ Some named → of_items values ≡ Some timed
+    → of_json (json.object ms) ≡ Some (stream_said named timed)
 
 -- the members of a push, in byte order of their names
 abbrev pub push_said : List ℕ → List ℕ → List ℕ → Items → Data

@@ -1,55 +1,70 @@
-//! The members of a push.
-ghost use Rattle.std.specs.Prelude.{◌≡◌, codes, IfSome};
-ghost use Rattle.json.specs.Json as json;
-ghost use Rattle.json.specs.Value.{value_view, items_view, members_view};
-ghost use Rattle.ing_pushes.specs.Usual.{HasParts};
+//! The members of a push and of a stream, in whatever order they stand.
+ghost use Rattle.std.specs.Prelude.{IfSome};
+ghost use Rattle.json.specs.Value.{items_view, members_view};
+ghost use Rattle.ing_pushes.specs.Usual.{HasParts, HasStream};
 
-use crate::shape::{Member, items_named, text_named};
+use crate::shape::{Member, items_in, members_in, text_in};
 use json::Value;
 
 /// What the members of a push are.
 #[derive(Clone, Copy)]
-pub(crate) struct Parts<'v, 'a> {
+pub(crate) struct PushParts<'v, 'a> {
     pub cmd: &'a str,
     pub tenant: &'a str,
     pub now: &'a str,
     pub streams: &'v [Value<'a>],
 }
 
-/// The parts that four members are, in the order in which they are mostly written, or in byte order of their names.
-pub(crate) fn parts_in<'v, 'a>(members: &'v [Member<'a>]) -> Option<Parts<'v, 'a>>
+/// The parts of a push that has these members, where each is there once and no other is.
+pub(crate) fn push_parts<'v, 'a>(members: &'v [Member<'a>]) -> Option<PushParts<'v, 'a>>
     ensures { IfSome result (λ parts. HasParts (members_view members.now)
         parts.cmd.now parts.tenant.now parts.now.now (items_view parts.streams.now)) }
 {
-    let [first, second, third, fourth] = members else {
-        return None;
-    };
-    match parts_of(first, second, third, fourth) {
-        Some(parts) => Some(parts),
-        None => parts_of(first, fourth, second, third),
+    let (mut cmd, mut tenant, mut now, mut streams) = (None, None, None, None);
+    for member in members {
+        match member.0 {
+            "cmd" if cmd.is_none() => cmd = Some(text_in(&member.1)?),
+            "tenant" if tenant.is_none() => tenant = Some(text_in(&member.1)?),
+            "now" if now.is_none() => now = Some(text_in(&member.1)?),
+            "streams" if streams.is_none() => streams = Some(items_in(&member.1)?),
+            _ => return None,
+        }
+    }
+    match (cmd, tenant, now, streams) {
+        (Some(cmd), Some(tenant), Some(now), Some(streams)) => Some(PushParts {
+            cmd,
+            tenant,
+            now,
+            streams,
+        }),
+        _ => None,
     }
 }
 
-/// The parts that these members are.
-fn parts_of<'v, 'a>(
-    cmd: &Member<'a>,
-    tenant: &Member<'a>,
-    now: &Member<'a>,
-    streams: &'v Member<'a>,
-) -> Option<Parts<'v, 'a>>
-    ensures cmd { IfSome result (λ parts. (cmd.now.0.now ≡ codes "cmd")
-        × (value_view cmd.now.1 ≡ json.string parts.cmd.now)) }
-    ensures tenant { IfSome result (λ parts. (tenant.now.0.now ≡ codes "tenant")
-        × (value_view tenant.now.1 ≡ json.string parts.tenant.now)) }
-    ensures now { IfSome result (λ parts. (now.now.0.now ≡ codes "now")
-        × (value_view now.now.1 ≡ json.string parts.now.now)) }
-    ensures streams { IfSome result (λ parts. (streams.now.0.now ≡ codes "streams")
-        × (value_view streams.now.1 ≡ json.array (items_view parts.streams.now))) }
+/// What the members of a stream are.
+#[derive(Clone, Copy)]
+pub(crate) struct StreamParts<'v, 'a> {
+    pub labels: &'v [Member<'a>],
+    pub values: &'v [Value<'a>],
+}
+
+/// The parts of a stream that has these members and no other.
+pub(crate) fn stream_parts<'v, 'a>(members: &'v [Member<'a>]) -> Option<StreamParts<'v, 'a>>
+    ensures { IfSome result (λ parts. HasStream (members_view members.now)
+        (members_view parts.labels.now) (items_view parts.values.now)) }
 {
-    Some(Parts {
-        cmd: text_named(cmd, "cmd")?,
-        tenant: text_named(tenant, "tenant")?,
-        now: text_named(now, "now")?,
-        streams: items_named(streams, "streams")?,
-    })
+    let [first, second] = members else {
+        return None;
+    };
+    match (first.0, second.0) {
+        ("stream", "values") => Some(StreamParts {
+            labels: members_in(&first.1)?,
+            values: items_in(&second.1)?,
+        }),
+        ("values", "stream") => Some(StreamParts {
+            labels: members_in(&second.1)?,
+            values: items_in(&first.1)?,
+        }),
+        _ => None,
+    }
 }

@@ -9,8 +9,8 @@ ghost use Rattle.ing_commands.specs.Views.{push_view, stream_view};
 ghost use Rattle.ing_pushes.specs.Usual.{Each, IsEntry, IsPush, IsStream};
 
 use crate::labels::labels_in;
-use crate::parts::parts_in;
-use crate::shape::{items_named, members_named, texts_in};
+use crate::parts::{push_parts, stream_parts};
+use crate::shape::{members_in, texts_in};
 use ing_commands::{Push, StreamPush};
 use ing_rows::{Entry, Line, RowFault, Stamp, Tenant};
 use json::{Error, Reader, Scratch, Value};
@@ -19,10 +19,10 @@ use std::alloc::{AllocError, Global};
 /// How deep arrays and objects may nest, as in the reader of commands.
 const MAX_DEPTH: usize = 127;
 
-/// The push that a line commands, where nothing in it has a fault and it has these members and no other:
-/// `cmd`, `tenant`, `now` and `streams`, in this order or in byte order; in each stream `stream`, whose names
-/// rise in byte order, and then `values`, each of two elements. `None` says nothing of the line. `scratch` is
-/// room for texts with escapes, kept from line to line.
+/// The push that a line commands, where nothing in it has a fault and it has these members, each once and no
+/// other, in any order: `cmd`, `tenant`, `now` and `streams`; in each stream `stream`, whose labels may stand in any
+/// order that is not far from that of their names, and `values`, each of two elements. `None` says nothing of the
+/// line. `scratch` is room for texts with escapes, kept from line to line.
 ///
 /// `AllocError` only where memory runs out. (Loki documentation: push API; the command's form is own.)
 pub fn usual_push<'a>(
@@ -69,10 +69,10 @@ fn push_in<'a>(alloc: Global, value: &Value<'a>) -> Result<Option<Push<'a>>, All
     ensures { IfOk result (λ found. IfSome found (λ push.
         IsPush (value_view value.now) (push_view push))) }
 {
-    let Value::Object(members) = value else {
+    let Some(members) = members_in(value) else {
         return Ok(None);
     };
-    let Some(parts) = parts_in(members.as_slice()) else {
+    let Some(parts) = push_parts(members) else {
         return Ok(None);
     };
     if parts.cmd != "push" {
@@ -118,22 +118,16 @@ fn stream_in<'a>(alloc: Global, value: &Value<'a>) -> Result<Option<StreamPush<'
     ensures { IfOk result (λ found. IfSome found (λ stream.
         IsStream (value_view value.now) (stream_view stream))) }
 {
-    let Value::Object(members) = value else {
+    let Some(members) = members_in(value) else {
         return Ok(None);
     };
-    let [stream, values] = members.as_slice() else {
+    let Some(parts) = stream_parts(members) else {
         return Ok(None);
     };
-    let (Some(members), Some(values)) = (
-        members_named(stream, "stream"),
-        items_named(values, "values"),
-    ) else {
+    let Some(labels) = labels_in(alloc, parts.labels)? else {
         return Ok(None);
     };
-    let Some(labels) = labels_in(alloc, members)? else {
-        return Ok(None);
-    };
-    let Some(entries) = entries_in(alloc, values)? else {
+    let Some(entries) = entries_in(alloc, parts.values)? else {
         return Ok(None);
     };
     Ok(Some(StreamPush { labels, entries }))

@@ -32,25 +32,27 @@ fn pushes_in_the_usual_form_are_taken(rt: HostRuntime) -> Result<(), Fail> {
             "{ \"cmd\": \"push\", \"tenant\": \"t\", \"now\": \"1\", \"streams\": [] }",
             Some((0, 0)),
         ),
+        // Members and labels in other orders.
         (
-            "{\"cmd\":\"push\",\"now\":\"1\",\"streams\":[],\"tenant\":\"t\"}",
-            Some((0, 0)),
+            "{\"streams\":[{\"values\":[],\"stream\":{\"b\":\"1\",\"c\":\"2\",\"a\":\"3\"}}],\"now\":\"1\",\"tenant\":\"t\",\"cmd\":\"push\"}",
+            Some((1, 0)),
         ),
-        // Another order, a further member, metadata, labels out of order, a stamp that is none, and what is no push.
-        (
-            "{\"cmd\":\"push\",\"now\":\"1\",\"tenant\":\"t\",\"streams\":[]}",
-            None,
-        ),
+        // A further member, one twice and one too few, a name twice, metadata, a stamp that is none, and what is no push.
         (
             "{\"cmd\":\"push\",\"tenant\":\"t\",\"now\":\"1\",\"streams\":[],\"more\":1}",
             None,
         ),
         (
-            "{\"cmd\":\"push\",\"tenant\":\"t\",\"now\":\"1\",\"streams\":[{\"stream\":{\"a\":\"1\"},\"values\":[[\"1\",\"x\",{}]]}]}",
+            "{\"cmd\":\"push\",\"tenant\":\"t\",\"now\":\"1\",\"streams\":[],\"now\":\"2\"}",
+            None,
+        ),
+        ("{\"cmd\":\"push\",\"tenant\":\"t\",\"streams\":[]}", None),
+        (
+            "{\"cmd\":\"push\",\"tenant\":\"t\",\"now\":\"1\",\"streams\":[{\"stream\":{\"a\":\"1\",\"a\":\"2\"},\"values\":[]}]}",
             None,
         ),
         (
-            "{\"cmd\":\"push\",\"tenant\":\"t\",\"now\":\"1\",\"streams\":[{\"stream\":{\"b\":\"1\",\"a\":\"2\"},\"values\":[]}]}",
+            "{\"cmd\":\"push\",\"tenant\":\"t\",\"now\":\"1\",\"streams\":[{\"stream\":{\"a\":\"1\"},\"values\":[[\"1\",\"x\",{}]]}]}",
             None,
         ),
         (
