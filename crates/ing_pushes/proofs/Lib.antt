@@ -1,4 +1,5 @@
 mod Entries
 mod Members
+mod OneByOne
 mod Read
 mod Rising

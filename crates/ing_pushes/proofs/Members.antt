@@ -1,16 +1,15 @@
 -- Members of a push, met in any order.
-use Rattle.std.proofs.Common.{◌≡◌, ℕ, ◌+◌, ◌<◌, ◌≤◌, List, [], ◌∷◌, ◌++◌, take, length, get_or, codes, false, Option, Some, None, IfSome, refl, sym, ap, subst, ◌∙◌}
-use Rattle.std.proofs.lemmas.List.{take_all, take_more, map-append, append_assoc, append-nil}
+use Rattle.std.proofs.Common.{◌≡◌, ℕ, ◌+◌, ◌<◌, ◌≤◌, List, length, get_or, codes, false, Option, Some, None, IfSome, refl, ap, subst}
 use Rattle.std.specs.Option.{option_map, is_some}
 use Rattle.std.specs.Borrow.{Bor}
 use Rattle.std.specs.declared.alloc.Global.{Global}
 use Rattle.json.specs.Json as json
-use Rattle.json.specs.Value.{value_view, items_view, members_of, members_view}
+use Rattle.json.specs.Value.{value_view, items_view, members_view}
 use Rattle.json.specs.declared.value.Value.{Value}
 use Rattle.serde_json.specs.Data.{Data, string, array, Items, Members, no_members, member, put}
 use Rattle.serde_json.specs.Read.{of_items, of_members}
 use Rattle.ing_pushes.specs.Usual.{HasParts}
-use Rattle.ing_pushes.proofs.Rising.{Member, json_members}
+use Rattle.ing_pushes.proofs.OneByOne.{Member, Reads, reads_all, reads_more}
 
 -- a member, if it is there
 abbrev pub if_met : List ℕ → Option Data → Members → Members
@@ -77,7 +76,7 @@ AreRead streams said = IfSome streams (λ values. of_items (items_view values.no
 
 -- what so many members were met as
 pub record MetAs (ms : List Member) (at : ℕ) (cmd now : Text) (streams : Values) (tenant : Text) : Type 0 where
-  pub read : (said : Items) → AreRead streams said → (rest : List (Bor (List ℕ) × json.Json)) → of_members (members_of (json_members (take at ms) ++ rest)) no_members ≡ of_members (members_of rest) (said_of cmd now streams tenant said)
+  pub read : (said : Items) → AreRead streams said → Reads ms at (said_of cmd now streams tenant said)
 
 pub met_none : (ms : List Member) → MetAs ms 0 None None None None
 met_none ms = record { read = λ said are rest. refl }
@@ -89,15 +88,7 @@ IsNext m old new before after =
     → AreRead before said × ((rest : json.Members) → of_members (json.member m.0.now (value_view m.1) rest) (old said) ≡ of_members rest (new said))
 
 pub met_more : (ms : List Member) (at : ℕ) (m : Member) (c n : Text) (s : Values) (t : Text) (c' n' : Text) (s' : Values) (t' : Text) → at < length ms → m ≡ get_or ms at m → MetAs ms at c n s t → IsNext m (said_of c n s t) (said_of c' n' s' t') s s' → MetAs ms (at + 1) c' n' s' t'
-met_more ms at m c n s t c' n' s' t' within is met step =
-    let next : json_members (take (at + 1) ms) ≡ json_members (take at ms) ++ (m.0, value_view m.1) ∷ [] = ap json_members (take_more ms at m within) ∙ map-append _ (take at ms) _ ∙ ap (λ k. json_members (take at ms) ++ (k.0, value_view k.1) ∷ []) (sym is) in
-    record {
-      read = λ said are rest.
-          ap (λ js. of_members (members_of (js ++ rest)) no_members) next
-          ∙ ap (λ js. of_members (members_of js) no_members) (append_assoc (json_members (take at ms)) ((m.0, value_view m.1) ∷ []) rest)
-          ∙ met.read said (step said are).0 ((m.0, value_view m.1) ∷ rest)
-          ∙ (step said are).1 (members_of rest);
-    }
+met_more ms at m c n s t c' n' s' t' within is met step = record { read = λ said are. reads_more ms at m (said_of c n s t said) (said_of c' n' s' t' said) within is (met.read said (step said are).0) (step said are).1 }
 
 missing : {A : Type 0} (o : Option A) → is_some o ≡ false → o ≡ None
 missing None none = refl
@@ -133,8 +124,5 @@ module _ {ms : List Member} {at : ℕ} {m : Member} {c n : Text} {s : Values} {t
 pub met_all : (ms : List Member) (at : ℕ) {oc on : Text} {os : Values} {ot : Text} (c n : Bor (List ℕ)) (s : Bor (List (Value Global))) (t : Bor (List ℕ)) → length ms ≤ at → MetAs ms at oc on os ot → oc ≡ Some c → on ≡ Some n → os ≡ Some s → ot ≡ Some t → HasParts (members_view ms) c.now t.now n.now (items_view s.now)
 met_all ms at {oc} {on} {os} {ot} c n s t all met c-is n-is s-is t-is said are =
     let there : AreRead os said = rw s-is are in
-    let read : of_members (members_of (json_members ms)) no_members ≡ Some (said_of oc on os ot said) =
-    ap (λ xs. of_members (members_of (json_members xs)) no_members) (sym (take_all at ms all))
-    ∙ ap (λ js. of_members (members_of js) no_members) (sym (append-nil (json_members (take at ms))))
-    ∙ met.read said there [] in
+    let read = reads_all ms at (said_of oc on os ot said) all (met.read said there) in
     rw (read, c-is, n-is, s-is, t-is) refl

@@ -1,27 +1,23 @@
 -- Members that are texts, and labels whose names rise.
-use Rattle.std.proofs.Common.{◌≡◌, ℕ, zero, suc, ◌+◌, ◌-◌, ◌<◌, ◌≤◌, List, [], ◌∷◌, ◌++◌, map, take, drop, length, get_or, Some, Ok, refl, sym, ap, subst, ◌∙◌, arith}
-use Rattle.std.proofs.lemmas.List.{take_all, take_more, drop_more, get_or-map, length-map, map-append, append_assoc, append-nil}
+use Rattle.std.proofs.Common.{◌≡◌, ℕ, zero, suc, ◌+◌, ◌-◌, ◌<◌, List, [], ◌∷◌, map, take, drop, length, get_or, Ok, refl, sym, ap, subst, ◌∙◌, arith}
+use Rattle.std.proofs.lemmas.List.{drop_more, get_or-map, length-map}
 use Rattle.std.specs.List.{insert}
 use Rattle.std.specs.Borrow.{Bor}
-use Rattle.std.specs.declared.alloc.Global.{Global}
 use Rattle.std.specs.declared.cmp.Ordering.TheVariants.{Less, Greater}
 use Rattle.std.specs.Ordering.{nat_cmp, ordering_reverse}
 use Rattle.std.specs.Cmp.Lexicographic.{slice_cmp}
 use Rattle.std.proofs.lemmas.Cmp.{nat_list_cmp_total}
 use Rattle.json.specs.Json as json
-use Rattle.json.specs.Value.{value_view, members_of}
-use Rattle.json.specs.declared.value.Value.{Value}
+use Rattle.json.specs.Value.{value_view}
 use Rattle.serde_json.specs.Data.{string, Members, no_members, member, put}
 use Rattle.serde_json.specs.Read.{of_members}
 use Rattle.ing_commands.specs.PushCommands.{raw_labels}
 use Rattle.ing_commands.specs.Views.{label_view}
 use Rattle.ing_pushes.specs.Usual.{GoesAt, Over, Rise, Under}
+use Rattle.ing_pushes.proofs.OneByOne.{Member, Reads, reads_more}
 
 abbrev pub Pair : Type 0
 Pair = List ℕ × List ℕ
-
-abbrev pub Member : Type 0
-Member = Bor (List ℕ) × Value Global
 
 -- the members that labels are
 abbrev pub members_with : List Pair → Members
@@ -112,12 +108,9 @@ map_insert f xs zero x = refl
 map_insert f [] (suc at) x = refl
 map_insert f (y ∷ xs) (suc at) x = ap (λ ys. f y ∷ ys) (map_insert f xs at x)
 
-abbrev pub json_members : List Member → List (Bor (List ℕ) × json.Json)
-json_members ms = map (λ m. (m.0, value_view m.1)) ms
-
 -- what so many members were read as
 pub record ReadAs (ms : List Member) (at : ℕ) (ps : List Pair) : Type 0 where
-  pub read : (rest : List (Bor (List ℕ) × json.Json)) → of_members (members_of (json_members (take at ms) ++ rest)) no_members ≡ of_members (members_of rest) (members_with ps)
+  pub read : Reads ms at (members_with ps)
   pub rise : Rise ps
 
 pub read_none : (ms : List Member) → ReadAs ms 0 []
@@ -126,21 +119,8 @@ read_none ms = record { read = λ rest. refl; rise = tt }
 -- one more member
 pub read_more : (ms : List Member) (at : ℕ) (ps qs : List Pair) (place : ℕ) (m : Member) (text : List ℕ) → at < length ms → m ≡ get_or ms at m → ReadAs ms at ps → GoesAt m.0.now ps place → value_view m.1 ≡ json.string text → qs ≡ insert ps place (m.0.now, text) → ReadAs ms (at + 1) qs
 read_more ms at ps qs place m text within is done goes has placed =
-    let next : json_members (take (at + 1) ms) ≡ json_members (take at ms) ++ (m.0, value_view m.1) ∷ [] = ap json_members (take_more ms at m within) ∙ map-append _ (take at ms) _ ∙ ap (λ n. json_members (take at ms) ++ (n.0, value_view n.1) ∷ []) (sym is) in
+    let put : (rest : json.Members) → of_members (json.member m.0.now (value_view m.1) rest) (members_with ps) ≡ of_members rest (members_with qs) = λ rest. rw has (ap (of_members rest) (put_at ps place (m.0.now, text) goes ∙ ap members_with (sym placed))) in
     record {
-      read = λ rest.
-          ap (λ js. of_members (members_of (js ++ rest)) no_members) next
-          ∙ ap (λ js. of_members (members_of js) no_members) (append_assoc (json_members (take at ms)) ((m.0, value_view m.1) ∷ []) rest)
-          ∙ done.read ((m.0, value_view m.1) ∷ rest)
-          ∙ ap (λ j. of_members (json.member m.0.now j (members_of rest)) (members_with ps)) has
-          ∙ ap (of_members (members_of rest)) (put_at ps place (m.0.now, text) goes)
-          ∙ ap (λ qs. of_members (members_of rest) (members_with qs)) (sym placed);
+      read = reads_more ms at m (members_with ps) (members_with qs) within is done.read put;
       rise = subst Rise (sym placed) (rise_insert ps place (m.0.now, text) done.rise goes);
     }
-
--- all of them
-pub all_read : (ms : List Member) (at : ℕ) (ps : List Pair) → length ms ≤ at → ReadAs ms at ps → of_members (members_of (json_members ms)) no_members ≡ Some (members_with ps)
-all_read ms at ps all done =
-    ap (λ xs. of_members (members_of (json_members xs)) no_members) (sym (take_all at ms all))
-    ∙ ap (λ js. of_members (members_of js) no_members) (sym (append-nil (json_members (take at ms))))
-    ∙ done.read []

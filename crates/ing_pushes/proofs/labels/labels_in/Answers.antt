@@ -3,7 +3,8 @@ use Rattle.std.specs.List.{insert}
 use Rattle.ing_commands.specs.Views.{label_view}
 use Rattle.ing_pushes.specs.Usual.{GoesAt, Rise}
 use Rattle.ing_pushes.proofs.labels.labels_in.Goals as goal
-use Rattle.ing_pushes.proofs.Rising.{all_read, labels_with, map_insert, members_with, read_more}
+use Rattle.ing_pushes.proofs.OneByOne.{reads_all}
+use Rattle.ing_pushes.proofs.Rising.{labels_with, map_insert, members_with, read_more}
 
 pub loop-member-preserved : goal.loop-member-preserved
 loop-member-preserved c =
@@ -15,4 +16,4 @@ loop-member-preserved c =
     read_more c.args.members.now c.loop-member.member-index (map label_view labels) _ place member c.in-Some.value.now c.loop-member-test.true c.member-item.is c.loop-member.invariant goes c.in-Some.ensures placed
 
 pub returns : goal.returns
-returns c = record { said = members_with (map label_view c.loop-member.labels.items); read = all_read c.args.members.now c.loop-member.member-index _ c.loop-member-test.false c.loop-member.invariant; shape = labels_with _ }
+returns c = record { said = members_with (map label_view c.loop-member.labels.items); read = reads_all c.args.members.now c.loop-member.member-index _ c.loop-member-test.false c.loop-member.invariant.read; shape = labels_with _ }
