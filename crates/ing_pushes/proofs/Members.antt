@@ -22,6 +22,7 @@ met_said cmd now streams tenant =
     if_met (codes "cmd") cmd (if_met (codes "now") now
     (if_met (codes "streams") streams (if_met (codes "tenant") tenant no_members)))
 
+-- what is put for the first time goes to its place
 pub put_cmd : (v : Data) (n s t : Option Data) → put (codes "cmd") v (met_said None n s t) ≡ met_said (Some v) n s t
 put_cmd v None None None = refl
 put_cmd v None None (Some t) = refl
@@ -78,6 +79,7 @@ AreRead streams said = IfSome streams (λ values. of_items (items_view values.no
 pub record MetAs (ms : List Member) (at : ℕ) (cmd now : Text) (streams : Values) (tenant : Text) : Type 0 where
   pub read : (said : Items) → AreRead streams said → Reads ms at (said_of cmd now streams tenant said)
 
+-- before the first
 pub met_none : (ms : List Member) → MetAs ms 0 None None None None
 met_none ms = record { read = λ said are rest. refl }
 
@@ -87,9 +89,11 @@ IsNext m old new before after =
     (said : Items) → AreRead after said
     → AreRead before said × ((rest : json.Members) → of_members (json.member m.0.now (value_view m.1) rest) (old said) ≡ of_members rest (new said))
 
+-- one more member
 pub met_more : (ms : List Member) (at : ℕ) (m : Member) (c n : Text) (s : Values) (t : Text) (c' n' : Text) (s' : Values) (t' : Text) → at < length ms → m ≡ get_or ms at m → MetAs ms at c n s t → IsNext m (said_of c n s t) (said_of c' n' s' t') s s' → MetAs ms (at + 1) c' n' s' t'
 met_more ms at m c n s t c' n' s' t' within is met step = record { read = λ said are. reads_more ms at m (said_of c n s t said) (said_of c' n' s' t' said) within is (met.read said (step said are).0) (step said are).1 }
 
+-- what was not met
 missing : {A : Type 0} (o : Option A) → is_some o ≡ false → o ≡ None
 missing None none = refl
 missing (Some x) none = absurd (cc none)

@@ -2,6 +2,7 @@
 use Rattle.std.proofs.Common.{◌≡◌, ℕ, zero, suc, ◌+◌, ◌-◌, ◌<◌, List, [], ◌∷◌, map, take, drop, length, get_or, Ok, refl, sym, ap, subst, ◌∙◌, arith}
 use Rattle.std.proofs.lemmas.List.{drop_more, get_or-map, length-map}
 use Rattle.std.specs.List.{insert}
+use Rattle.std.specs.List.Sorted.{IsStrictlySortedBy}
 use Rattle.std.specs.Borrow.{Bor}
 use Rattle.std.specs.declared.cmp.Ordering.TheVariants.{Less, Greater}
 use Rattle.std.specs.Ordering.{nat_cmp, ordering_reverse}
@@ -24,6 +25,7 @@ abbrev pub members_with : List Pair → Members
 members_with [] = no_members
 members_with (p ∷ ps) = member p.0 (string p.1) (members_with ps)
 
+-- which labels they are
 pub labels_with : (ps : List Pair) → raw_labels (members_with ps) ≡ Ok ps
 labels_with [] = refl
 labels_with (p ∷ ps) = rw (labels_with ps) refl
@@ -44,6 +46,7 @@ under_insert k (q ∷ ps) (suc at) p less under = (under.0, under_insert k ps at
 
 -- a label that goes to its place leaves names that rise
 pub rise_insert : (ps : List Pair) (at : ℕ) (p : Pair) → Rise ps → GoesAt p.0 ps at → Rise (insert ps at p)
+unfolding IsStrictlySortedBy
 rise_insert ps zero p rise goes = (goes.under, rise)
 rise_insert [] (suc at) p rise goes = (tt, tt)
 rise_insert (q ∷ ps) (suc at) p rise goes = (under_insert q.0 ps at p goes.over.0 rise.0, rise_insert ps at p rise.1 (record { over = goes.over.1; under = goes.under }))
@@ -65,6 +68,7 @@ under_at k (p ∷ ps) (suc at) d within under = under_at k ps at d (omega (arith
 
 -- a name above one of those that rise lies above all up to it
 pub over_all : (ps : List Pair) (at : ℕ) (d : Pair) (k : List ℕ) → at < length ps → Rise ps → slice_cmp nat_cmp (get_or ps at d).0 k ≡ Less → Over k (take (suc at) ps)
+unfolding IsStrictlySortedBy
 over_all [] at d k within rise less = absurd (omega arith)
 over_all (p ∷ ps) zero d k within rise less = (less, tt)
 over_all (p ∷ ps) (suc at) d k within rise less =
@@ -103,6 +107,7 @@ under_one_more ls above d k within under more =
     let less : slice_cmp nat_cmp k (get_or (map label_view ls) at (label_view d)).0 ≡ Less = ap (λ l. slice_cmp nat_cmp k l.0) here ∙ sym more in
     subst (λ n. Under k (drop n (map label_view ls))) (sym same) (under_more (map label_view ls) at (label_view d) k inside less (subst (λ n. Under k (drop n (map label_view ls))) (sym next) under))
 
+-- what is inserted, under f
 pub map_insert : {A B : Type 0} (f : A → B) (xs : List A) (at : ℕ) (x : A) → map f (insert xs at x) ≡ insert (map f xs) at (f x)
 map_insert f xs zero x = refl
 map_insert f [] (suc at) x = refl
@@ -113,7 +118,9 @@ pub record ReadAs (ms : List Member) (at : ℕ) (ps : List Pair) : Type 0 where
   pub read : Reads ms at (members_with ps)
   pub rise : Rise ps
 
+-- before the first
 pub read_none : (ms : List Member) → ReadAs ms 0 []
+unfolding IsStrictlySortedBy
 read_none ms = record { read = λ rest. refl; rise = tt }
 
 -- one more member

@@ -1,6 +1,7 @@
 -- What the reader of commands makes of a JSON value that has no fault.
 use Rattle.std.specs.Prelude.{◌≡◌, ℕ, List, [], ◌∷◌, take, drop, codes, Some, false, Ok}
-use Rattle.std.specs.List.{list_any}
+use Rattle.std.specs.List.{list_any, AllByRecursion}
+use Rattle.std.specs.List.Sorted.{IsStrictlySortedBy}
 use Rattle.std.specs.declared.cmp.Ordering.TheVariants.{Less}
 use Rattle.std.specs.Ordering.{nat_cmp}
 use Rattle.std.specs.Cmp.Lexicographic.{slice_cmp}
@@ -29,18 +30,15 @@ pub record AreLabels (ms : json.Members) (labels : List (List ℕ × List ℕ)) 
 
 -- the name lies below each of these
 abbrev pub Under : List ℕ → List (List ℕ × List ℕ) → Type 0
-Under name [] = Unit {0}
-Under name (label ∷ labels) = (slice_cmp nat_cmp name label.0 ≡ Less) × Under name labels
+Under name labels = AllByRecursion (λ label. slice_cmp nat_cmp name label.0 ≡ Less) labels
 
 -- each of these lies below the name
 abbrev pub Over : List ℕ → List (List ℕ × List ℕ) → Type 0
-Over name [] = Unit {0}
-Over name (label ∷ labels) = (slice_cmp nat_cmp label.0 name ≡ Less) × Over name labels
+Over name labels = AllByRecursion (λ label. slice_cmp nat_cmp label.0 name ≡ Less) labels
 
 -- each name lies below all behind it, in byte order
 abbrev pub Rise : List (List ℕ × List ℕ) → Type 0
-Rise [] = Unit {0}
-Rise (label ∷ labels) = Under label.0 labels × Rise labels
+Rise labels = IsStrictlySortedBy (λ a b. slice_cmp nat_cmp a.0 b.0) labels
 
 -- a label of this name goes there
 pub record GoesAt (name : List ℕ) (labels : List (List ℕ × List ℕ)) (place : ℕ) : Type 0 where

@@ -20,9 +20,9 @@ use std::alloc::{AllocError, Global};
 const MAX_DEPTH: usize = 127;
 
 /// The push that a line commands, where nothing in it has a fault and it has these members, each once and no
-/// other, in any order: `cmd`, `tenant`, `now` and `streams`; in each stream `stream`, whose labels may stand in any
-/// order that is not far from that of their names, and `values`, each of two elements. `None` says nothing of the
-/// line. `scratch` is room for texts with escapes, kept from line to line.
+/// other, in any order: `cmd`, `tenant`, `now` and `streams`; in each stream `values`, each of two elements, and
+/// `stream`, where a label's place by byte order of names is among the last 64 of those before it. `None` says
+/// nothing of the line. `scratch` is room for texts with escapes, kept from line to line.
 ///
 /// `AllocError` only where memory runs out. (Loki documentation: push API; the command's form is own.)
 pub fn usual_push<'a>(

@@ -1,10 +1,13 @@
-use Rattle.std.proofs.Common.{◌≡◌, map, ap, subst, ◌∙◌}
+use Rattle.std.proofs.Common.{◌≡◌, map, ap, subst, sym, ◌∙◌}
 use Rattle.std.specs.List.{insert}
 use Rattle.ing_commands.specs.Views.{label_view}
 use Rattle.ing_pushes.specs.Usual.{GoesAt, Rise}
 use Rattle.ing_pushes.proofs.labels.labels_in.Goals as goal
 use Rattle.ing_pushes.proofs.OneByOne.{reads_all}
-use Rattle.ing_pushes.proofs.Rising.{labels_with, map_insert, members_with, read_more}
+use Rattle.ing_pushes.proofs.Rising.{ReadAs, labels_with, map_insert, members_with, read_more, read_none}
+
+pub loop-member-init : goal.loop-member-init
+loop-member-init c = subst (λ xs. ReadAs c.args.members.now 0 (map label_view xs)) (sym c.in_ok-labels.ensures.items) (read_none c.args.members.now)
 
 pub loop-member-preserved : goal.loop-member-preserved
 loop-member-preserved c =
