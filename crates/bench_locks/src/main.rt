@@ -4,8 +4,7 @@
 
 use anyhow::{Context, Result, bail};
 use ing_limits::Settings;
-use ing_program::run_shards;
-use ing_session::run;
+use ing_program::{run, run_shards};
 use ing_store::{Fuse, MemoryStore};
 use std::{env, io};
 

@@ -32,7 +32,7 @@ impl fmt::Display for Page {
 }
 
 /// What is told of each refusal: all 41, in order of number.
-pub(crate) static TABLE: [Page; 41] = [
+pub(crate) static TABLE: [Page; 43] = [
     Page {
         refusal: Refusal::NoMemory,
         meaning: "Memory ran out.",
@@ -278,5 +278,17 @@ pub(crate) static TABLE: [Page; 41] = [
         meaning: "A shard does not stand where its number says.",
         when: "In the place of a report, by contract, or as an ending with status 3; none has been seen.",
         advice: "Keep the input, and report it as a fault of the program.",
+    },
+    Page {
+        refusal: Refusal::FolderInUse,
+        meaning: "Another program works in the folder.",
+        when: "Before any input is read, with status 2; nothing in the folder is changed.",
+        advice: "Wait until that program has ended, or give this one a folder of its own.",
+    },
+    Page {
+        refusal: Refusal::MissingLog,
+        meaning: "The folder was begun, and the log of a shard is not in it.",
+        when: "Before any input is read, with status 2; nothing in the folder is changed.",
+        advice: "Mount the disk, or restore the log from a copy; without it that shard would begin empty.",
     },
 ];

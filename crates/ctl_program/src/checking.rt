@@ -4,11 +4,12 @@ use crate::output::put;
 use crate::status::Status;
 use anyhow::{Context, Result, bail};
 use clap::ArgMatches;
-use ctl_show::check_log;
-use ing_durable::RecoverFault;
-use ing_folder::FolderStore;
+use ctl_show::{RecoverFault, check_log};
+use ing_folder::{FolderStore, Looked, Noted, look_at};
 use ing_limits::Settings;
+use ing_refusals::Refusal;
 use ing_store::DigestReceipt;
+use std::alloc::Global;
 use std::fs;
 use std::io::{ErrorKind, Write};
 
@@ -21,24 +22,53 @@ pub fn check_folder<O: Write>(
     let alloc = rt.alloc();
     let folder = given.get_str("folder").context("FOLDER")?;
     let settings = settings(rt, given.get_str("settings"))?;
-    let mut is_right = true;
+    let looked = look_at(rt, alloc, folder, &settings).context(folder)?;
+    let mut is_right = check_kept(looked, output)?;
     for number in 0..settings.shards() {
-        let name = format!(in alloc; "wal-{number}")?;
-        let text = log_text(rt, folder, name.as_str())?;
-        if !check_shard(rt, folder, &settings, number, text, output)? {
-            is_right = false;
-        }
+        let is_there = match log_text(rt, folder, number)? {
+            Some(text) => check_shard(rt, folder, &settings, number, text, output)?,
+            None if looked.noted == Noted::Same => missing_log(alloc, number, output)?,
+            None => check_shard(rt, folder, &settings, number, Vec::new(alloc), output)?,
+        };
+        is_right = is_right && is_there;
     }
     Ok(Status::of(is_right))
 }
 
-/// The text of a log in a folder; none where there is no such file.
-fn log_text(rt: &HostRuntime, folder: &str, name: &str) -> Result<Vec<u8>> {
-    let path = format!(in rt.alloc(); "{folder}/{name}")?;
+/// Writes what is to be known of how the folder is kept; whether it was begun with these settings, as far as anything tells.
+fn check_kept<O: Write>(looked: Looked, output: &mut O) -> Result<bool> {
+    if looked.is_in_use {
+        put(
+            output,
+            "lock: a program works in the folder, and may change what follows\n",
+        )?;
+    }
+    if looked.noted == Noted::Other {
+        put(
+            output,
+            "lock: 23 OtherSettings: the folder was begun with other settings\n",
+        )?;
+    }
+    Ok(looked.noted != Noted::Other)
+}
+
+/// Writes that the folder was begun and lacks the log of this shard; that is wrong.
+fn missing_log<O: Write>(alloc: Global, number: u32, output: &mut O) -> Result<bool> {
+    let (code, name) = (Refusal::MissingLog.number(), Refusal::MissingLog.name());
+    let text = format!(in alloc;
+        "wal-{number}: {code} {name}: the folder was begun, and this log is not in it\n"
+    )?;
+    put(output, text.as_str())?;
+    Ok(false)
+}
+
+/// The text of the log of a shard in a folder; none where there is no such file.
+fn log_text(rt: &HostRuntime, folder: &str, number: u32) -> Result<Option<Vec<u8>>> {
+    let path = format!(in rt.alloc(); "{folder}/wal-{number}")?;
     match fs::read(rt, path.as_str()) {
-        Ok(text) => Ok(text),
-        Err(error) if error.kind() == ErrorKind::NotFound => Ok(Vec::new(rt.alloc())),
-        Err(error) => Err(error).context(name),
+        Ok(text) => Ok(Some(text)),
+        Err(error) if error.kind() == ErrorKind::NotFound => Ok(None),
+        Err(error) => Err(error).context(path.as_str()),
     }
 }
 

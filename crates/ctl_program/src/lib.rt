@@ -18,6 +18,7 @@ mod wrapping;
 use anyhow::Result;
 use arguments::command;
 use clap::ArgMatches;
+pub use ing_folder::hold_streams;
 use output::put;
 pub use status::Status;
 use std::io::{BufRead, Write};

@@ -11,3 +11,6 @@ pub use check::{Checked, check_log};
 pub use logs::{log_words, record_words};
 pub use objects::{chunk_words, row_words};
 pub use shown::{Kind, ShowFault, Shown, kind_of, show};
+
+// What its callers meet of the crates below.
+pub use ing_durable::RecoverFault;

@@ -4,8 +4,8 @@ use Rattle.std.specs.Prelude.{ℕ, ◌^◌, List, codes, bytes_eq, ◌&&◌, nat
 use Rattle.std.specs.Option.{ok_or}
 use Rattle.serde_json.specs.Data.{Data}
 use Rattle.serde_json.specs.Find.{get, as_number, as_u64}
-use Rattle.ing_parts.specs.declared.found.Order.{Order}
-use Rattle.ing_parts.specs.declared.found.Order.TheVariants.{Forward, Backward}
+use Rattle.ing_rows.specs.declared.order.Order.{Order}
+use Rattle.ing_rows.specs.declared.order.Order.TheVariants.{Forward, Backward}
 use Rattle.ing_refusals.specs.Results.{◌>>=◌}
 use Rattle.ing_rows.specs.Texts.{is_tenant, stamp_of}
 use Rattle.ing_commands.specs.declared.fault.LineFault.{LineFault}

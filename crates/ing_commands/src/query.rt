@@ -6,8 +6,7 @@ ghost use Rattle.ing_commands.specs.Views.{query_texts, query_view};
 
 use crate::fault::LineFault;
 use crate::shape::{text_at, text_or};
-use ing_parts::Order;
-use ing_rows::{Stamp, Tenant};
+use ing_rows::{Order, Stamp, Tenant};
 use serde_json::Value;
 use std::alloc::Global;
 

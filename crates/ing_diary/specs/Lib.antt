@@ -1,2 +1,7 @@
 pub mod Notes
 pub mod Faults
+-- what its clauses speak of in the crates below
+pub use Rattle.ing_query.specs.Answers
+pub use Rattle.ing_query.specs.Fetched
+pub use Rattle.ing_query.specs.Gathered
+pub use Rattle.ing_query.specs.QueryFaults

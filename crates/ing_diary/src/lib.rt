@@ -15,3 +15,6 @@ pub use fault::{Mismatch, Unsettled};
 pub use noted::Noted;
 pub use noting::Draft;
 pub use settling::settle;
+
+// What its callers meet of the crates below.
+pub use ing_query::{QueryFault, run_query};

@@ -9,9 +9,8 @@ ghost use Rattle.ing_rows.specs.Rows.{StreamKey};
 use crate::noted::Noted;
 use ing_chunk::Numbered;
 use ing_parts::Part;
-use ing_postings::StreamNo;
 use ing_query::{QueryFault, read_part};
-use ing_shard::{Listed, Shard};
+use ing_shard::{Listed, Shard, StreamNo};
 use ing_store::StoreEnd;
 use std::alloc::Global;
 

@@ -1,6 +1,6 @@
 //! One flush.
 ghost use Rattle.std.specs.Prelude.{◌≡◌, ◌<◌, IfErr, IfOk, OnErr, length};
-ghost use Rattle.ing_sealed.specs.declared.uploads.Flushed.{Flushed as Uploaded};
+ghost use Rattle.ing_shard.specs.Flushed.{Flushed as Uploaded};
 ghost use Rattle.ing_shard.specs.Flights.{Flown, IsUploaded, entries_in};
 ghost use Rattle.ing_flush.specs.Unfinished.{GivesBack};
 ghost use Rattle.ing_flush.specs.Flushes.{IsCounted, IsFlushed, IsGivenBack, RisesBy};
@@ -10,8 +10,7 @@ use crate::door::{Door, Unfinished};
 use crate::flusher::Flusher;
 use crate::gate::Gate;
 use crate::tally::FlusherTally;
-use ing_sealed::Flushed as Uploaded;
-use ing_shard::{Op, Stray, Ticket};
+use ing_shard::{Flushed as Uploaded, Op, Stray, Ticket};
 use ing_store::{Receipt, StoreEnd, StoreFault};
 use std::alloc::Global;
 use std::sync::Wait;

@@ -5,9 +5,7 @@ ghost use Rattle.ing_shard.specs.Flights.{IsUploaded};
 
 use crate::gate::{Gate, GatedEnd};
 use crate::tally::FlusherTally;
-use ing_postings::StreamNo;
-use ing_sealed::Flushed;
-use ing_shard::{Op, Ticket};
+use ing_shard::{Flushed, Op, StreamNo, Ticket};
 use ing_store::{StoreEnd, StoreFault};
 use std::alloc::Global;
 

@@ -1,6 +1,6 @@
 //! Who flushes what stands in a queue.
 ghost use Rattle.std.specs.Prelude.{◌≡◌, ◌+◌, ◌≤◌, [], IsTrue, length};
-ghost use Rattle.ing_sealed.specs.declared.uploads.Flushed.{Flushed as Uploaded};
+ghost use Rattle.ing_shard.specs.Flushed.{Flushed as Uploaded};
 ghost use Rattle.ing_shard.specs.Flights.{Flown, IsUploaded};
 ghost use Rattle.ing_flush.specs.Queues.{standing};
 ghost use Rattle.ing_flush.specs.Rounds.{HaveRisen, IsRound, IsTold, worker_of};
@@ -13,8 +13,7 @@ use crate::gate::Gate;
 use crate::queue::{FlushQueue, QueuePass};
 use crate::round::Round;
 use crate::tally::FlusherTally;
-use ing_sealed::Flushed as Uploaded;
-use ing_shard::Op;
+use ing_shard::{Flushed as Uploaded, Op};
 use ing_store::{Receipt, StoreEnd};
 use std::alloc::Global;
 use std::sync::Wait;

@@ -3,11 +3,10 @@ ghost use Rattle.std.specs.Prelude.{◌≡◌, ◌≤◌, IfOk};
 ghost use Rattle.ing_refusals.specs.Failures.{HasFailed};
 ghost use Rattle.ing_store.specs.StoreFaults.{IsCounted};
 
-use crate::folder::{FolderFault, path_in, read_file, replace_file};
+use crate::folder::{FolderFault, make_folder, path_in, read_file, replace_file};
 use ing_store::{DigestReceipt, StoreEnd, StoreFault};
 use std::alloc::{AllocError, Global};
 use std::borrow::CowSlice;
-use std::fs;
 use std::marker::Model;
 use std::rt::Files;
 
@@ -44,7 +43,7 @@ impl<'a, R: Files + AllocGlobal> FolderStore<'a, R> {
     ) -> Result<FolderStore<'a, R>, FolderFault>
         ensures { IfOk result (λ end. end ≡ 0) }
     {
-        fs::create_dir_all(rt, folder)?;
+        make_folder(rt, folder)?;
         Ok(FolderStore::over(rt, alloc, folder, number)?)
     }
 

@@ -1,10 +1,15 @@
-//! Stores and logs on a disk: each object is a file of a folder, and so is the log of each shard.
+//! Stores and logs on a disk: each object is a file of a folder, and so is the log of each shard. One program at a time has
+//! the folder.
 #![tactic(auto)]
 
 mod folder;
+mod folder_hold;
 mod folder_log;
 mod folder_store;
+mod streams;
 
 pub use folder::FolderFault;
+pub use folder_hold::{FolderHold, HoldFault, Looked, Noted, look_at};
 pub use folder_log::FolderLog;
 pub use folder_store::FolderStore;
+pub use streams::hold_streams;

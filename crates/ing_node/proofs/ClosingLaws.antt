@@ -5,8 +5,8 @@ use Rattle.std.specs.Global.{Vec}
 use Rattle.std.proofs.lemmas.List.Sorted.{IsPermutation-refl}
 use Rattle.ing_rows.specs.Rows.{IsSame, State}
 use Rattle.ing_tally.specs.Books.{ShareState}
-use Rattle.ing_shard.specs.Contents.{Contents, flying_count, stored_count}
-use Rattle.ing_node.specs.declared.report.ShardReport.{ShardReport}
+use Rattle.ing_durable.specs.Contents.{Contents, flying_count, stored_count}
+use Rattle.ing_tally.specs.declared.report.ShardReport.{ShardReport}
 use Rattle.ing_node.specs.Closing.{IsComplete, shares_at, shares_in}
 use Rattle.ing_node.specs.Reports.{CountRowsFrom, CountsRows, IsClosed, IsGathered, recovered_at, recovered_in}
 

@@ -9,7 +9,7 @@ use Rattle.ing_parts.specs.declared.found.Found.{Found}
 use Rattle.ing_parts.specs.declared.snapshot.Snapshot.{Snapshot}
 use Rattle.ing_parts.specs.Answers.{StandApart, is_at}
 use Rattle.ing_parts.specs.Parts.{standing}
-use Rattle.ing_query.specs.Answers.{standing_in}
+use Rattle.ing_diary.specs.Answers.{standing_in}
 use Rattle.ing_rows.specs.Placement.{shard_of}
 use Rattle.ing_node.specs.Queries.{AreBelow}
 

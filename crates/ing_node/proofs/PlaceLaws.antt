@@ -3,7 +3,7 @@ use Rattle.std.proofs.Common.{◌≡◌, ◌⊎◌, inl, inr, ℕ, zero, suc, �
 use Rattle.std.proofs.lemmas.List.{reverse-append}
 use Rattle.std.specs.Prelude.{slice_get}
 use Rattle.ing_limits.specs.Settings.{StoreSettings}
-use Rattle.ing_shard.specs.Books.{BookNames, names_of}
+use Rattle.ing_durable.specs.Books.{BookNames, names_of}
 use Rattle.ing_tally.specs.Books.{ShareState}
 use Rattle.ing_flush.specs.Tallies.{AreStoredIn}
 use Rattle.ing_node.specs.Begun.{AreBegunFrom, BegunState, IsBegunAs}

@@ -1,9 +1,9 @@
 -- Which refusal a fault of a query through the locks is, and what it tells of the store (own).
 use Rattle.std.specs.Prelude.{◌≡◌, ℕ, Result, Ok, Err}
 use Rattle.ing_refusals.specs.declared.refusal.Refusal.{Refusal}
-use Rattle.ing_query.specs.Fetched.{Counts}
-use Rattle.ing_query.specs.QueryFaults.{query_refusal_of}
-use Rattle.ing_node.specs.Faults.{refusal_of}
+use Rattle.ing_diary.specs.Fetched.{Counts}
+use Rattle.ing_diary.specs.QueryFaults.{query_refusal_of}
+use Rattle.ing_durable.specs.NodeFaults.{refusal_of}
 use Rattle.ing_node.specs.declared.query.AnswerFault.{AnswerFault}
 use Rattle.ing_node.specs.declared.query.AnswerFault.TheVariants.{Node, Query}
 

@@ -3,7 +3,7 @@ use Rattle.std.specs.Prelude.{◌≡◌, ℕ, ◌+◌, true, List, Some, length,
 use Rattle.std.specs.Coded.{Coded, code_by, coded×}
 use Rattle.ing_limits.specs.Settings.{StoreSettings}
 use Rattle.ing_tally.specs.Books.{ShareState}
-use Rattle.ing_shard.specs.Contents.{stored_count}
+use Rattle.ing_durable.specs.Contents.{stored_count}
 use Rattle.ing_durable.specs.Kept.{DurableContents, Replays}
 
 -- What contracts see of a shard, and of the shares of what it begins with.

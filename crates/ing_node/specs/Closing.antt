@@ -3,7 +3,7 @@ use Rattle.std.specs.Prelude.{◌≡◌, ℕ, ◌+◌, ◌≤◌, List, [], ◌�
 use Rattle.std.specs.Global.{Vec}
 use Rattle.std.specs.Vec.{vec_capacity}
 use Rattle.ing_tally.specs.Books.{ShareState}
-use Rattle.ing_shard.specs.Contents.{Contents}
+use Rattle.ing_durable.specs.Contents.{Contents}
 
 -- ---- lists of shares, one for each shard
 

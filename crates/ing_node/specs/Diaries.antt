@@ -5,9 +5,9 @@ use Rattle.std.specs.Option.{option_map}
 use Rattle.ing_rows.specs.declared.entry.Entry.{Entry}
 use Rattle.ing_rows.specs.Rows.{Row, StreamKey}
 use Rattle.ing_tally.specs.Books.{ShareState}
-use Rattle.ing_shard.specs.Contents.{Contents, flying_count, stored_count}
+use Rattle.ing_durable.specs.Contents.{Contents, flying_count, stored_count}
 use Rattle.ing_diary.specs.Notes.{AreNoted, DiaryState, Note, is_in_shard}
-use Rattle.ing_node.specs.declared.report.ShardReport.{ShardReport}
+use Rattle.ing_tally.specs.declared.report.ShardReport.{ShardReport}
 
 -- the shares of a pusher, shard by shard, and what it noted, where it keeps a diary
 pub record PusherState : Type 0 where

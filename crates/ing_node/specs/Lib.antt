@@ -1,8 +1,6 @@
 pub mod Boards
 pub mod Names
 pub mod Pushes
-pub mod Faults
-pub mod PushFaults
 pub mod Queries
 pub mod Reports
 pub mod Closing
@@ -12,3 +10,12 @@ pub mod Diaries
 pub mod Begun
 pub mod Recovering
 pub mod Earlier
+-- what its clauses speak of in the crates below
+pub use Rattle.ing_durable.specs.Contents
+pub use Rattle.ing_durable.specs.Kept
+pub use Rattle.ing_durable.specs.NodeFault
+pub use Rattle.ing_durable.specs.NodeFaults
+pub use Rattle.ing_durable.specs.RecoverFault
+pub use Rattle.ing_flush.specs.Rounds
+pub use Rattle.ing_flush.specs.Tallies
+pub use Rattle.ing_flush.specs.declared.worker.Worker

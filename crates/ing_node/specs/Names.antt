@@ -4,8 +4,8 @@ use Rattle.std.specs.FinMap.{from_entries}
 use Rattle.ing_rows.specs.Defaults.{defaults}
 use Rattle.ing_limits.specs.Settings.{StoreSettings}
 use Rattle.ing_tally.specs.Books.{ShareState, no_book}
-use Rattle.ing_shard.specs.Books.{BookNames, names_of}
-use Rattle.ing_shard.specs.Contents.{Contents}
+use Rattle.ing_durable.specs.Books.{BookNames, names_of}
+use Rattle.ing_durable.specs.Contents.{Contents}
 use Rattle.ing_node.specs.Begun.{BegunState}
 use Rattle.ing_flush.specs.Tallies.{AreStoredIn}
 

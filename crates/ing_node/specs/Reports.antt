@@ -2,11 +2,11 @@
 use Rattle.std.specs.Prelude.{◌≡◌, ◌+◌, ◌<◌, ◌≤◌, ℕ, List, Option, Some, None, Err, length, slice_get}
 use Rattle.ing_refusals.specs.declared.refusal.Refusal.{Refusal}
 use Rattle.ing_refusals.specs.declared.refusal.Refusal.TheVariants as refusal
-use Rattle.ing_shard.specs.Contents.{Contents, flying_count, stored_count}
+use Rattle.ing_durable.specs.Contents.{Contents, flying_count, stored_count}
 use Rattle.ing_flush.specs.Tallies.{amount_at}
 use Rattle.ing_node.specs.Earlier.{EarlierState}
 use Rattle.ing_diary.specs.Faults.{AreCounted, IsNoBadObject, unsettled_refusal_of}
-use Rattle.ing_node.specs.declared.report.ShardReport.{ShardReport}
+use Rattle.ing_tally.specs.declared.report.ShardReport.{ShardReport}
 use Rattle.ing_node.specs.declared.report.CloseRefusal.{CloseRefusal}
 use Rattle.ing_node.specs.declared.report.CloseRefusal.TheVariants.{NoMemory, StillOut, Misplaced, Unsettled}
 

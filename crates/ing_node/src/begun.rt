@@ -5,7 +5,7 @@ ghost use Rattle.ing_durable.specs.Recovering.{FitsInTurn};
 ghost use Rattle.ing_durable.specs.Refusing.{IsOwnText};
 ghost use Rattle.ing_node.specs.Begun.{IsBegunAs, IsFresh};
 ghost use Rattle.ing_node.specs.Recovering.{HasSafeLog, IsRefused, LeavesOrReplays};
-ghost use Rattle.ing_shard.specs.Contents.{stored_count};
+ghost use Rattle.ing_durable.specs.Contents.{stored_count};
 
 use crate::told::Told;
 use ing_durable::{DurableShard, RecoverFault, RecoveredDurable};
@@ -26,7 +26,7 @@ pub struct Begun<D: LogDisk, R: Receipt> {
 
 impl<D: LogDisk, R: Receipt> Model for Begun<D, R> {
     ghost use Rattle.std.specs.Coded.{codes};
-    ghost use Rattle.ing_shard.specs.Coded.{contents_code};
+    ghost use Rattle.ing_durable.specs.ShardCoded.{contents_code};
     ghost use Rattle.ing_durable.specs.Coded.{durable_code};
     ghost use Rattle.ing_node.specs.Begun.{BegunState, begun_code};
 

@@ -2,9 +2,9 @@
 ghost use Rattle.std.specs.Prelude.{◌≡◌, ◌≢◌, ◌+◌, ◌<◌, ◌≤◌, ℕ, All, IfOk, slice_get};
 ghost use Rattle.ing_node.specs.Boards.{IsNoLess, known_at, readings_at};
 
-use crate::fault::NodeFault;
 use crate::ingester::Ingester;
 use crate::names::NodeName;
+use ing_durable::NodeFault;
 use ing_store::Receipt;
 use ing_tally::{Counts, CountsReader};
 use ing_wal::LogDisk;

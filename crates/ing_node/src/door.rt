@@ -1,13 +1,12 @@
 //! The locks are the way to the shards.
 ghost use Rattle.std.specs.Prelude.{◌≡◌, ◌+◌, ◌<◌, IfOk, IfErr, IfSome, OnOk, OnErr};
-ghost use Rattle.ing_shard.specs.Flights.{IsUploaded, entries_in};
+ghost use Rattle.ing_durable.specs.Flights.{IsUploaded, entries_in};
 ghost use Rattle.ing_flush.specs.Unfinished.{GivesBack};
 
 use crate::ingester::Ingester;
 use crate::names::NodeName;
+use ing_durable::{FinishFault, Finished, Flushed, Op, Stranger, Stray, Ticket};
 use ing_flush::{Door, Unfinished};
-use ing_sealed::Flushed;
-use ing_shard::{FinishFault, Finished, Op, Stranger, Stray, Ticket};
 use ing_store::Receipt;
 use ing_tally::Share;
 use ing_wal::LogDisk;

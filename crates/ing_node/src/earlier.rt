@@ -5,9 +5,9 @@ ghost use Rattle.ing_node.specs.Earlier.{HasNone};
 ghost use Rattle.ing_node.specs.Reports.{recovered_at};
 
 use crate::names::NodeName;
-use crate::report::ShardReport;
 use crate::told::{Told, strand_told};
 use ing_flush::FlusherTally;
+use ing_tally::ShardReport;
 use std::marker::{Model, PhantomData};
 
 /// Shares of what the shards of one ingester began with: of their entries, and of those of them that are stored, as an earlier run

@@ -3,13 +3,12 @@ ghost use Rattle.std.specs.Prelude.{◌≡◌, [], All, IfOk, IfErr, OnErr, OnOk
 ghost use Rattle.ing_flush.specs.Tallies.{AreStoredIn};
 ghost use Rattle.ing_node.specs.Sweeps.{AreQueued, IsFullAt};
 
-use crate::fault::NodeFault;
 use crate::ingester::Ingester;
 use crate::names::NodeName;
 use crate::swept::Swept;
+use ing_durable::{NodeFault, Op};
 use ing_flush::{FlushQueue, Flusher, Gate, QueuePass, Worker};
 use ing_limits::Settings;
-use ing_shard::Op;
 use ing_store::{Receipt, StoreEnd};
 use ing_wal::LogDisk;
 use std::alloc::{AllocError, Global};

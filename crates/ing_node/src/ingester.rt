@@ -10,17 +10,16 @@ ghost use Rattle.ing_node.specs.Names.{AreAcceptedIn, AreNamed};
 
 use crate::diaries::new_diary;
 use crate::earlier::Earlier;
-use crate::fault::NodeFault;
 use crate::held::Held;
 use crate::names::NodeName;
 use crate::opening::Opening;
 use crate::pusher::Pusher;
 use crate::shards::Shards;
 use crate::told::Told;
+use ing_durable::{Due, NodeFault};
 use ing_flush::FlusherTally;
 use ing_places::Places;
 use ing_rows::{Gauges, Stamp, Tenant};
-use ing_shard::Due;
 use ing_store::Receipt;
 use ing_tally::Share;
 use ing_wal::LogDisk;

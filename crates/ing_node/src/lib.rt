@@ -8,7 +8,6 @@ mod closing;
 mod diaries;
 mod door;
 mod earlier;
-mod fault;
 mod flushing;
 mod gathering;
 mod held;
@@ -32,7 +31,6 @@ pub use begun::Begun;
 pub use board::BoardReader;
 pub use closing::CloseFault;
 pub use earlier::Earlier;
-pub use fault::NodeFault;
 pub use flushing::{FlusherFault, Flushing, Sweeper};
 pub use ingester::Ingester;
 pub use laws::{push, settle};
@@ -40,6 +38,10 @@ pub use names::NodeName;
 pub use no_store::NoStore;
 pub use pusher::Pusher;
 pub use query::{Answer, AnswerFault};
-pub use report::{CloseRefusal, Report, ShardReport};
+pub use report::{CloseRefusal, Report};
 pub use shards::Shards;
 pub use swept::Swept;
+
+// What its callers meet of the crates below.
+pub use ing_durable::{NodeFault, Op, RecoverFault};
+pub use ing_flush::{FlusherTally, FreeGate, Round, Worker};

@@ -3,7 +3,7 @@ ghost use Rattle.std.specs.Prelude.{◌≡◌, ◌+◌, ◌++◌, ◌∷◌, [],
 ghost use Rattle.ing_flush.specs.Tallies.{AreStoredIn};
 ghost use Rattle.ing_node.specs.Begun.{HasTornLog, IsBegunAs};
 ghost use Rattle.ing_node.specs.Names.{AreAcceptedIn};
-ghost use Rattle.ing_shard.specs.Books.{names_of};
+ghost use Rattle.ing_durable.specs.Books.{names_of};
 
 use crate::begun::Begun;
 use crate::held::Held;

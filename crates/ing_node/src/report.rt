@@ -3,21 +3,9 @@ ghost use Rattle.std.specs.Prelude.{◌≡◌};
 ghost use Rattle.ing_node.specs.Reports.{close_refusal_of};
 
 use ing_diary::Unsettled;
+use ing_durable::Missing;
 use ing_refusals::Refusal;
-use ing_shard::Missing;
-
-/// What a shard had when every share of its books was there.
-#[derive(Clone, Copy, Debug, Default, PartialEq, Eq)]
-pub struct ShardReport {
-    /// How many entries the pushers were told were accepted.
-    pub accepted: u64,
-    /// How many it had from an earlier run.
-    pub recovered: u64,
-    /// How many are stored.
-    pub stored: u64,
-    /// How many are kept in memory.
-    pub kept: u64,
-}
+use ing_tally::ShardReport;
 
 /// What an ingester had when it was closed: of each shard, by number.
 #[derive(Debug, Drop)]

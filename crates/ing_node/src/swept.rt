@@ -1,6 +1,6 @@
 //! What a round of sweeping left.
 
-use ing_shard::Op;
+use ing_durable::Op;
 
 /// What a round of sweeping left.
 #[derive(Debug, Drop)]

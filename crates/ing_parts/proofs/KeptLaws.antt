@@ -5,8 +5,8 @@ use Rattle.std.proofs.lemmas.List.Sums.{sum_by-cons}
 use Rattle.std.proofs.lemmas.List.{get_or_default}
 use Rattle.std.proofs.lemmas.List.Sorted.{IsPermutation-append_left, IsPermutation-sym, IsPermutation-to_front, IsPermutation-trans, sum_by-IsPermutation}
 use Rattle.ing_parts.specs.declared.found.Found.{Found}
-use Rattle.ing_parts.specs.declared.found.Order.{Order}
-use Rattle.ing_parts.specs.declared.found.Order.TheVariants.{Forward, Backward}
+use Rattle.ing_rows.specs.declared.order.Order.{Order}
+use Rattle.ing_rows.specs.declared.order.Order.TheVariants.{Forward, Backward}
 use Rattle.ing_parts.specs.Answers.{BestState, IsFrom, IsPast, Offers, PassesOver, precedes}
 use Rattle.ing_parts.specs.Kept.{IsHeap, ahead}
 use Rattle.ing_parts.proofs.HeapLaws.{top_is_last}

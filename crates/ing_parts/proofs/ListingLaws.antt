@@ -1,6 +1,6 @@
 -- The chunk that the bytes of a listing spell.
 use Rattle.std.proofs.Common.{◌≡◌, ℕ, List, sym, ap, ◌∙◌}
-use Rattle.ing_codec.specs.RowObjects.{RowObject}
+use Rattle.ing_store.specs.RowObjects.{RowObject}
 use Rattle.ing_parts.specs.Listings.{IsListing, IsSpelt, listed_of, extent_of, tenant_in, stream_in, first_in, blocks_in}
 
 module _ (name : List ℕ) (bytes : List ℕ) (row : RowObject) (h : IsListing bytes row) where

@@ -7,8 +7,8 @@ use Rattle.std.proofs.lemmas.List.Sorted.{IsPermutation-append_comm, IsPermutati
 use Rattle.ing_chunk.specs.declared.numbered.Numbered.{Numbered}
 use Rattle.ing_parts.specs.declared.found.Found.{Found}
 use Rattle.ing_chunk.specs.Chunks.{AreInOrder, StampsRise, in_blocks, is_between}
-use Rattle.ing_parts.specs.declared.found.Order.{Order}
-use Rattle.ing_parts.specs.declared.found.Order.TheVariants.{Forward, Backward}
+use Rattle.ing_rows.specs.declared.order.Order.{Order}
+use Rattle.ing_rows.specs.declared.order.Order.TheVariants.{Forward, Backward}
 use Rattle.ing_parts.specs.Answers.{AreSomeOf, BestState, IsAnswer, IsFrom, Offers, PassesOver, StandFor}
 use Rattle.ing_parts.specs.Parts.{AreFrom, found_between, found_of, is_within, within}
 use Rattle.ing_parts.proofs.RangeLaws.{missed}

@@ -10,8 +10,8 @@ use Rattle.std.proofs.lemmas.Cmp.{nat_cmp_total, nat_list_cmp_total, on_total, t
 use Rattle.std.proofs.lemmas.List.Sums.{sum_by-append}
 use Rattle.std.proofs.lemmas.List.Sorted.{ranks_by, IsStrictWeakOrder-flip, IsPermutation-sym, IsPermutation-trans, IsPermutation-cons, IsPermutation-middle, IsPermutation-append_left, sum_by-IsPermutation}
 use Rattle.ing_parts.specs.declared.found.Found.{Found}
-use Rattle.ing_parts.specs.declared.found.Order.{Order}
-use Rattle.ing_parts.specs.declared.found.Order.TheVariants.{Forward, Backward}
+use Rattle.ing_rows.specs.declared.order.Order.{Order}
+use Rattle.ing_rows.specs.declared.order.Order.TheVariants.{Forward, Backward}
 use Rattle.ing_parts.specs.Answers.{IsAnswer, StandFor, comes_first, precedes}
 use Rattle.ing_parts.specs.Kept.{ahead}
 use Rattle.ing_parts.proofs.Insertion.{first_are_same, inserted, inserts, sorted_inserted}

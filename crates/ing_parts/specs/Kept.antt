@@ -1,7 +1,7 @@
 -- What is kept of entries, and when it is enough (own).
 use Rattle.std.specs.Prelude.{◌≡◌, ℕ, ◌+◌, ◌*◌, ◌<◌, ◌≤◌, ◌≢◌, Bool, false, List, get_or, length, sum_by, if◌then◌else◌}
 use Rattle.ing_parts.specs.declared.found.Found.{Found}
-use Rattle.ing_parts.specs.declared.found.Order.{Order}
+use Rattle.ing_rows.specs.declared.order.Order.{Order}
 use Rattle.ing_parts.specs.Answers.{precedes}
 
 -- how many of these an answer may have ahead of this one: it stands before none of them

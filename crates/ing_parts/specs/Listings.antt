@@ -3,11 +3,11 @@ use Rattle.std.specs.Prelude.{◌≡◌, ℕ, List, [], length, Result, Ok, Err}
 use Rattle.sha2.specs.Sha256.{sha256}
 use Rattle.ing_chunk.specs.declared.numbered.Numbered.{Numbered}
 use Rattle.ing_chunk.specs.Chunks.{in_blocks, size_of_entries, least_of, greatest_of}
-use Rattle.ing_codec.specs.declared.index_row.Extent.{Extent}
-use Rattle.ing_codec.specs.declared.fault.CodecFault.{CodecFault}
-use Rattle.ing_codec.specs.ChunkObjects.{ChunkObject, IsObject}
-use Rattle.ing_codec.specs.ChunkReading.{read_chunk}
-use Rattle.ing_codec.specs.RowObjects.{RowObject}
+use Rattle.ing_store.specs.Extent.{Extent}
+use Rattle.ing_store.specs.CodecFault.{CodecFault}
+use Rattle.ing_store.specs.ChunkObjects.{ChunkObject, IsObject}
+use Rattle.ing_store.specs.ChunkReading.{read_chunk}
+use Rattle.ing_store.specs.RowObjects.{RowObject}
 
 -- the name and the bytes that its receipt means, the chunk that these bytes spell, and its key
 pub record Listed : Type 0 where

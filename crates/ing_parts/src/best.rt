@@ -5,7 +5,8 @@ ghost use Rattle.ing_parts.specs.Answers.{IsAnswer, IsPast, Offers, PassesOver};
 ghost use Rattle.ing_parts.specs.Answers as answers;
 ghost use Rattle.ing_parts.specs.Kept.{IsHeap, IsHeapBut, IsLastBelow};
 
-use crate::found::{Found, Order, StreamName, compare, goes_before};
+use crate::found::{Found, StreamName, compare, goes_before};
+use ing_rows::Order;
 use std::alloc::{AllocError, Global};
 use std::marker::Model;
 

@@ -1,4 +1,4 @@
-//! What a query gives of an entry, with its stream's name, and in which order.
+//! What a query asks, and what it gives of an entry, with its stream's name.
 ghost use Rattle.std.specs.Prelude.{◌≡◌, IfOk};
 ghost use Rattle.ing_labels.specs.Canonical.{canonical_of};
 ghost use Rattle.std.specs.Cmp.Lexicographic.{slice_cmp};
@@ -7,7 +7,7 @@ ghost use Rattle.ing_rows.specs.declared.entry.Entry.{Entry};
 ghost use Rattle.ing_parts.specs.Answers as answers;
 
 use ing_labels::Labels;
-use ing_rows::Entry;
+use ing_rows::{Entry, Order};
 use std::alloc::AllocError;
 use std::cmp::Ordering;
 use std::marker::Model;
@@ -74,15 +74,6 @@ impl StreamName {
     {
         StreamName::of_labels(&self.labels)
     }
-}
-
-/// In which order an answer has its entries (Loki documentation: HTTP API, query range: direction).
-#[derive(Clone, Copy, Debug, PartialEq, Eq)]
-pub enum Order {
-    /// The oldest first.
-    Forward,
-    /// The newest first.
-    Backward,
 }
 
 /// What is asked of entries.

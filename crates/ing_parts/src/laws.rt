@@ -4,7 +4,7 @@ ghost use Rattle.std.specs.List.{Contains};
 ghost use Rattle.std.specs.List.Sorted.{IsSortedBy};
 ghost use Rattle.ing_rows.specs.Rows.{Row};
 ghost use Rattle.ing_parts.specs.declared.found.Found.{Found};
-ghost use Rattle.ing_parts.specs.declared.found.Order.{Order};
+ghost use Rattle.ing_rows.specs.declared.order.Order.{Order};
 ghost use Rattle.ing_parts.specs.declared.snapshot.Part.{Part};
 ghost use Rattle.ing_parts.specs.declared.snapshot.Snapshot.{Snapshot};
 ghost use Rattle.ing_parts.specs.Answers.{BestState, IsAnswer, IsFrom, Offers, PassesOver, StandFor, precedes};

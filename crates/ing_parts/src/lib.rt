@@ -9,7 +9,7 @@ mod offers;
 mod snapshot;
 
 pub use best::Best;
-pub use found::{Found, Order, Question, StreamName};
+pub use found::{Found, Question, StreamName};
 pub use laws::{
     additions_join, answers_are_first, found_rows_have_no_order, listed_rows_join, offers_join,
     offers_of_streams, parts_join, rows_are_found, rows_join, rows_stand, standing_joins,

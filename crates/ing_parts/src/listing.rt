@@ -2,7 +2,7 @@
 ghost use Rattle.std.specs.Prelude.{◌≡◌, IfOk, filter, true, [], IsPermutation, OnOk, map};
 ghost use Rattle.ing_labels.specs.Canonical.{canonical_of};
 ghost use Rattle.ing_chunk.specs.Chunks.{in_blocks, is_between, entries_growing, entries_in_memory, entries_of, entries_of_all};
-ghost use Rattle.ing_codec.specs.RowObjects.{IsExtent};
+ghost use Rattle.ing_store.specs.RowObjects.{IsExtent};
 ghost use Rattle.ing_parts.specs.Listings.{IsListing, IsSpelt, listed_of, extent_of};
 ghost use Rattle.ing_parts.specs.Parts.{AddsParts, entries_in, found_of};
 
@@ -10,10 +10,9 @@ use crate::found::StreamName;
 use crate::laws::parts_join;
 use crate::snapshot::{Part, Source};
 use ing_chunk::{Block, Chunk, Chunks, Head, Numbered, spans_bound_stamps};
-use ing_codec::{Extent, IndexRow};
 use ing_labels::Labels;
 use ing_rows::Tenant;
-use ing_store::Receipt;
+use ing_store::{Extent, IndexRow, Receipt};
 use std::alloc::{AllocError, Global};
 use std::marker::Model;
 use std::sync::Arc;

@@ -5,8 +5,9 @@ ghost use Rattle.ing_parts.specs.Answers.{Offers};
 ghost use Rattle.ing_parts.specs.Parts.{found_between};
 
 use crate::best::Best;
-use crate::found::{Found, Order, StreamName};
+use crate::found::{Found, StreamName};
 use ing_chunk::{Block, Head, Numbered, spans_bound_stamps, stamps_rise};
+use ing_rows::Order;
 use std::alloc::{AllocError, Global};
 
 /// Whether an entry is to be offered: its stamp is in the range, and it may be kept.

@@ -4,11 +4,12 @@ ghost use Rattle.ing_chunk.specs.Chunks.{IsSpanOf, entries_growing, entries_in_m
 ghost use Rattle.ing_parts.specs.Parts.{Adds, entries_in, found_of};
 
 use crate::best::Best;
-use crate::found::{Order, Question, StreamName};
+use crate::found::{Question, StreamName};
 use crate::laws::additions_join;
 use crate::listing::Listing;
 use crate::offers::{is_passed_over, offer_entries, offer_head};
 use ing_chunk::{Block, Chunk, Chunks, Head, Numbered};
+use ing_rows::Order;
 use ing_store::Receipt;
 use std::alloc::{AllocError, Global};
 

@@ -7,9 +7,9 @@ use Rattle.std.proofs.lemmas.Option.{none-some, same_Some}
 use Rattle.ing_rows.specs.Rows.{State}
 use Rattle.ing_limits.specs.Settings.{StoreSettings}
 use Rattle.ing_tally.specs.Books.{ShareState, amount_of}
-use Rattle.ing_flush.specs.Tallies.{amount_at}
-use Rattle.ing_durable.specs.Kept.{Replays}
-use Rattle.ing_shard.specs.Contents.{stored_count}
+use Rattle.ing_node.specs.Tallies.{amount_at}
+use Rattle.ing_node.specs.Kept.{Replays}
+use Rattle.ing_node.specs.Contents.{stored_count}
 use Rattle.ing_node.specs.Begun.{AreBegunFrom, BegunState, HasCounted, HasReplayed, HasTornLog, IsFresh}
 use Rattle.ing_node.specs.Earlier.{earlier_of}
 use Rattle.ing_program.specs.ByLedger.{BeginsOver, BeginsAsLogged, began_new, began_with}

@@ -6,9 +6,9 @@ use Rattle.std.specs.Prelude.{◌⊎◌, All, Some, drop, min, slice_get, sum_by
 use Rattle.std.specs.List.{AllZip}
 use Rattle.ing_tally.specs.Books.{ShareState, amount_of}
 use Rattle.ing_tally.specs.Counts.{ReaderState}
-use Rattle.ing_flush.specs.Tallies.{amount_at}
+use Rattle.ing_node.specs.Tallies.{amount_at}
 use Rattle.ing_node.specs.Diaries.{PusherState}
-use Rattle.ing_node.specs.declared.report.ShardReport.{ShardReport}
+use Rattle.ing_tally.specs.declared.report.ShardReport.{ShardReport}
 use Rattle.serde_json.specs.Data.{Data}
 use Rattle.ing_limits.specs.Settings.{StoreSettings}
 use Rattle.ing_commands.specs.Commands.{Flush}

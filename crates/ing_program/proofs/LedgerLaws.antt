@@ -9,13 +9,13 @@ use Rattle.ing_rows.specs.declared.entry.Entry.{Entry}
 use Rattle.ing_limits.specs.Settings.{StoreSettings}
 use Rattle.ing_limits.specs.Ranges.{rules_for}
 use Rattle.ing_tally.specs.Books.{ShareState, no_book}
-use Rattle.ing_flush.specs.Tallies.{amount_at}
+use Rattle.ing_node.specs.Tallies.{amount_at}
 use Rattle.ing_commands.specs.PushCommands.{StreamEntries}
 use Rattle.ing_node.specs.AnswerFaults.{IsCaused}
 use Rattle.ing_node.specs.declared.query.AnswerFault.{AnswerFault}
-use Rattle.ing_query.specs.declared.fault.QueryFault.TheVariants as queries
-use Rattle.ing_node.specs.declared.fault.NodeFault.{NodeFault}
-use Rattle.ing_node.specs.declared.fault.NodeFault.TheVariants as node
+use Rattle.ing_session.specs.QueryFault.TheVariants as queries
+use Rattle.ing_node.specs.NodeFault.{NodeFault}
+use Rattle.ing_node.specs.NodeFault.TheVariants as node
 use Rattle.ing_node.specs.declared.query.AnswerFault.TheVariants.{Node, Query}
 use Rattle.ing_session.specs.ByRows.{limits_of}
 use Rattle.ing_session.specs.Causes.{HaveCause}

@@ -12,9 +12,9 @@ use Rattle.ing_limits.specs.declared.fault.SettingsFault.TheVariants.{NoMemory, 
 use Rattle.ing_session.specs.Manners.{Manner}
 use Rattle.ing_session.specs.declared.ending.Ending.{Ending}
 use Rattle.ing_session.specs.declared.ending.Ending.TheVariants.{NotOpened, NotRecovered}
-use Rattle.ing_durable.specs.declared.recover_fault.RecoverFault.{RecoverFault}
-use Rattle.ing_durable.specs.declared.recover_fault.RecoverFault.TheVariants as recover
-use Rattle.ing_relist.specs.declared.fault.RelistFault.TheVariants as relist
+use Rattle.ing_node.specs.RecoverFault.{RecoverFault}
+use Rattle.ing_node.specs.RecoverFault.TheVariants as recover
+use Rattle.ing_session.specs.RelistFault.TheVariants as relist
 use Rattle.ing_session.specs.Endings.{IsNotOpened, IsNotRecovered, ending_of_recover, ending_of_settings, is_of_run, refusal_of}
 use Rattle.ing_program.specs.Starting.{BeginSettings, GiveSettings, InManner, IsOverFolder, NamesFile, is_alone, manner_in, manner_of, started_by}
 

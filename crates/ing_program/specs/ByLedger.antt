@@ -21,20 +21,20 @@ use Rattle.ing_limits.specs.Ranges.{rules_for}
 use Rattle.ing_parts.specs.declared.found.Found.{Found}
 use Rattle.ing_parts.specs.Answers.{StandApart, precedes}
 use Rattle.ing_parts.specs.Parts.{is_within}
-use Rattle.ing_query.specs.declared.fault.QueryFault.TheVariants as queries
-use Rattle.ing_durable.specs.Kept.{Replays}
-use Rattle.ing_shard.specs.Contents.{stored_count, stream_of}
+use Rattle.ing_session.specs.QueryFault.TheVariants as queries
+use Rattle.ing_node.specs.Kept.{Replays}
+use Rattle.ing_node.specs.Contents.{stored_count, stream_of}
 use Rattle.ing_tally.specs.Books.{amount_of}
 use Rattle.ing_tally.specs.declared.counts.Counts.{Counts}
-use Rattle.ing_flush.specs.Tallies.{amount_at}
-use Rattle.ing_node.specs.declared.fault.NodeFault.{NodeFault}
-use Rattle.ing_node.specs.declared.fault.NodeFault.TheVariants as node
+use Rattle.ing_node.specs.Tallies.{amount_at}
+use Rattle.ing_node.specs.NodeFault.{NodeFault}
+use Rattle.ing_node.specs.NodeFault.TheVariants as node
 use Rattle.ing_node.specs.declared.query.AnswerFault.{AnswerFault}
 use Rattle.ing_node.specs.declared.query.AnswerFault.TheVariants.{Node, Query}
 use Rattle.ing_node.specs.declared.report.CloseRefusal.{CloseRefusal}
-use Rattle.ing_node.specs.declared.report.ShardReport.{ShardReport}
+use Rattle.ing_tally.specs.declared.report.ShardReport.{ShardReport}
 use Rattle.ing_node.specs.AnswerFaults.{answer_refusal_of}
-use Rattle.ing_node.specs.Faults.{refusal_of}
+use Rattle.ing_node.specs.NodeFaults.{refusal_of}
 use Rattle.ing_node.specs.Boards.{IsNoLess, no_counts}
 use Rattle.ing_node.specs.Pushes.{AreJudged, IsPushRefusal}
 use Rattle.ing_node.specs.Queries.{AreSelected}

@@ -5,7 +5,7 @@ use Rattle.ing_limits.specs.Settings.{StoreSettings}
 use Rattle.ing_tally.specs.Books.{amount_of}
 use Rattle.ing_tally.specs.Counts.{ReaderState}
 use Rattle.ing_tally.specs.declared.counts.Counts.{Counts}
-use Rattle.ing_flush.specs.declared.worker.Worker.{Worker}
+use Rattle.ing_node.specs.Worker.{Worker}
 use Rattle.ing_node.specs.Boards.{IsNoLess, known_at}
 use Rattle.ing_node.specs.Diaries.{PusherState}
 use Rattle.ing_session.specs.Replies.{board_data}

@@ -6,7 +6,7 @@ use Rattle.ing_session.specs.ByRows.{by_rows}
 use Rattle.ing_session.specs.Endings.{IsNotRecovered}
 use Rattle.ing_session.specs.Manners.{Manner}
 use Rattle.ing_session.specs.declared.ending.Ending.{Ending}
-use Rattle.ing_session.specs.declared.ending.Ending.TheVariants.{NoFolder, NoObjects}
+use Rattle.ing_session.specs.declared.ending.Ending.TheVariants.{NoFolder, NoObjects, FolderInUse, MissingLog}
 use Rattle.ing_program.specs.ByLedger.{Began, began_new, by_ledger}
 
 -- the settings with which the program starts by the bytes of its settings file: what is not UTF-8 is no TOML
@@ -51,6 +51,7 @@ GiveSettings words P =
 abbrev pub BeginSettings : List (List ℕ) → Type 0
 BeginSettings words = (file : List ℕ) × NamesFile words file × (settings : StoreSettings) × (started_by file ≡ Ok settings)
 
--- the folder was not opened, or a shard was not made again from its log
+-- the folder was not opened, is in use, or lacks a log, or a shard was not made again from its log
 abbrev pub IsOfFolder : Ending → Type 0
-IsOfFolder ending = (ending ≡ NoFolder) ⊎ (ending ≡ NoObjects) ⊎ IsNotRecovered ending
+IsOfFolder ending =
+    (ending ≡ NoFolder) ⊎ (ending ≡ NoObjects) ⊎ (ending ≡ FolderInUse) ⊎ (ending ≡ MissingLog) ⊎ IsNotRecovered ending

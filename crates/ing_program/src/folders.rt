@@ -1,17 +1,39 @@
 //! What lies in a folder: the logs of shards, and a store.
 ghost use Rattle.std.specs.Prelude.{◌≡◌, ◌+◌, ◌<◌, ◌^◌, ◌⊎◌, IfErr, IfOk, vec_len};
 ghost use Rattle.ing_session.specs.declared.ending.Ending.{Ending};
+ghost use Rattle.ing_program.specs.Starting.{IsOfFolder};
 
-use ing_folder::{FolderFault, FolderLog, FolderStore};
+use ing_folder::{FolderFault, FolderHold, FolderLog, FolderStore, HoldFault};
+use ing_limits::Settings;
+use ing_node::RecoverFault;
 use ing_session::Ending;
 use ing_store::StoreEnd;
 use ing_wal::LogDisk;
 use std::alloc::Global;
+use std::fs::File;
 use std::rt::Files;
 
 /// What opens logs, D, and ends of a store, E, that lie in folders.
 pub trait Folders<D: LogDisk, E: StoreEnd> {
     ghost use Rattle.std.specs.Prelude.{◌≡◌, IfOk};
+
+    /// What keeps a folder for one program, as long as it stands.
+    type Hold: Drop;
+
+    /// Takes a folder for this program, which works with the shards and sizes of these settings; it is made where it is absent. Errors
+    /// as `FolderHold::take`.
+    fn hold(
+        &self,
+        alloc: Global,
+        folder: &str,
+        settings: &Settings,
+    ) -> Result<Self::Hold, HoldFault>;
+
+    /// Whether nothing lay in the folder when it was taken.
+    fn is_fresh(&self, hold: &Self::Hold) -> bool;
+
+    /// Notes in a folder what it was begun with, where that does not stand there yet.
+    fn note(&self, hold: &mut Self::Hold) -> Result<(), FolderFault>;
 
     /// The log in the file of this name; what is absent is made. `Failed` where the file system failed.
     fn log(&self, alloc: Global, folder: &str, name: &str) -> Result<D, FolderFault>;
@@ -35,7 +57,27 @@ impl<'a, R: Files + AllocGlobal> Disk<'a, R> {
     }
 }
 
-impl<'a, R: Files + AllocGlobal> Folders<FolderLog<'a, R>, FolderStore<'a, R>> for Disk<'a, R> {
+impl<'a, R: Files<File = File> + AllocGlobal> Folders<FolderLog<'a, R>, FolderStore<'a, R>>
+    for Disk<'a, R> {
+    type Hold = FolderHold<'a, R>;
+
+    fn hold(
+        &self,
+        alloc: Global,
+        folder: &str,
+        settings: &Settings,
+    ) -> Result<FolderHold<'a, R>, HoldFault> {
+        FolderHold::take(self.rt, alloc, folder, settings)
+    }
+
+    fn is_fresh(&self, hold: &FolderHold<'a, R>) -> bool {
+        hold.is_fresh()
+    }
+
+    fn note(&self, hold: &mut FolderHold<'a, R>) -> Result<(), FolderFault> {
+        hold.note()
+    }
+
     fn log(
         &self,
         alloc: Global,
@@ -52,6 +94,56 @@ impl<'a, R: Files + AllocGlobal> Folders<FolderLog<'a, R>, FolderStore<'a, R>> f
         number: u32,
     ) -> Result<FolderStore<'a, R>, FolderFault> {
         FolderStore::open(self.rt, alloc, folder, number)
+    }
+}
+
+/// Takes a folder for this program, with the shards and sizes of its settings. `FolderInUse` where another program has it; `NotRecovered`
+/// where it was begun with others; `MissingLog` where it was begun and lacks a log; `NoFolder` where it cannot be taken, and `NoMemory`.
+pub(crate) fn hold_of<D: LogDisk, E: StoreEnd, X: Folders<D, E>>(
+    alloc: Global,
+    folders: &X,
+    folder: &str,
+    settings: &Settings,
+) -> Result<X::Hold, Ending>
+    ensures ending { IfErr result (λ e. (e ≡ Ending.NoMemory) ⊎ IsOfFolder e) }
+{
+    match folders.hold(alloc, folder, settings) {
+        Ok(hold) => Ok(hold),
+        Err(HoldFault::NoMemory) => Err(Ending::NoMemory),
+        Err(HoldFault::Failed) => Err(Ending::NoFolder),
+        Err(HoldFault::InUse) => Err(Ending::FolderInUse),
+        Err(HoldFault::OtherSettings) => Err(Ending::NotRecovered(RecoverFault::OtherSettings)),
+        Err(HoldFault::MissingLog { .. }) => Err(Ending::MissingLog),
+    }
+}
+
+/// Notes in a folder what it is begun with, before anything is told of it, where nothing lay in it. `NoFolder` where that fails, and
+/// `NoMemory`.
+pub(crate) fn begin<D: LogDisk, E: StoreEnd, X: Folders<D, E>>(
+    folders: &X,
+    hold: &mut X::Hold,
+) -> Result<(), Ending>
+    ensures ending { IfErr result (λ e. (e ≡ Ending.NoMemory) ⊎ (e ≡ Ending.NoFolder)) }
+{
+    if !folders.is_fresh(hold) {
+        return Ok(());
+    }
+    match folders.note(hold) {
+        Ok(()) => Ok(()),
+        Err(FolderFault::NoMemory) => Err(Ending::NoMemory),
+        Err(FolderFault::Failed) => Err(Ending::NoFolder),
+    }
+}
+
+/// Notes the same in a folder of an earlier version behind a run that ended well: until then its logs may be of other settings. Where
+/// that fails the next run does it.
+pub(crate) fn conclude_folder<D: LogDisk, E: StoreEnd, X: Folders<D, E>>(
+    folders: &X,
+    hold: &mut X::Hold,
+    ended: &Result<(), Ending>,
+) {
+    if ended.is_ok() {
+        let _ = folders.note(hold);
     }
 }
 

@@ -13,3 +13,6 @@ pub use locked::Locked;
 pub use over::start_over;
 pub use program::{start, start_on};
 pub use shards::{run_locked, run_recovered, run_shards};
+
+// What its callers meet of the crates below.
+pub use ing_session::{Ending, conclude, run};

@@ -5,7 +5,7 @@ ghost use Rattle.ing_program.specs.Starting.{IsOfFolder, IsOverFolder, started_b
 ghost use Rattle.ing_session.specs.Endings.{IsNotOpened, ending_status, refusal_of};
 ghost use Rattle.ing_session.specs.Runs.{AnswersAll, AnswersFirstLines, AnswersFront, AnswersWhatWasRead};
 
-use crate::folders::{Folders, end_in, ends_in, logs_in};
+use crate::folders::{Folders, begin, conclude_folder, end_in, ends_in, hold_of, logs_in};
 use crate::program::settings_of_file;
 use crate::shards::run_recovered;
 use ing_session::Ending;
@@ -18,7 +18,10 @@ use std::thread::Threads;
 /// Runs by the settings that the bytes of a settings file give, over the logs and the store in a folder: the log of each shard is the
 /// file `wal-` and its number, and the objects of the store lie in the folder `objects`; what is absent is made. As `run_recovered`.
 ///
-/// `NotToml`, `UnknownSetting` and `BadSetting` as `start_on`; then `NoFolder` where a log cannot be opened, and `NoObjects` where the
+/// The folder is kept for this program until the run has ended, and what it was begun with stands in it.
+///
+/// `NotToml`, `UnknownSetting` and `BadSetting` as `start_on`; then `FolderInUse` where another program has the folder, `NotRecovered` where
+/// it was begun with other shards or sizes, and `MissingLog` where it was begun and lacks a log; then `NoFolder` where a log cannot be opened, and `NoObjects` where the
 /// folder of the objects cannot; then `NotRecovered`, as `run_recovered` says, and the others. Up to there nothing is written. `NoMemory`
 /// may stand in place of any. (Own.)
 pub fn start_over<
@@ -65,13 +68,17 @@ pub fn start_over<
 {
     let alloc = rt.alloc();
     let settings = settings_of_file(alloc, file)?;
+    let mut hold = hold_of(alloc, folders, folder, &settings)?;
     let logs = logs_in(alloc, folders, folder, settings.shards())?;
     let objects = format!(in alloc; "{folder}/objects")?;
     let (shards, flushers) = (settings.shards(), settings.flushers());
     let mut end = end_in(alloc, folders, objects.as_str(), 0)?;
     let ends = ends_in(alloc, folders, objects.as_str(), 1, flushers)?;
     let finders = ends_in(alloc, folders, objects.as_str(), flushers + 1, shards)?;
-    run_recovered(
+    begin(folders, &mut hold)?;
+    let ended = run_recovered(
         rt, alloc, reader, writer, &mut end, ends, settings, logs, finders,
-    )
+    );
+    conclude_folder(folders, &mut hold, &ended);
+    ended
 }

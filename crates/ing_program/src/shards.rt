@@ -1,7 +1,7 @@
 //! A run over shards behind locks.
 ghost use Rattle.std.specs.Prelude.{◌≡◌, ◌⊎◌, ◌<◌, IfErr, IfOk, IfSome, IsErrOf, IsTrue, List, OnOk, false, map, reverse, vec_len};
 ghost use Rattle.std.specs.List.{AllByRecursion};
-ghost use Rattle.ing_durable.specs.declared.recover_fault.RecoverFault.{RecoverFault};
+ghost use Rattle.ing_node.specs.RecoverFault.{RecoverFault};
 ghost use Rattle.ing_node.specs.Begun.{HasTornLog};
 ghost use Rattle.ing_node.specs.Earlier.{earlier_of};
 ghost use Rattle.ing_node.specs.Names.{AreNamed};

@@ -9,7 +9,7 @@ use Rattle.ing_parts.specs.declared.snapshot.Snapshot.{Snapshot}
 use Rattle.ing_parts.specs.declared.snapshot.Source.{Source}
 use Rattle.ing_parts.specs.declared.snapshot.Source.TheVariants.{Block, Stored}
 use Rattle.ing_codec.specs.ChunkObjects.{ChunkObject}
-use Rattle.ing_parts.specs.declared.found.Order.{Order}
+use Rattle.ing_rows.specs.declared.order.Order.{Order}
 use Rattle.ing_parts.specs.Answers.{BestState, IsAnswer, Offers}
 use Rattle.ing_parts.specs.Listings.{Listed}
 use Rattle.ing_query.specs.declared.query.Waiting.{Waiting}

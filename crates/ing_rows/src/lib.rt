@@ -5,6 +5,7 @@ mod entry;
 mod fault;
 mod gauges;
 mod laws;
+mod order;
 mod place;
 mod placement;
 mod rules;
@@ -20,6 +21,7 @@ pub use laws::{
     flushes_have_no_order, flushes_keep_facts, order_does_not_count, parts_are_apart,
     pushes_keep_states_sound, seals_are_apart, seals_have_no_order, worked_rows,
 };
+pub use order::Order;
 pub use place::{Place, SealReason};
 pub use placement::shard_of;
 pub use rules::Rules;

@@ -13,7 +13,7 @@ use Rattle.ing_rows.specs.Steps.{Claims, Finishes, GivesBack}
 use Rattle.ing_store.specs.declared.fault.StoreFault.{StoreFault}
 use Rattle.ing_store.specs.declared.fault.StoreFault.TheVariants as faults
 use Rattle.ing_store.specs.StoreFaults.{IsCounted}
-use Rattle.ing_codec.specs.ChunkObjects.{chunk_text}
+use Rattle.ing_store.specs.ChunkObjects.{chunk_text}
 use Rattle.sha2.specs.Sha256.{sha256}
 use Rattle.ing_shard.specs.declared.sealing.Op.{Op}
 use Rattle.ing_shard.specs.Flights.{Flown, key_in, object_in}

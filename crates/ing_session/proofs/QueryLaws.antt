@@ -10,7 +10,7 @@ use Rattle.ing_labels.specs.declared.text_fault.TextFault.{TextFault}
 use Rattle.ing_labels.specs.declared.text_fault.TextFault.TheVariants as texts
 use Rattle.ing_limits.specs.Settings.{StoreSettings}
 use Rattle.ing_parts.specs.declared.found.Found.{Found}
-use Rattle.ing_parts.specs.declared.found.Order.{Order}
+use Rattle.ing_rows.specs.declared.order.Order.{Order}
 use Rattle.ing_parts.specs.declared.snapshot.Snapshot.{Snapshot}
 use Rattle.ing_parts.specs.Parts.{HasRows, found_at, wanted, within}
 use Rattle.ing_parts.specs.Answers.{IsAnswer, StandFor}

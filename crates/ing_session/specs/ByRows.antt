@@ -20,7 +20,7 @@ use Rattle.ing_limits.specs.Ranges.{rules_for}
 use Rattle.ing_shard.specs.declared.sealing.Op.{Op}
 use Rattle.ing_shard.specs.Contents.{stream_of, stored_count, listed_after}
 use Rattle.ing_shard.specs.Sealing.{ops_from}
-use Rattle.ing_node.specs.declared.report.ShardReport.{ShardReport}
+use Rattle.ing_tally.specs.declared.report.ShardReport.{ShardReport}
 use Rattle.ing_refusals.specs.declared.refusal.Refusal.TheVariants.{TooManyEntries, CounterFull}
 use Rattle.ing_refusals.specs.declared.refusal.Refusal.TheVariants as refusals
 use Rattle.ing_commands.specs.Commands.{Command, Push, Sweep, Flush, Gauges, Board, Checkpoint, Query}

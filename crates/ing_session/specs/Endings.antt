@@ -6,17 +6,17 @@ use Rattle.ing_refusals.specs.Refusals.{refusal_name}
 use Rattle.ing_limits.specs.Settings.{Refusal, not_toml, unknown_setting, bad_setting}
 use Rattle.ing_limits.specs.declared.fault.SettingsFault.{SettingsFault}
 use Rattle.ing_limits.specs.declared.fault.SettingsFault.TheVariants as settings
-use Rattle.ing_node.specs.Faults as node
-use Rattle.ing_node.specs.declared.fault.NodeFault.{NodeFault}
-use Rattle.ing_node.specs.declared.fault.NodeFault.TheVariants as node_faults
-use Rattle.ing_durable.specs.RecoverFaults.{recover_refusal_of}
-use Rattle.ing_durable.specs.declared.recover_fault.RecoverFault.{RecoverFault}
-use Rattle.ing_durable.specs.declared.recover_fault.RecoverFault.TheVariants as recover_faults
-use Rattle.ing_relist.specs.declared.fault.RelistFault.TheVariants as relist_faults
+use Rattle.ing_shard.specs.NodeFaults as node
+use Rattle.ing_shard.specs.declared.node_fault.NodeFault.{NodeFault}
+use Rattle.ing_shard.specs.declared.node_fault.NodeFault.TheVariants as node_faults
+use Rattle.ing_shard.specs.RecoverFaults.{recover_refusal_of}
+use Rattle.ing_shard.specs.declared.recover_fault.RecoverFault.{RecoverFault}
+use Rattle.ing_shard.specs.declared.recover_fault.RecoverFault.TheVariants as recover_faults
+use Rattle.ing_shard.specs.RelistFault.TheVariants as relist_faults
 use Rattle.ing_session.specs.declared.lines.LineError.{LineError}
 use Rattle.ing_session.specs.declared.lines.LineError.TheVariants as lines
 use Rattle.ing_session.specs.declared.ending.Ending.{Ending}
-use Rattle.ing_session.specs.declared.ending.Ending.TheVariants.{NoMemory, NotToml, UnknownSetting, BadSetting, InputFault, OutputFault, BadArguments, NoSettings, NotOpened, NoFolder, NoObjects, NotRecovered}
+use Rattle.ing_session.specs.declared.ending.Ending.TheVariants.{NoMemory, NotToml, UnknownSetting, BadSetting, InputFault, OutputFault, BadArguments, NoSettings, NotOpened, NoFolder, NoObjects, FolderInUse, MissingLog, NotRecovered}
 
 abbrev pub ending_refusal : Ending → table.Refusal
 ending_refusal NoMemory = refusals.NoMemory
@@ -30,10 +30,12 @@ ending_refusal NoSettings = refusals.NoSettings
 ending_refusal (NotOpened fault) = node.refusal_of fault
 ending_refusal NoFolder = refusals.LogFault
 ending_refusal NoObjects = refusals.Failed
+ending_refusal FolderInUse = refusals.FolderInUse
+ending_refusal MissingLog = refusals.MissingLog
 ending_refusal (NotRecovered fault) = recover_refusal_of fault
 
--- the exit status: 1 where arguments or settings are refused, 2 where input, output or a folder failed or a shard was not made
--- again, 3 where memory ran out or the ingester was not opened
+-- the exit status: 1 where arguments or settings are refused, 2 where input, output or a folder failed, the folder is in use or
+-- lacks a log, or a shard was not made again, 3 where memory ran out or the ingester was not opened
 abbrev pub ending_status : Ending → ℕ
 ending_status NoMemory = 3
 ending_status NotToml = 1
@@ -46,6 +48,8 @@ ending_status NoSettings = 1
 ending_status (NotOpened fault) = 3
 ending_status NoFolder = 2
 ending_status NoObjects = 2
+ending_status FolderInUse = 2
+ending_status MissingLog = 2
 ending_status (NotRecovered fault) = 2
 
 -- the exit status of the program
@@ -70,6 +74,8 @@ is_of_run NoSettings = false
 is_of_run (NotOpened fault) = false
 is_of_run NoFolder = false
 is_of_run NoObjects = false
+is_of_run FolderInUse = false
+is_of_run MissingLog = false
 is_of_run (NotRecovered fault) = false
 
 -- what it says of a settings text; the other endings say nothing of it
@@ -85,6 +91,8 @@ refusal_of NoSettings = None
 refusal_of (NotOpened fault) = None
 refusal_of NoFolder = None
 refusal_of NoObjects = None
+refusal_of FolderInUse = None
+refusal_of MissingLog = None
 refusal_of (NotRecovered fault) = None
 
 -- the ending where a line could not be read

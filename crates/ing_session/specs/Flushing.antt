@@ -1,7 +1,7 @@
 -- What becomes of the operations that a flush works off.
 use Rattle.std.specs.Prelude.{◌≡◌, ℕ, List, [], ◌∷◌, sum_by, slice_get, Option, Some, None}
 use Rattle.sha2.specs.Sha256.{sha256}
-use Rattle.ing_codec.specs.ChunkObjects.{chunk_text}
+use Rattle.ing_store.specs.ChunkObjects.{chunk_text}
 use Rattle.ing_rows.specs.declared.rules.Rules.{Rules}
 use Rattle.ing_rows.specs.Rows.{StreamKey, State, IsSame}
 use Rattle.ing_rows.specs.Events.{Event, Reply, Claim, Finish, GiveBack, Claimed, NothingToClaim, Finished, GivenBack, Step, Run}

@@ -15,3 +15,6 @@ pub mod Runs
 pub mod Unread
 pub mod Views
 pub mod Written
+-- what its clauses speak of in the crates below
+pub use Rattle.ing_query.specs.declared.fault.QueryFault
+pub use Rattle.ing_shard.specs.RelistFault

@@ -3,7 +3,7 @@ use Rattle.std.specs.Prelude.{ℕ, List, [], ◌∷◌, ◌++◌, map, codes, de
 use Rattle.serde_json.specs.Data.{Data, boolean, number, unsigned, string, array, object, no_members, member}
 use Rattle.serde_json.specs.View.{items_of}
 use Rattle.serde_json.specs.Written.{compact_text}
-use Rattle.ing_node.specs.declared.report.ShardReport.{ShardReport}
+use Rattle.ing_tally.specs.declared.report.ShardReport.{ShardReport}
 use Rattle.ing_refusals.specs.declared.refusal.Refusal.{Refusal}
 use Rattle.ing_refusals.specs.Refusals.{refusal_number, refusal_name}
 use Rattle.ing_parts.specs.declared.found.Found.{Found}

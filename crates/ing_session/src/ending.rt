@@ -3,11 +3,9 @@ ghost use Rattle.std.specs.Prelude.{◌≡◌};
 ghost use Rattle.ing_session.specs.Endings.{ending_refusal, ending_status};
 
 use crate::lines::LineError;
-use ing_durable::RecoverFault;
 use ing_limits::SettingsFault;
-use ing_node::NodeFault;
 use ing_refusals::Refusal;
-use ing_relist::RelistFault;
+use ing_shard::{NodeFault, RecoverFault, RelistFault};
 use std::alloc::{AllocError, AllocFailed};
 
 /// Why the program ended without a report. `name` is the dotted name of the setting, as `tenants.acme.max_line_size`.
@@ -35,6 +33,10 @@ pub enum Ending {
     NoFolder,
     /// The folder of the objects cannot be opened.
     NoObjects,
+    /// Another program works in the folder.
+    FolderInUse,
+    /// The folder was begun, and the log of a shard is not in it.
+    MissingLog,
     /// A shard was not made again from its log, before anything was read.
     NotRecovered(RecoverFault),
 }
@@ -56,12 +58,14 @@ impl Ending {
             Ending::NotOpened(fault) => fault.refusal(),
             Ending::NoFolder => Refusal::LogFault,
             Ending::NoObjects => Refusal::Failed,
+            Ending::FolderInUse => Refusal::FolderInUse,
+            Ending::MissingLog => Refusal::MissingLog,
             Ending::NotRecovered(fault) => fault.refusal(),
         }
     }
 
-    /// The exit status of the program: 1 where arguments or settings are refused, 2 where input, output or a folder failed or
-    /// a shard was not made again, 3 where memory ran out or the ingester was not opened (own). Takes no memory.
+    /// The exit status of the program: 1 where arguments or settings are refused, 2 where input, output or a folder failed, the
+    /// folder is in use or lacks a log, or a shard was not made again, 3 where memory ran out or the ingester was not opened (own). Takes no memory.
     pub fn status(&self) -> u8
         ensures { result ≡ ending_status self.now }
     {
@@ -75,6 +79,8 @@ impl Ending {
             | Ending::OutputFault
             | Ending::NoFolder
             | Ending::NoObjects
+            | Ending::FolderInUse
+            | Ending::MissingLog
             | Ending::NotRecovered(_) => 2,
             Ending::NoMemory | Ending::NotOpened(_) => 3,
         }

@@ -7,10 +7,10 @@ use Rattle.std.proofs.lemmas.List.Sums.{sum_by_push}
 use Rattle.ing_labels.specs.Canonical.{canonical_of}
 use Rattle.ing_labels.specs.Labels.{IsLabelSet}
 use Rattle.ing_rows.specs.Rows.{is_stored, same_stream}
-use Rattle.ing_sealed.specs.Slots.{Slot}
-use Rattle.ing_stream.specs.Contents.{flights_of}
-use Rattle.ing_stream.specs.Sums.{flying_in}
-use Rattle.ing_stream.proofs.Flying.{no_flights}
+use Rattle.ing_checkpoint.specs.Slots.{Slot}
+use Rattle.ing_checkpoint.specs.Contents.{flights_of}
+use Rattle.ing_checkpoint.specs.Sums.{flying_in}
+use Rattle.ing_checkpoint.proofs.Flying.{no_flights}
 use Rattle.ing_shard.specs.OneStream.{Stream}
 use Rattle.ing_shard.specs.Books.{Count, with_accepted}
 use Rattle.ing_shard.specs.Contents.{chunks_flying}

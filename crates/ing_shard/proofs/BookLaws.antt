@@ -6,15 +6,15 @@ use Rattle.std.proofs.lemmas.List.Elements.{All-head, All-tail, filter-append}
 use Rattle.std.proofs.lemmas.List.Sums.{sum_by-append, sum_by-cons}
 use Rattle.std.proofs.lemmas.List.Sorted.{length_permutation}
 use Rattle.ing_rows.specs.Rows.{Row, is_in_flight, is_stored}
-use Rattle.ing_sealed.specs.Slots.{Slot}
-use Rattle.ing_stream.specs.Contents.{flights_of}
-use Rattle.ing_stream.specs.Sums.{MoreAreStored, MoreFly, flying_in, stored_in}
-use Rattle.ing_stream.proofs.Flying.{no_flights}
-use Rattle.ing_stream.proofs.GaugeLaws.{gauge_claimed}
+use Rattle.ing_checkpoint.specs.Slots.{Slot}
+use Rattle.ing_checkpoint.specs.Contents.{flights_of}
+use Rattle.ing_checkpoint.specs.Sums.{MoreAreStored, MoreFly, flying_in, stored_in}
+use Rattle.ing_checkpoint.proofs.Flying.{no_flights}
+use Rattle.ing_checkpoint.proofs.GaugeLaws.{gauge_claimed}
 use Rattle.ing_shard.specs.OneStream.{Stream}
 use Rattle.ing_tally.specs.Books.{BookState}
 use Rattle.ing_chunk.specs.Chunks.{ChunkContents, IsWhole, count_in, in_blocks}
-use Rattle.ing_sealed.proofs.JoinLaws.{some_block}
+use Rattle.ing_checkpoint.proofs.JoinLaws.{some_block}
 use Rattle.ing_shard.specs.Books.{BookStates, Count, lent, raised, told_by, with_accepted, with_flown, with_stored}
 use Rattle.ing_shard.specs.Contents.{BooksCount, Contents, chunks_flying, flying_count, stored_count}
 use Rattle.ing_shard.specs.declared.streams.Streams.{Streams}

@@ -3,8 +3,8 @@ use Rattle.std.proofs.Common.{◌≡◌, ℕ, ◌+◌, ◌^◌, ◌<◌, ◌≤�
 use Rattle.std.proofs.lemmas.List.Elements.{All-push}
 use Rattle.std.proofs.lemmas.List.{get_or_at, length-take-le, set_at, take-append-drop}
 use Rattle.ing_rows.specs.Rows.{StreamKey, empty_state, is_stored}
-use Rattle.ing_stream.specs.Sums.{gauge_at}
-use Rattle.ing_stream.proofs.GaugeLaws.{gauge_claimed}
+use Rattle.ing_checkpoint.specs.Sums.{gauge_at}
+use Rattle.ing_checkpoint.proofs.GaugeLaws.{gauge_claimed}
 use Rattle.ing_shard.specs.OneStream.{Stream}
 use Rattle.ing_shard.specs.Flights.{AreApart}
 use Rattle.ing_shard.specs.declared.streams.Streams.{Streams}

@@ -14,9 +14,9 @@ use Rattle.ing_rows.specs.Steps.{Claims, ClaimsNone, Finishes, GivesBack, IsClai
 use Rattle.ing_rows.specs.Turns.{beside}
 use Rattle.ing_chunk.specs.declared.numbered.Numbered.{Numbered}
 use Rattle.ing_chunk.specs.Chunks.{ChunkContents, row_in, stream_state}
-use Rattle.ing_sealed.specs.Slots.{Slot, slot_at, slots_state, NoneInFlight}
-use Rattle.ing_stream.specs.Contents.{flight_at, flights_of}
-use Rattle.ing_stream.proofs.Rows.{memory_all, slots_all}
+use Rattle.ing_checkpoint.specs.Slots.{Slot, slot_at, slots_state, NoneInFlight}
+use Rattle.ing_checkpoint.specs.Contents.{flight_at, flights_of}
+use Rattle.ing_checkpoint.proofs.StreamRows.{memory_all, slots_all}
 use Rattle.ing_shard.specs.OneStream.{Stream}
 use Rattle.ing_shard.specs.Flights.{AreApart, flights_in, flights_among}
 use Rattle.ing_shard.specs.Streams.{key_of, part_of, whole, AreDistinct}

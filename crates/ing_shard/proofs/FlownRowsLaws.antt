@@ -11,8 +11,8 @@ use Rattle.ing_rows.specs.declared.place.Place.{Place}
 use Rattle.ing_rows.specs.declared.place.Place.TheVariants.{Flight}
 use Rattle.ing_rows.specs.Rows.{StreamKey, Row, is_flight}
 use Rattle.ing_chunk.specs.Chunks.{ChunkContents, block_rows, stream_state}
-use Rattle.ing_sealed.specs.Slots.{NoneInFlight, Slot, at_place, slot_at, slot_rows, slots_state}
-use Rattle.ing_stream.specs.Contents.{flights_of}
+use Rattle.ing_checkpoint.specs.Slots.{NoneInFlight, Slot, at_place, slot_at, slot_rows, slots_state}
+use Rattle.ing_checkpoint.specs.Contents.{flights_of}
 use Rattle.ing_shard.specs.OneStream.{Stream}
 use Rattle.ing_shard.specs.Flights.{AreApart, FliesAs, Flown, flights_among, flights_in, key_in}
 use Rattle.ing_shard.specs.Streams.{FliesAmong, key_of, part_of, slots_of, whole}

@@ -10,7 +10,7 @@ use Rattle.ing_rows.specs.Rows.{StreamKey, is_stored}
 use Rattle.ing_rows.specs.Steps.{Claims}
 use Rattle.ing_shard.specs.OneStream.{Stream}
 use Rattle.ing_rows.specs.declared.place.Place.TheVariants.{Flight}
-use Rattle.ing_sealed.specs.Slots.{slot_at}
+use Rattle.ing_checkpoint.specs.Slots.{slot_at}
 use Rattle.ing_shard.specs.Flights.{AreApart, Flown, IsAt, flights_among, flights_in, key_in}
 use Rattle.ing_shard.specs.declared.streams.Streams.{Streams}
 use Rattle.ing_rows.specs.declared.gauges.Gauges.{Gauges}

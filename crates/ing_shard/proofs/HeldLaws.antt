@@ -6,7 +6,7 @@ use Rattle.ing_labels.specs.Canonical.{canonical_of}
 use Rattle.ing_labels.specs.Labels.{IsLabelSet}
 use Rattle.ing_rows.specs.Rows.{State, empty_state}
 use Rattle.ing_rows.specs.Turns.{beside}
-use Rattle.ing_stream.specs.Contents.{flights_of}
+use Rattle.ing_checkpoint.specs.Contents.{flights_of}
 use Rattle.ing_shard.specs.OneStream.{Stream}
 use Rattle.ing_shard.specs.Flights.{AreApart, flights_among, flights_in}
 use Rattle.ing_shard.specs.declared.streams.Streams.{Streams}

@@ -6,7 +6,7 @@ use Rattle.std.proofs.lemmas.Option.{same_Some, slice_get-map}
 use Rattle.std.specs.Option.{option_map}
 use Rattle.ing_rows.specs.declared.place.Place.TheVariants.{Flight}
 use Rattle.ing_rows.specs.Rows.{StreamKey, same_stream}
-use Rattle.ing_sealed.specs.Slots.{slot_at}
+use Rattle.ing_checkpoint.specs.Slots.{slot_at}
 use Rattle.ing_shard.specs.OneStream.{Stream}
 use Rattle.ing_shard.specs.Flights.{Flown, IsAt, key_in}
 use Rattle.ing_shard.specs.Streams.{AreDistinct, FliesAmong, key_of, position_of, slots_of}

@@ -15,7 +15,7 @@ use Rattle.ing_rows.specs.Steps.{due_of, seal_of, sealed_by}
 use Rattle.ing_rows.specs.Turns.{NoneMarked}
 use Rattle.ing_logged.specs.LoggedRecords.{StreamSeal}
 use Rattle.ing_replay.specs.Records.{names_of}
-use Rattle.ing_stream.specs.Contents.{StreamContents, named_as}
+use Rattle.ing_checkpoint.specs.Contents.{StreamContents, named_as}
 use Rattle.ing_shard.specs.declared.sealing.Op.{Op}
 use Rattle.ing_shard.specs.declared.sealing.Sealing.{Sealing}
 use Rattle.ing_shard.specs.declared.sealing.Sealing.TheVariants.{Due, Forced}

@@ -6,9 +6,9 @@ use Rattle.ing_rows.specs.declared.place.Place.TheVariants.{Head, Block}
 use Rattle.ing_rows.specs.Rows.{StreamKey, Row, Mark, is_stored}
 use Rattle.ing_chunk.specs.declared.numbered.Numbered.{Numbered}
 use Rattle.ing_chunk.specs.Chunks.{ChunkContents, row_in, mark_of, stream_state}
-use Rattle.ing_sealed.specs.Slots.{Slot, slots_state}
-use Rattle.ing_stream.specs.Contents.{StreamContents, whole_state}
-use Rattle.ing_stream.proofs.Rows.{memory_all, memory_marked, slots_all, slots_marked}
+use Rattle.ing_checkpoint.specs.Slots.{Slot, slots_state}
+use Rattle.ing_checkpoint.specs.Contents.{StreamContents, whole_state}
+use Rattle.ing_checkpoint.proofs.StreamRows.{memory_all, memory_marked, slots_all, slots_marked}
 
 pub all_of_all : {X : Type 0} (P : X → Type 0) → ((x : X) → P x) → (xs : List X) → All P xs
 all_of_all P h [] = All-nil P

@@ -6,8 +6,8 @@ use Rattle.std.proofs.lemmas.Grind.{flat_map-append}
 use Rattle.std.proofs.lemmas.List.{reverse-append}
 use Rattle.std.proofs.lemmas.List.Elements.{filter-append, All-weaker}
 use Rattle.std.proofs.lemmas.List.Sorted.{IsPermutation-append_comm, IsPermutation-append_right, IsPermutation-refl, IsPermutation-trans}
-use Rattle.ing_parts.specs.declared.found.Order.{Order}
-use Rattle.ing_parts.specs.declared.found.Order.TheVariants.{Forward, Backward}
+use Rattle.ing_rows.specs.declared.order.Order.{Order}
+use Rattle.ing_rows.specs.declared.order.Order.TheVariants.{Forward, Backward}
 use Rattle.ing_rows.specs.Rows.{StreamKey, Row}
 use Rattle.ing_parts.specs.declared.snapshot.Snapshot.{Snapshot}
 use Rattle.ing_parts.specs.Answers.{AreSomeOf, StandFor}

@@ -6,8 +6,8 @@ use Rattle.std.proofs.lemmas.Option.{same_Some}
 use Rattle.ing_rows.specs.declared.place.Place.TheVariants.{Flight}
 use Rattle.ing_rows.specs.Rows.{StreamKey}
 use Rattle.ing_chunk.specs.Chunks.{ChunkContents}
-use Rattle.ing_sealed.specs.Slots.{Slot, slot_at}
-use Rattle.ing_stream.specs.Contents.{OthersStayInFlight, StayInFlight}
+use Rattle.ing_checkpoint.specs.Slots.{Slot, slot_at}
+use Rattle.ing_checkpoint.specs.Contents.{OthersStayInFlight, StayInFlight}
 use Rattle.ing_shard.specs.OneStream.{Stream}
 use Rattle.ing_shard.specs.Flights.{Flown, flights_among, flights_in, key_in}
 use Rattle.ing_shard.specs.Streams.{FliesAmong, OthersStayAmong, StayAmong, key_of, slots_of}

@@ -10,10 +10,10 @@ use Rattle.ing_limits.specs.Coded.{settings_code}
 use Rattle.ing_shard.specs.Books.{BookStates}
 use Rattle.ing_shard.specs.Contents.{Contents}
 use Rattle.ing_chunk.specs.Chunks.{ChunkContents}
-use Rattle.ing_sealed.specs.Slots.{Slot}
+use Rattle.ing_checkpoint.specs.Slots.{Slot}
 use Rattle.ing_shard.specs.Flights.{Flown}
 use Rattle.ing_shard.specs.OneStream.{Stream}
-use Rattle.ing_stream.specs.Contents.{StreamContents}
+use Rattle.ing_checkpoint.specs.Contents.{StreamContents}
 
 -- contents are stored as settings, number, streams, sealed chunks, state and books
 abbrev pub contents_code : Coded (List StreamKey) → Coded (List (List Slot)) → Coded State → Coded BookStates → Coded Contents

@@ -8,8 +8,8 @@ use Rattle.ing_rows.specs.Placement.{shard_of}
 use Rattle.ing_rows.specs.Events.{Reply}
 use Rattle.ing_rows.specs.Events as events
 use Rattle.ing_limits.specs.Settings.{StoreSettings}
-use Rattle.ing_sealed.specs.Slots.{Slot}
-use Rattle.ing_stream.specs.Contents.{flights_of}
+use Rattle.ing_checkpoint.specs.Slots.{Slot}
+use Rattle.ing_checkpoint.specs.Contents.{flights_of}
 use Rattle.ing_tally.specs.Books.{ShareState}
 use Rattle.ing_shard.specs.Books.{BookStates, names_of}
 use Rattle.ing_shard.specs.declared.fault.PushFault.{PushFault}

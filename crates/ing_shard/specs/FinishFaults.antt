@@ -3,7 +3,7 @@ use Rattle.std.specs.Prelude.{◌≡◌}
 use Rattle.ing_refusals.specs.declared.refusal.Refusal.{Refusal}
 use Rattle.ing_refusals.specs.declared.refusal.Refusal.TheVariants as refusal
 use Rattle.ing_tally.specs.Books.{ShareState}
-use Rattle.ing_sealed.specs.declared.uploads.Flushed.{Flushed}
+use Rattle.ing_checkpoint.specs.Flushed.{Flushed}
 use Rattle.ing_shard.specs.declared.claimed.FinishFault.{FinishFault}
 use Rattle.ing_shard.specs.declared.claimed.FinishFault.TheVariants.{NoMemory, Stranger}
 use Rattle.ing_shard.specs.Flights.{Flown}

@@ -9,14 +9,14 @@ use Rattle.ing_rows.specs.declared.place.Place.TheVariants.{Flight}
 use Rattle.ing_rows.specs.Rows.{StreamKey, Row, State, is_flight}
 use Rattle.ing_rows.specs.Claims.{claimable_count}
 use Rattle.ing_chunk.specs.Chunks.{ChunkContents, block_rows, in_blocks}
-use Rattle.ing_codec.specs.ChunkObjects.{ChunkObject, chunk_text}
-use Rattle.ing_codec.specs.ChunkReading.{chunk_object}
-use Rattle.ing_codec.specs.ObjectNames.{chunk_name, row_name}
-use Rattle.ing_codec.specs.RowObjects.{IsExtentOf, row_object, row_text}
-use Rattle.ing_codec.specs.declared.index_row.Extent.{Extent}
+use Rattle.ing_store.specs.ChunkObjects.{ChunkObject, chunk_text}
+use Rattle.ing_store.specs.ChunkReading.{chunk_object}
+use Rattle.ing_store.specs.ObjectNames.{chunk_name, row_name}
+use Rattle.ing_store.specs.RowObjects.{IsExtentOf, row_object, row_text}
+use Rattle.ing_store.specs.Extent.{Extent}
 use Rattle.ing_parts.specs.Listings.{Listed}
-use Rattle.ing_sealed.specs.Slots.{Slot, slot_at}
-use Rattle.ing_stream.specs.Contents.{flights_of}
+use Rattle.ing_checkpoint.specs.Slots.{Slot, slot_at}
+use Rattle.ing_checkpoint.specs.Contents.{flights_of}
 use Rattle.ing_shard.specs.Contents.{Contents, stream_of}
 use Rattle.ing_shard.specs.OneStream.{Stream}
 

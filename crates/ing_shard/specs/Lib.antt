@@ -3,6 +3,9 @@ pub mod Coded
 pub mod Contents
 pub mod Faults
 pub mod FinishFaults
+pub mod NodeFaults
+pub mod PushFaults
+pub mod RecoverFaults
 pub mod JudgedPushes
 pub mod KeptFacts
 pub mod OneStream
@@ -13,6 +16,12 @@ pub mod Streams
 pub mod Picked
 pub mod Snapshots
 pub mod Sealing
+pub mod Writable
+pub mod Checkpointed
+pub mod OneRecovery
+pub mod Recovered
+pub mod ReplayFaults
+-- what its clauses speak of in the crates below
 pub use Rattle.ing_rows.specs.Rows
 pub use Rattle.ing_rows.specs.Verdicts
 pub use Rattle.ing_rows.specs.Steps
@@ -24,8 +33,7 @@ pub use Rattle.ing_labels.specs.Labels
 pub use Rattle.ing_labels.specs.Selectors
 pub use Rattle.ing_limits.specs.Settings
 pub use Rattle.ing_limits.specs.Ranges
-pub mod Writable
-pub mod Checkpointed
-pub mod OneRecovery
-pub mod Recovered
-pub mod ReplayFaults
+pub use Rattle.ing_checkpoint.specs.Flushed
+pub use Rattle.ing_checkpoint.specs.Meaning
+pub use Rattle.ing_checkpoint.specs.RelistFault
+pub use Rattle.ing_checkpoint.specs.RelistFaults

@@ -1,8 +1,8 @@
 -- What is read off the streams of a shard for a query.
 use Rattle.std.specs.Prelude.{ℕ, List, [], Option, Some, None, reverse, slice_get}
 use Rattle.std.specs.List.{flat_map}
-use Rattle.ing_parts.specs.declared.found.Order.{Order}
-use Rattle.ing_parts.specs.declared.found.Order.TheVariants.{Forward, Backward}
+use Rattle.ing_rows.specs.declared.order.Order.{Order}
+use Rattle.ing_rows.specs.declared.order.Order.TheVariants.{Forward, Backward}
 use Rattle.ing_rows.specs.Rows.{Row}
 use Rattle.ing_shard.specs.OneStream.{Stream}
 use Rattle.ing_shard.specs.Streams.{part_of}

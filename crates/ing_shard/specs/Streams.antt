@@ -15,9 +15,9 @@ use Rattle.ing_rows.specs.declared.place.Place.TheVariants.{Flight}
 use Rattle.ing_rows.specs.Steps.{Claims}
 use Rattle.ing_rows.specs.Turns.{beside, IsMarked}
 use Rattle.ing_chunk.specs.Chunks.{ChunkContents}
-use Rattle.ing_sealed.specs.Slots.{Slot, slot_at}
-use Rattle.ing_stream.specs.Contents.{flights_of, whole_state}
-use Rattle.ing_stream.specs.Sums.{flying_in}
+use Rattle.ing_checkpoint.specs.Slots.{Slot, slot_at}
+use Rattle.ing_checkpoint.specs.Contents.{flights_of, whole_state}
+use Rattle.ing_checkpoint.specs.Sums.{flying_in}
 use Rattle.ing_shard.specs.Books.{BookStates, Count, told_by}
 use Rattle.ing_shard.specs.Contents.{AreOwn, chunks_flying}
 use Rattle.ing_shard.specs.OneStream.{Stream}

@@ -6,12 +6,12 @@ ghost use Rattle.ing_refusals.specs.declared.refusal.Refusal.TheVariants as refu
 ghost use Rattle.ing_store.specs.StoreFaults.{IsCounted};
 ghost use Rattle.ing_shard.specs.Flights.{IsChunkUploaded, IsRowUploaded, IsUploaded, entries_in};
 
+use ing_checkpoint::{Flushed, upload, upload_chunk, upload_row};
 use ing_chunk::Chunk;
 use ing_labels::Labels;
 use ing_parts::Listing;
 use ing_refusals::Refusal;
 use ing_rows::Tenant;
-use ing_sealed::{Flushed, upload, upload_chunk, upload_row};
 use ing_store::{Receipt, StoreEnd, StoreFault};
 use ing_tally::{Share, Stranded};
 use std::alloc::Global;

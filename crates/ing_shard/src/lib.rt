@@ -10,6 +10,8 @@ mod judge;
 mod laws;
 mod listed;
 mod names;
+mod node_fault;
+mod recover_fault;
 mod recovery;
 mod replay_fault;
 mod replays;
@@ -27,7 +29,14 @@ pub use fault::PushFault;
 pub use judge::JudgedPush;
 pub use laws::{an_only_shard_has_all, streams_are_picked};
 pub use listed::Listed;
+pub use node_fault::NodeFault;
+pub use recover_fault::RecoverFault;
 pub use recovery::{RecoveredShard, Recovery};
 pub use replay_fault::ReplayFault;
 pub use sealing::{Due, Op, Sealing};
 pub use shard::{Pushed, Shard};
+
+// What its callers meet of the crates below.
+pub use ing_checkpoint::{Flushed, RelistFault, relist};
+pub use ing_parts::Listing;
+pub use ing_postings::StreamNo;

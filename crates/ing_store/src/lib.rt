@@ -17,3 +17,6 @@ pub use memory_end::{Fuse, MemoryEnd};
 pub use memory_store::{MemoryObject, MemoryReceipt, MemoryStore};
 pub use store_end::{Receipt, StoreEnd};
 pub use upload::{Uploaded, put_chunk, put_row};
+
+// What its callers meet of the crates below.
+pub use ing_codec::{CodecFault, Extent, IndexRow, chunk_name, decode_chunk};

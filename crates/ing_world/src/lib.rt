@@ -12,3 +12,6 @@ pub use event::{Object, Outcome, WorldEvent, names_are_short};
 pub use reply::Reply;
 pub use running::run_world;
 pub use world::World;
+
+// What its callers meet of the crates below.
+pub use ing_query::{QueryFault, read_part, run_query};

@@ -12,8 +12,7 @@ ghost use Rattle.ing_world.specs.Worlds.{opened, with_object};
 
 use crate::event::Object;
 use ing_parts::Listing;
-use ing_sealed::Flushed;
-use ing_shard::{FinishFault, Shard, Stray, Ticket};
+use ing_shard::{FinishFault, Flushed, Shard, Stray, Ticket};
 use ing_store::{Receipt, StoreEnd, StoreFault};
 use ing_tally::Share;
 use std::alloc::Global;

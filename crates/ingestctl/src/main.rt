@@ -2,7 +2,7 @@
 //! lists the commands. The exit status is 0, 1 where something that was looked at is wrong, and 2 where it could not be looked at.
 #![tactic(auto)]
 
-use ctl_program::{Status, run};
+use ctl_program::{Status, hold_streams, run};
 use std::io::BufReader;
 use std::process::ExitCode;
 use std::{env, io};
@@ -17,6 +17,8 @@ fn main(rt: HostRuntime) -> ExitCode {
 
 /// Passes the argument words and the standard streams on.
 fn started(rt: &HostRuntime) -> io::Result<Status> {
+    // No file that is read may take the place of a stream that is closed.
+    let _held = hold_streams(rt, rt.alloc())?;
     let mut words = Vec::new(rt.alloc());
     for word in env::args(rt)? {
         words.push(word)?;

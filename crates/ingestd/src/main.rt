@@ -1,9 +1,8 @@
 //! The program: the argument words and the standard streams, passed to a session.
 #![tactic(auto)]
 
-use ing_folder::{FolderLog, FolderStore};
-use ing_program::{Disk, start};
-use ing_session::{Ending, conclude};
+use ing_folder::{FolderLog, FolderStore, hold_streams};
+use ing_program::{Disk, Ending, conclude, start};
 use ing_store::DigestReceipt;
 use std::io::ErrorKind;
 use std::process::ExitCode;
@@ -14,21 +13,25 @@ type Log<'a> = FolderLog<'a, HostRuntime>;
 type End<'a> = FolderStore<'a, HostRuntime>;
 
 fn main(rt: HostRuntime) -> ExitCode {
-    let ended = match words(&rt) {
-        Ok(words) => {
-            let (mut reader, mut writer) = (rt.reader(), io::writer(&rt));
-            start::<_, Log<'_>, DigestReceipt, End<'_>, Disk<'_, HostRuntime>, _, _>(
-                &rt,
-                &Disk::new(&rt),
-                &words,
-                &mut reader,
-                &mut writer,
-            )
-        }
-        Err(ending) => Err(ending),
-    };
+    let ended = run(&rt);
     let errors = rt.stderr();
     ExitCode::from(conclude(ended, &mut io::writer(&errors)))
+}
+
+/// Passes argument words and standard streams on, none of which a file can take the place of.
+fn run(rt: &HostRuntime) -> Result<(), Ending> {
+    let Ok(_held) = hold_streams(rt, rt.alloc()) else {
+        return Err(Ending::OutputFault);
+    };
+    let words = words(rt)?;
+    let (mut reader, mut writer) = (rt.reader(), io::writer(rt));
+    start::<_, Log<'_>, DigestReceipt, End<'_>, Disk<'_, HostRuntime>, _, _>(
+        rt,
+        &Disk::new(rt),
+        &words,
+        &mut reader,
+        &mut writer,
+    )
 }
 
 /// The argument words behind the program's name.

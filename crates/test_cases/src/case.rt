@@ -1,8 +1,7 @@
 //! One case: what goes in, and what has to come out.
 use crate::summed::are_summed;
 use anyhow::Result;
-use ing_program::start_on;
-use ing_session::conclude;
+use ing_program::{conclude, start_on};
 use std::rt::Files;
 use std::sync::Wait;
 use std::thread::Threads;

@@ -5,8 +5,7 @@ mod flushes;
 mod folders;
 
 use ing_limits::Settings;
-use ing_program::{Disk, Folders, run_shards, start};
-use ing_session::{Ending, conclude, run};
+use ing_program::{Disk, Ending, Folders, conclude, run, run_shards, start};
 use ing_store::{Fuse, MemoryStore, Receipt, StoreEnd};
 use ing_wal::LogDisk;
 use std::cell::Cell;

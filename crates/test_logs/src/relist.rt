@@ -1,10 +1,11 @@
 //! A chunk that was put into a store in memory, and is listed again by what was noted of it, or refused.
-use ing_codec::{Extent, chunk_name, decode_chunk};
 use ing_labels::Labels;
-use ing_parts::Listing;
-use ing_relist::{RelistFault, relist};
 use ing_rows::{Entry, Line, Stamp, Tenant};
-use ing_store::{Fuse, MemoryEnd, MemoryReceipt, MemoryStore, StoreEnd, put_chunk};
+use ing_shard::{Listing, RelistFault, relist};
+use ing_store::{
+    Extent, Fuse, MemoryEnd, MemoryReceipt, MemoryStore, StoreEnd, chunk_name, decode_chunk,
+    put_chunk,
+};
 use std::alloc::Global;
 use std::process::Abort;
 use std::sync::Wait;

@@ -1,10 +1,11 @@
 //! Why a life of an ingester ends early.
 use ing_labels::{LabelFault, TextFault};
 use ing_limits::SettingsFault;
-use ing_node::{AnswerFault, CloseRefusal, NodeFault};
+use ing_node::{AnswerFault, CloseRefusal};
 use ing_query::QueryFault;
 use ing_refusals::Refusal;
 use ing_rows::RowFault;
+use ing_shard::NodeFault;
 use std::alloc::{AllocError, AllocFailed};
 use thiserror::Error;
 

@@ -3,9 +3,10 @@
 use crate::owned::Owned;
 use crate::tasks::{Task, do_in_shard};
 use ing_labels::Selector;
-use ing_parts::{Found, Order, Question, Snapshot};
-use ing_query::{QueryFault, run_query};
+use ing_parts::{Found, Question, Snapshot};
+use ing_rows::Order;
 use ing_store::{Fuse, MemoryReceipt, MemoryStore, Receipt, StoreEnd};
+use ing_world::{QueryFault, run_query};
 use std::alloc::{AllocError, Global};
 use std::process::Abort;
 use std::sync::Wait;

@@ -1,7 +1,8 @@
 //! Lists of events by lot.
 use crate::act::{Act, Logged};
 use anyhow::Result;
-use ing_parts::{Order, Question};
+use ing_parts::Question;
+use ing_rows::Order;
 use ing_world::{Object, Outcome};
 use std::alloc::Global;
 

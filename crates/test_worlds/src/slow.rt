@@ -4,9 +4,9 @@ use crate::act::{
 };
 use anyhow::{Context, Result, bail};
 use ing_limits::Settings;
-use ing_parts::{Order, Question};
+use ing_parts::Question;
 use ing_plain::Plain;
-use ing_rows::{Gauge, Gauges, Rules, Tenant, Verdict};
+use ing_rows::{Gauge, Gauges, Order, Rules, Tenant, Verdict};
 use ing_world::{Object, Outcome};
 use std::alloc::Global;
 

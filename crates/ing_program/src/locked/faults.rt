@@ -1,6 +1,6 @@
 //! The replies to what an ingester refuses.
 ghost use Rattle.std.specs.Prelude.{◌≡◌, IfOk, IsErr, None};
-ghost use Rattle.ing_node.specs.Faults.{refusal_of};
+ghost use Rattle.ing_node.specs.NodeFaults.{refusal_of};
 ghost use Rattle.ing_node.specs.AnswerFaults.{answer_refusal_of};
 ghost use Rattle.ing_session.specs.Replies.{fault_data};
 ghost use Rattle.ing_session.specs.Views.{reply_data, stream_data};

@@ -6,9 +6,8 @@ ghost use Rattle.ing_program.specs.Counted.{IsHeld, counted_by};
 ghost use Rattle.ing_session.specs.Endings.{IsNotOpened};
 
 use super::workers::workers_of;
-use ing_flush::{FreeGate, Worker};
 use ing_limits::Settings;
-use ing_node::{BoardReader, Flushing, Ingester, NodeName, Pusher, Sweeper};
+use ing_node::{BoardReader, Flushing, FreeGate, Ingester, NodeName, Pusher, Sweeper, Worker};
 use ing_session::Ending;
 use ing_store::{Receipt, StoreEnd};
 use ing_wal::LogDisk;

@@ -4,8 +4,7 @@ ghost use Rattle.ing_tally.specs.Books.{amount_of};
 ghost use Rattle.ing_node.specs.Names.{IsTallyOf};
 ghost use Rattle.ing_program.specs.Counted.{counted_by};
 
-use ing_flush::{FlusherTally, FreeGate, Worker};
-use ing_node::{Flushing, Ingester, NodeFault, NodeName, Sweeper};
+use ing_node::{FlusherTally, Flushing, FreeGate, Ingester, NodeFault, NodeName, Sweeper, Worker};
 use ing_store::{Receipt, StoreEnd};
 use ing_wal::LogDisk;
 use std::alloc::{AllocError, Global};

@@ -1,8 +1,7 @@
 //! Runs over a log and a store of which each call fails in turn: each time the report adds up.
 use super::{FLUSH, PUSHES, SWEEP};
 use ing_limits::Settings;
-use ing_program::run_recovered;
-use ing_session::Ending;
+use ing_program::{Ending, run_recovered};
 use ing_store::{Fuse, MemoryStore};
 use ing_wal::MemoryLog;
 use serde_json::Value;

@@ -1,8 +1,10 @@
 //! The program over a folder. One function owns the paths, and the others borrow them.
 use super::{FLUSH, PUSHES, is_refused, started, temporary};
+use ing_limits::Settings;
 use ing_program::{Disk, Folders};
 use ing_store::{Receipt, StoreEnd};
 use ing_wal::LogDisk;
+use std::os::unix::fs::{PermissionsExt, symlink};
 use std::process::Abort;
 use std::rt::Files;
 use std::sync::Wait;
@@ -127,7 +129,7 @@ fn damage(rt: &HostRuntime, folder: &str, shard: u32) -> Result<(), Fail> {
     Ok(())
 }
 
-/// A checkpoint is published over a folder; a changed log is refused; a path that is a file is no folder.
+/// A checkpoint is published over a folder; a changed log is refused, and a link in its place; a path that is a file is no folder.
 #[test]
 fn checkpoints_and_what_is_refused(rt: HostRuntime) -> Result<(), Fail> {
     let places = places_of(&rt, "refused")?;
@@ -142,6 +144,10 @@ fn checkpoints_and_what_is_refused(rt: HostRuntime) -> Result<(), Fail> {
     damage(&rt, folder, 0)?;
     assert!(rt; is_refused(&rt, &disk, &[settings, folder], 2, b"ingestd: DamagedLog\n")?);
     assert!(rt; is_refused(&rt, &disk, &[settings, settings], 2, b"ingestd: LogFault\n")?);
+    let log = log_of(&rt, folder, 0)?;
+    fs::remove_file(&rt, log.as_str())?;
+    symlink(&rt, settings, log.as_str())?;
+    assert!(rt; is_refused(&rt, &disk, &[settings, folder], 2, b"ingestd: LogFault\n")?);
     remove(&rt, &places)
 }
 
@@ -158,12 +164,12 @@ fn damage_two(rt: &HostRuntime, folder: &str) -> Result<(), Fail> {
     damage(rt, folder, 3)
 }
 
-/// Removes these two logs.
-fn remove_two(rt: &HostRuntime, folder: &str) -> Result<(), Fail> {
+/// Takes away what these two logs have.
+fn empty_two(rt: &HostRuntime, folder: &str) -> Result<(), Fail> {
     let second = log_of(rt, folder, 1)?;
     let last = log_of(rt, folder, 3)?;
-    fs::remove_file(rt, second.as_str())?;
-    fs::remove_file(rt, last.as_str())?;
+    fs::write(rt, second.as_str(), "")?;
+    fs::write(rt, last.as_str(), "")?;
     Ok(())
 }
 
@@ -187,7 +193,64 @@ fn several_shards_are_made_again(rt: HostRuntime) -> Result<(), Fail> {
             b"ingestd: OtherSettings\n"
         )?
     );
-    remove_two(&rt, folder)?;
+    empty_two(&rt, folder)?;
     assert!(rt; written(&rt, &disk, &places, "")?.as_str() == FOUR);
+    remove(&rt, &places)
+}
+
+/// Whether a run over the folder ends before it reads anything, with this name.
+fn is_kept_out<
+    H: Files + AllocGlobal + Threads + Wait + Sync,
+    D: LogDisk + Drop + Send,
+    Q: Receipt + Send + Sync,
+    E: StoreEnd<Receipt = Q> + Drop + Send,
+    X: Folders<D, E>,
+>(rt: &H, folders: &X, places: &Places, said: &[u8]) -> Result<bool, Fail> {
+    let words = [places.settings.as_str(), places.folder.as_str()];
+    is_refused(rt, folders, &words, 2, said)
+}
+
+/// Whether the owner alone may do anything with what lies at a path.
+fn is_private(rt: &HostRuntime, path: &str) -> Result<bool, Fail> {
+    Ok(fs::metadata(rt, path)?.permissions().mode() & 0o077 == 0)
+}
+
+/// A folder that a program holds keeps others out, and takes the next one as soon as it is let go. It is its owner's alone.
+#[test]
+fn one_program_has_a_folder(rt: HostRuntime) -> Result<(), Fail> {
+    let places = places_of(&rt, "held")?;
+    let disk = Disk::new(&rt);
+    assert!(rt; count_of(&rt, &disk, &places, PUSHES, "\"durable\":true")? == 2);
+    let settings = Settings::from_toml(rt.alloc(), "")?;
+    let hold = disk.hold(rt.alloc(), places.folder.as_str(), &settings)?;
+    assert!(rt; is_kept_out(&rt, &disk, &places, b"ingestd: FolderInUse\n")?);
+    drop(hold);
+    assert!(rt; is_private(&rt, places.folder.as_str())?);
+    assert!(rt; is_private(&rt, log_of(&rt, places.folder.as_str(), 0)?.as_str())?);
+    assert!(rt; count_of(&rt, &disk, &places, "", "\"recovered\":2")? == 1);
+    remove(&rt, &places)
+}
+
+/// A folder that was begun is started with the shards that it has, or with none; of an earlier version, without that note, it is taken
+/// as it is.
+#[test]
+fn a_folder_that_lacks_a_log_is_no_empty_shard(rt: HostRuntime) -> Result<(), Fail> {
+    let places = places_of(&rt, "lacking")?;
+    let (settings, folder) = (places.settings.as_str(), places.folder.as_str());
+    let disk = Disk::new(&rt);
+    assert!(rt; count_of(&rt, &disk, &places, PUSHES, "\"durable\":true")? == 2);
+    fs::write(&rt, settings, "shards = 4\n")?;
+    assert!(rt; is_kept_out(&rt, &disk, &places, b"ingestd: OtherSettings\n")?);
+    assert!(rt; !fs::exists(&rt, log_of(&rt, folder, 1)?.as_str())?);
+    fs::write(&rt, settings, "")?;
+    let log = fs::read(&rt, log_of(&rt, folder, 0)?.as_str())?;
+    fs::remove_file(&rt, log_of(&rt, folder, 0)?.as_str())?;
+    assert!(rt; is_kept_out(&rt, &disk, &places, b"ingestd: MissingLog\n")?);
+    assert!(rt; !fs::exists(&rt, log_of(&rt, folder, 0)?.as_str())?);
+    fs::write(&rt, log_of(&rt, folder, 0)?.as_str(), log.as_slice())?;
+    fs::write(&rt, format!(in rt.alloc(); "{folder}/lock")?.as_str(), "")?;
+    assert!(rt; count_of(&rt, &disk, &places, "", "\"recovered\":2")? == 1);
+    fs::remove_file(&rt, log_of(&rt, folder, 0)?.as_str())?;
+    assert!(rt; is_kept_out(&rt, &disk, &places, b"ingestd: MissingLog\n")?);
     remove(&rt, &places)
 }

@@ -1,6 +1,6 @@
 use Rattle.std.proofs.Common.{◌≡◌, ◌≤◌, ◌<◌, ℕ, Some, length, slice_get, vec_len}
 use Rattle.ing_tally.specs.Books.{amount_of}
-use Rattle.ing_node.specs.declared.report.ShardReport.{ShardReport}
+use Rattle.ing_tally.specs.declared.report.ShardReport.{ShardReport}
 use Rattle.ing_node.specs.Closing.{AreComplete, shares_at}
 use Rattle.ing_node.specs.Reports.{CountRowsFrom, IsGathered, recovered_at}
 use Rattle.ing_node.proofs.closing.gather_all.Given as goal

@@ -1,6 +1,6 @@
 use Rattle.std.proofs.Common.{◌≡◌, ◌≤◌, ◌<◌, ◌⊎◌, inl, inr, sym, subst, ◌∙◌, arith}
 use Rattle.ing_chunk.specs.Chunks.{IsSpanOf, greatest_of, least_of}
-use Rattle.ing_parts.specs.declared.found.Order.TheVariants.{Forward, Backward}
+use Rattle.ing_rows.specs.declared.order.Order.TheVariants.{Forward, Backward}
 use Rattle.ing_parts.specs.Parts.{AreFrom}
 use Rattle.ing_parts.proofs.OfferLaws.{offers_from, offers_missed}
 use Rattle.ing_parts.proofs.offers.is_passed_over.Goals as goal

@@ -8,7 +8,7 @@ use Rattle.ing_node.specs.Names.{AreAcceptedIn}
 use Rattle.ing_node.specs.Queries.{AreBelow, AreNoLess, IsAskedOf}
 use Rattle.ing_parts.specs.Answers.{StandApart}
 use Rattle.ing_parts.specs.Parts.{standing}
-use Rattle.ing_query.specs.Answers.{standing_in}
+use Rattle.ing_diary.specs.Answers.{standing_in}
 use Rattle.ing_node.proofs.Once.{once_more, standing_push}
 use Rattle.ing_node.proofs.PusherLaws.{amount_there, no_less_push, same_set}
 use Rattle.ing_node.proofs.ingester.Ingester.look_after.Goals as goal

@@ -2,7 +2,7 @@ use Rattle.std.proofs.Common.{◌≡◌, ◌++◌, ◌∙◌, ap, length, subst,
 use Rattle.std.proofs.lemmas.Slice.Zip.{AllZip-long}
 use Rattle.std.specs.Prelude.{drop, take}
 use Rattle.ing_tally.specs.Books.{amount_of}
-use Rattle.ing_flush.specs.Rounds.{IsRound, worker_of}
+use Rattle.ing_node.specs.Rounds.{IsRound, worker_of}
 use Rattle.ing_program.specs.Counted.{RisesBy, counted_by}
 use Rattle.ing_program.proofs.CountLaws.{sum_same, written_back}
 use Rattle.ing_program.proofs.locked.Locked.flush_queue.Goals as goal

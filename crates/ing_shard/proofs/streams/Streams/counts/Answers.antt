@@ -1,5 +1,5 @@
 use Rattle.std.proofs.Common.{◌≡◌, IfSome, get_or, length, ap, subst, sym, ◌∙◌}
-use Rattle.ing_stream.specs.Views.{chunk_count}
+use Rattle.ing_checkpoint.specs.Views.{chunk_count}
 use Rattle.ing_rows.specs.Rows.{chunk_starts}
 use Rattle.ing_shard.specs.OneStream.{Stream}
 use Rattle.ing_shard.specs.Streams.{key_of, part_of}

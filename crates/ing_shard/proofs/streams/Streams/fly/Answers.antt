@@ -2,10 +2,10 @@ use Rattle.std.proofs.Common.{◌≡◌, length, ◌∷◌, ◌++◌, None, Opti
 use Rattle.std.proofs.lemmas.Option.{slice_get_read}
 use Rattle.slab.specs.Slab.{Updates}
 use Rattle.ing_rows.specs.declared.place.Place.TheVariants.{Flight}
-use Rattle.ing_sealed.specs.Slots.{slot_at}
+use Rattle.ing_checkpoint.specs.Slots.{slot_at}
 use Rattle.ing_chunk.specs.Chunks.{in_blocks}
-use Rattle.ing_stream.specs.Contents.{flights_of}
-use Rattle.ing_stream.specs.Sums.{MoreFly}
+use Rattle.ing_checkpoint.specs.Contents.{flights_of}
+use Rattle.ing_checkpoint.specs.Sums.{MoreFly}
 use Rattle.ing_rows.specs.Rows.{IsSame}
 use Rattle.ing_rows.specs.Steps.{Claims, ClaimsNone}
 use Rattle.ing_shard.specs.Flights.{AreApart, flights_among}

@@ -1,9 +1,9 @@
 //! Why a call of an ingester is refused.
 ghost use Rattle.std.specs.Prelude.{◌≡◌};
-ghost use Rattle.ing_node.specs.Faults.{refusal_of};
+ghost use Rattle.ing_shard.specs.NodeFaults.{refusal_of};
 
+use crate::fault::PushFault;
 use ing_refusals::Refusal;
-use ing_shard::PushFault;
 use ing_tally::CounterFull;
 use std::alloc::AllocError;
 use thiserror::Error;
@@ -45,7 +45,7 @@ impl NodeFault {
 
 impl From<AllocError> for NodeFault {
     ghost use Rattle.std.specs.Prelude.{◌≡◌};
-    ghost use Rattle.ing_node.specs.declared.fault.NodeFault.TheVariants.{NoMemory};
+    ghost use Rattle.ing_shard.specs.declared.node_fault.NodeFault.TheVariants.{NoMemory};
 
     ghost from_gives = { λ _ fault. fault ≡ NoMemory };
 
@@ -56,7 +56,7 @@ impl From<AllocError> for NodeFault {
 
 impl From<CounterFull> for NodeFault {
     ghost use Rattle.std.specs.Prelude.{◌≡◌};
-    ghost use Rattle.ing_node.specs.declared.fault.NodeFault.TheVariants as node;
+    ghost use Rattle.ing_shard.specs.declared.node_fault.NodeFault.TheVariants as node;
 
     ghost from_gives = { λ _ fault. fault ≡ node.CounterFull };
 
@@ -67,7 +67,7 @@ impl From<CounterFull> for NodeFault {
 
 impl From<PushFault> for NodeFault {
     ghost use Rattle.std.specs.Prelude.{◌≡◌};
-    ghost use Rattle.ing_node.specs.PushFaults.{fault_of};
+    ghost use Rattle.ing_shard.specs.PushFaults.{fault_of};
 
     ghost from_gives = { λ push fault. fault ≡ fault_of push };
 

@@ -1,8 +1,8 @@
 -- Which fault of an ingester a shard's refusal of a push is (own).
 use Rattle.ing_shard.specs.declared.fault.PushFault.{PushFault}
 use Rattle.ing_shard.specs.declared.fault.PushFault.TheVariants as push
-use Rattle.ing_node.specs.declared.fault.NodeFault.{NodeFault}
-use Rattle.ing_node.specs.declared.fault.NodeFault.TheVariants as node
+use Rattle.ing_shard.specs.declared.node_fault.NodeFault.{NodeFault}
+use Rattle.ing_shard.specs.declared.node_fault.NodeFault.TheVariants as node
 
 -- the fault of the same name
 abbrev pub fault_of : PushFault → NodeFault
