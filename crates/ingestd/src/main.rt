@@ -4,6 +4,7 @@
 use ing_folder::{FolderLog, FolderStore, hold_streams};
 use ing_program::{Disk, Ending, conclude, start};
 use ing_store::DigestReceipt;
+use std::fs::File;
 use std::io::ErrorKind;
 use std::process::ExitCode;
 use std::{env, io};
@@ -13,25 +14,29 @@ type Log<'a> = FolderLog<'a, HostRuntime>;
 type End<'a> = FolderStore<'a, HostRuntime>;
 
 fn main(rt: HostRuntime) -> ExitCode {
-    let ended = run(&rt);
+    let ended = match prepared(&rt) {
+        Ok((words, _held)) => {
+            let (mut reader, mut writer) = (rt.reader(), io::writer(&rt));
+            start::<_, Log<'_>, DigestReceipt, End<'_>, Disk<'_, HostRuntime>, _, _>(
+                &rt,
+                &Disk::new(&rt),
+                &words,
+                &mut reader,
+                &mut writer,
+            )
+        }
+        Err(ending) => Err(ending),
+    };
     let errors = rt.stderr();
     ExitCode::from(conclude(ended, &mut io::writer(&errors)))
 }
 
-/// Passes argument words and standard streams on, none of which a file can take the place of.
-fn run(rt: &HostRuntime) -> Result<(), Ending> {
-    let Ok(_held) = hold_streams(rt, rt.alloc()) else {
-        return Err(Ending::OutputFault);
-    };
-    let words = words(rt)?;
-    let (mut reader, mut writer) = (rt.reader(), io::writer(rt));
-    start::<_, Log<'_>, DigestReceipt, End<'_>, Disk<'_, HostRuntime>, _, _>(
-        rt,
-        &Disk::new(rt),
-        &words,
-        &mut reader,
-        &mut writer,
-    )
+/// The argument words, and what keeps each standard stream that is closed from a file of the run.
+fn prepared(rt: &HostRuntime) -> Result<(Vec<String>, Vec<File>), Ending> {
+    match hold_streams(rt, rt.alloc()) {
+        Ok(held) => Ok((words(rt)?, held)),
+        Err(_) => Err(Ending::OutputFault),
+    }
 }
 
 /// The argument words behind the program's name.
