@@ -1,0 +1,149 @@
+"""`POST /loki/api/v1/push`."""
+import contextlib
+import time
+from collections.abc import Iterator
+
+from aiohttp import web
+
+from . import bodies, memory, verdicts
+from .bodies import MAX_BODY, Stream
+from .child import Child
+from .faults import Fault, unavailable
+from .known import Streams
+from .limits import AllLimits
+from .metrics import Metrics
+from .resent import Resent
+from .tenants import tenant_of
+
+# What a request takes beside its body, about, in bytes.
+REQUEST_BYTES = 1024
+# The program's refusals of a whole line that are the sender's fault: BadTenant, BadStamp, BadCommand, Metadata.
+SENDER_FAULTS = (30, 31, 33, 34)
+
+
+class Waiting:
+    """Bounds the bytes of the pushes that are read or wait for an answer."""
+
+    def __init__(self, most: int, metrics: Metrics):
+        self.most = most
+        self.metrics = metrics
+        self.bytes = 0
+
+    def take(self, count: int) -> int:
+        """Takes room for so many bytes, and gives their number. Raises Fault 503 where there is none."""
+        if self.bytes + count > self.most:
+            raise unavailable("too many pushes wait for an answer\n")
+        self.bytes += count
+        self.metrics.waiting_bytes.set(self.bytes)
+        return count
+
+    @contextlib.contextmanager
+    def room(self) -> Iterator[list[int]]:
+        """A list of what was taken, which is given back at the end."""
+        taken: list[int] = []
+        try:
+            yield taken
+        finally:
+            self.bytes -= sum(taken)
+            self.metrics.waiting_bytes.set(self.bytes)
+
+
+class Pushes:
+    """Answers pushes."""
+
+    def __init__(self, child: Child, limits: AllLimits, streams: Streams, resent: Resent, metrics: Metrics, settings):
+        self.child = child
+        self.limits = limits
+        self.streams = streams
+        self.resent = resent
+        self.metrics = metrics
+        self.drop_metadata = settings.structured_metadata == "drop"
+        self.waiting = Waiting(settings.max_waiting_bytes, metrics)
+        self.memory = memory.Memory(settings.remembered_answers)
+
+    async def handle(self, request: web.Request) -> web.Response:
+        """The answer to a push. Raises Fault: 400, 413 and 415 for its body, 503 where it has to wait."""
+        tenant = tenant_of(request)
+        kind = bodies.kind_of(request.headers.get("Content-Type"))
+        with self.waiting.room() as taken:
+            taken.append(self.waiting.take(REQUEST_BYTES))
+            body = await self._read(request, taken)
+            message = bodies.unpacked(body, request.headers.get("Content-Encoding", ""), kind)
+            taken.append(self.waiting.take(len(message)))
+            self.metrics.received_bytes.inc(len(message))
+            key = memory.key_of(tenant, kind, message)
+            answer, again = await self.memory.answer(key, lambda before: self._push(tenant, kind, message, before))
+        if again:
+            self.metrics.remembered.inc()
+        return web.Response(status=answer.status, text=answer.text or None)
+
+    async def _read(self, request: web.Request, taken: list[int]) -> bytes:
+        """The body of a request as it was sent. Raises Fault 413, and 503 where there is no room for it."""
+        if (request.content_length or 0) > MAX_BODY:
+            raise bodies.too_large("the body")
+        pieces, size = [], 0
+        async for piece in request.content.iter_any():
+            taken.append(self.waiting.take(len(piece)))
+            pieces.append(piece)
+            size += len(piece)
+            if size > MAX_BODY:
+                raise bodies.too_large("the body")
+        return b"".join(pieces)
+
+    async def _push(self, tenant: str, kind: str, message: bytes, before: memory.Answer | None) -> memory.Answer:
+        """Pushes a body, or of one that was answered before the streams that were too many then. Raises Fault."""
+        body = bodies.read(message, kind, self.drop_metadata)
+        self.metrics.mended.inc(body.mended)
+        self.metrics.metadata.inc(body.metadata)
+        streams = [(place, stream) for place, stream in enumerate(body.streams) if before is None or place in before.again]
+        self.metrics.lines.inc(sum(len(stream.values) for _, stream in streams))
+        if self.resent.may_stand(tenant, streams):
+            async with self.resent.lock:
+                streams = await self.resent.without_standing(tenant, streams)
+                outcome = await self._send(tenant, streams)
+        else:
+            outcome = await self._send(tenant, streams)
+        entries = sum(len(stream.values) for stream in body.streams)
+        return answer_of(outcome, before or memory.Answer(204, entries=entries))
+
+    async def _send(self, tenant: str, streams: list[tuple[int, Stream]]) -> verdicts.Outcome:
+        """What the program says to these streams. Raises Fault."""
+        limits = self.limits.of(tenant)
+        parts = verdicts.parts_of(streams, limits.max_entries_per_push)
+        if not parts:
+            return verdicts.Outcome()
+        members = [{"stream": part.content.labels, "values": part.content.values} for part in parts]
+        command = {"cmd": "push", "tenant": tenant, "now": str(time.time_ns()), "streams": members}
+        reply = await self.child.ask(command)
+        if "error" in reply:
+            self.metrics.refused.labels(reply["error"]).inc(sum(len(part.content.values) for part in parts))
+            raise Fault(400 if reply["number"] in SENDER_FAULTS else 500, f"the program refuses the push: {reply}\n")
+        outcome = verdicts.judge(parts, reply["push"], limits, tenant)
+        self._count(outcome)
+        for part, member in zip(parts, reply["push"], strict=True):
+            if "error" not in member:
+                self.streams.note(tenant, member["stream"], part.content.labels)
+        return outcome
+
+    def _count(self, outcome: verdicts.Outcome) -> None:
+        self.metrics.accepted.inc(outcome.accepted)
+        self.metrics.duplicate.inc(outcome.duplicate)
+        self.metrics.not_durable.inc(outcome.not_durable)
+        for reason, count in outcome.refused.items():
+            self.metrics.refused.labels(reason).inc(count)
+
+
+def answer_of(outcome: verdicts.Outcome, before: memory.Answer) -> memory.Answer:
+    """The answer to a push, by what came of it and what was answered before.
+
+    429 as long as a stream is one too many: the agent sends all again, and only such streams are pushed again. Then 400 with
+    the first reason, where an entry was refused for good; else 204.
+    """
+    for_good = sum(count for reason, count in outcome.refused.items() if reason != verdicts.TOO_MANY_STREAMS)
+    ignored, reason = before.ignored + for_good, before.reason or outcome.reason
+    kept = {"ignored": ignored, "reason": reason, "entries": before.entries}
+    if outcome.again:
+        return memory.Answer(429, outcome.too_many + "\n", frozenset(outcome.again), **kept)
+    if reason:
+        return memory.Answer(400, f"{reason}\ntotal ignored: {ignored} out of {before.entries}\n", **kept)
+    return memory.Answer(204, **kept)

@@ -1,0 +1,84 @@
+"""What an agent sends again after a start, because the run before ended without an answer to it.
+
+A push that was not answered may have been taken. Before this start a stream had some greatest stamp; an entry above it is new.
+One that is not is asked for, by stream, stamp and line, and left out where it stands. So what is left out is there, and what
+is not there is pushed: whichever push of the run before is sent again, whenever, in whatever parts. It also means that an entry
+whose stamp and line its stream has already, from before the start, is not stored a second time; Loki has no second one either.
+"""
+import asyncio
+from dataclasses import dataclass, field
+
+from . import pages
+from .bodies import Stream
+from .faults import Fault, unavailable
+from .known import Streams
+from .labels import canonical_name
+from .metrics import Metrics
+
+BAD_SELECTOR, TOO_WIDE = 8, 9
+
+
+@dataclass
+class Resent:
+    """Leaves out what stands. `fresh`: nothing stood before this start, so nothing needs to be asked for.
+
+    Who holds `lock` looks and pushes, one after another: two pushes of the same entries do not both find them absent.
+    """
+
+    ask: pages.Ask
+    streams: Streams
+    metrics: Metrics
+    fresh: bool = False
+    lock: asyncio.Lock = field(default_factory=asyncio.Lock)
+
+    def may_stand(self, tenant: str, streams: list[tuple[int, Stream]]) -> bool:
+        """Whether an entry of these may have been pushed before this start."""
+        return not self.fresh and any(self._may_stand(tenant, stream) for _, stream in streams)
+
+    def _may_stand(self, tenant: str, stream: Stream) -> bool:
+        known = self.streams.find(tenant, canonical_name(stream.labels))
+        if known is None or known.before is None:
+            return True
+        return any(int(stamp) <= known.before for stamp, _ in stream.values)
+
+    async def without_standing(self, tenant: str, streams: list[tuple[int, Stream]]) -> list[tuple[int, Stream]]:
+        """The streams, with their places in the body, without the entries that stand.
+
+        Raises Fault 503 where that cannot be told.
+        """
+        return [(place, await self._without_standing(tenant, stream)) for place, stream in streams]
+
+    async def _without_standing(self, tenant: str, stream: Stream) -> Stream:
+        name = canonical_name(stream.labels)
+        before = await self._before(tenant, name, stream)
+        old = [int(stamp) for stamp, _ in stream.values if int(stamp) <= before]
+        if not old:
+            return stream
+        stands = set()
+        try:
+            async for page in pages.walk(self.ask, pages.Range(tenant, name, min(old), max(old) + 1)):
+                stands |= {(int(entry["stamp"]), entry["line"]) for entry in page if entry["stream"] == name}
+        except pages.OneStamp:
+            self.metrics.unchecked.inc(len(old))
+        except Fault as fault:
+            raise unavailable(f"whether these entries stand already cannot be told: {fault.text}") from None
+        values = [[stamp, line] for stamp, line in stream.values if (int(stamp), line) not in stands]
+        self.metrics.already_there.inc(len(stream.values) - len(values))
+        return Stream(stream.labels, values)
+
+    async def _before(self, tenant: str, name: str, stream: Stream) -> int:
+        """The greatest stamp that the stream may have had before this start, or -1. It is asked for once.
+
+        The name as a selector also takes streams with further labels: then this is too great, and more is asked for.
+        """
+        known = self.streams.find(tenant, name)
+        if known is not None and known.before is not None:
+            return known.before
+        reply = await self.ask(pages.Range(tenant, name, backward=True).command(1))
+        if reply.get("number") in (BAD_SELECTOR, TOO_WIDE):
+            return -1  # No stream has such labels: the push will be refused.
+        if "error" in reply:
+            raise unavailable(f"whether these entries stand already cannot be told: {reply}\n")
+        before = max((int(entry["stamp"]) for entry in reply["query"]["entries"]), default=-1)
+        self.streams.note(tenant, name, stream.labels, before)
+        return before

@@ -1,0 +1,133 @@
+"""Bodies of pushes: packed, whole, and wrong."""
+import gzip
+import json
+import pathlib
+import subprocess
+import zlib
+
+import pytest
+import snappy
+
+from sarymbeu_front import bodies, push_pb2
+from sarymbeu_front.bodies import JSON, MAX_BODY, PROTOBUF
+from sarymbeu_front.faults import Fault
+
+PACKAGE = pathlib.Path(bodies.__file__).parent
+
+
+def body_of(*streams):
+    return json.dumps({"streams": [{"stream": labels, "values": values} for labels, values in streams]}).encode()
+
+
+def message_of(labels, *entries):
+    request = push_pb2.PushRequest()
+    stream = request.streams.add(labels=labels)
+    for seconds, nanos, line in entries:
+        stream.entries.add(timestamp=push_pb2.Timestamp(seconds=seconds, nanos=nanos), line=line)
+    return request
+
+
+def status_of(work):
+    with pytest.raises(Fault) as fault:
+        work()
+    return fault.value.status
+
+
+def test_json_is_read():
+    body = bodies.read(body_of(({"a": "1"}, [["5", "x"], ["6", "y", {}]]), ({"b": "2"}, [])), JSON, False)
+    assert [(one.labels, one.values) for one in body.streams] == [({"a": "1"}, [["5", "x"], ["6", "y"]])]
+    assert body.mended == body.metadata == 0
+
+
+def test_what_is_no_text_is_mended_and_counted():
+    body = bodies.read(b'{"streams":[{"stream":{"a":"\\ud800"},"values":[["5","x\\udc00\\ud83d\\ude00\xff"]]}]}', JSON, False)
+    assert (body.streams[0].labels, body.streams[0].values) == ({"a": "\ufffd"}, [["5", "x\ufffd😀\ufffd"]])
+    assert body.mended == 3
+
+
+def test_protobuf_is_read():
+    request = message_of(b'{a="1", b="x\\ty"}', (1700000000, 5, b"hello"), (0, 0, b"\xff\xfe!"))
+    body = bodies.read(bodies.unpacked(snappy.compress(request.SerializeToString()), "", PROTOBUF), PROTOBUF, False)
+    assert body.streams[0].labels == {"a": "1", "b": "x\ty"}
+    assert body.streams[0].values == [["1700000000000000005", "hello"], ["0", "\ufffd\ufffd!"]]
+    assert body.mended == 2
+
+
+def test_structured_metadata_is_refused_or_dropped_and_counted():
+    json_body = body_of(({"a": "1"}, [["5", "x", {"trace": "7"}], ["6", "y"]]))
+    request = message_of(b'{a="1"}', (1, 0, b"x"))
+    request.streams[0].entries[0].structured_metadata.add(name=b"trace", value=b"7")
+    for message, kind in ((json_body, JSON), (request.SerializeToString(), PROTOBUF)):
+        assert status_of(lambda: bodies.read(message, kind, False)) == 400
+        body = bodies.read(message, kind, True)
+        assert body.metadata == 1 and body.streams[0].values[0][1] == "x"
+
+
+@pytest.mark.parametrize(
+    "text, place",
+    [
+        ("", "no JSON"),
+        ("[" * 100000, "no JSON"),
+        ("[]", "no list"),
+        ('{"streams":{}}', "no list"),
+        ('{"streams":[5]}', "stream 0"),
+        ('{"streams":[{"stream":{"a":1},"values":[]}]}', "stream 0"),
+        ('{"streams":[{"stream":{"a":"1"}}]}', "stream 0"),
+        ('{"streams":[{"stream":{"a":"1"},"values":[["1","x"],["2"]]}]}', "stream 0, entry 1"),
+        ('{"streams":[{"stream":{"a":"1"},"values":[[1,"x"]]}]}', "stream 0, entry 0"),
+        ('{"streams":[{"stream":{"a":"1"},"values":[["9223372036854775808","x"]]}]}', "stream 0, entry 0"),
+        ('{"streams":[{"stream":{"a":"1"},"values":[["-1","x"]]}]}', "stream 0, entry 0"),
+        ('{"streams":[{"stream":{"a":"1"},"values":[["1","x",5]]}]}', "stream 0, entry 0"),
+        ('{"streams":[{"stream":{"a":"1"},"values":[["1","x",{},{}]]}]}', "stream 0, entry 0"),
+    ],
+)
+def test_wrong_json_has_its_place(text, place):
+    with pytest.raises(Fault) as fault:
+        bodies.read(text.encode(), JSON, False)
+    assert fault.value.status == 400 and place in fault.value.text
+
+
+@pytest.mark.parametrize("entry", [(-1, 0, b""), (0, -1, b""), (0, 10**9, b""), (9223372037, 0, b"")])
+def test_stamps_of_protobuf_have_their_range(entry):
+    message = message_of(b'{a="1"}', entry).SerializeToString()
+    assert status_of(lambda: bodies.read(message, PROTOBUF, False)) == 400
+
+
+def test_wrong_protobuf_is_refused():
+    assert status_of(lambda: bodies.read(b"\x0a\xff", PROTOBUF, False)) == 400
+    assert status_of(lambda: bodies.read(message_of(b"{a=1}", (1, 0, b"")).SerializeToString(), PROTOBUF, False)) == 400
+
+
+def test_bodies_are_unpacked():
+    plain = b"x" * 100000
+    for packed, encoding in ((gzip.compress(plain), "gzip"), (zlib.compress(plain), "deflate"), (plain, "")):
+        assert bodies.unpacked(packed, encoding, JSON) == plain
+    assert bodies.unpacked(gzip.compress(plain[:5]) + gzip.compress(plain[5:]), "gzip", JSON) == plain
+    assert bodies.unpacked(snappy.compress(plain), "snappy", PROTOBUF) == plain
+    assert bodies.unpacked(gzip.compress(snappy.compress(plain)), "gzip", PROTOBUF) == plain
+
+
+def test_what_cannot_be_unpacked_is_refused():
+    whole = gzip.compress(b"x" * 1000)
+    for packed, encoding, kind in (
+        (whole[:-5], "gzip", JSON), (b"x", "gzip", JSON), (b"", "gzip", JSON), (b"\xff\xff", "", PROTOBUF), (b"", "", PROTOBUF),
+    ):  # fmt: skip
+        assert status_of(lambda: bodies.unpacked(packed, encoding, kind)) == 400, (packed, encoding)
+    assert status_of(lambda: bodies.unpacked(b"{}", "br", JSON)) == 415
+    assert status_of(lambda: bodies.unpacked(b"{}", "snappy", JSON)) == 415
+    assert status_of(lambda: bodies.kind_of("text/plain")) == 415
+
+
+def test_no_body_grows_beyond_its_bound():
+    long = b"\0" * (MAX_BODY + 1)
+    for packed, encoding, kind in (
+        (gzip.compress(long, 1), "gzip", JSON), (zlib.compress(long, 1), "deflate", JSON), (snappy.compress(long), "", PROTOBUF),
+    ):  # fmt: skip
+        assert status_of(lambda: bodies.unpacked(packed, encoding, kind)) == 413
+    assert status_of(lambda: bodies.unpacked(b"\xff\xff\xff\xff\x0f" + b"x" * 10, "", PROTOBUF)) == 413
+    assert len(bodies.unpacked(gzip.compress(long[1:], 1), "gzip", JSON)) == MAX_BODY
+
+
+def test_the_generated_module_is_that_of_the_message(tmp_path):
+    subprocess.run(["protoc", f"--proto_path={PACKAGE}", f"--python_out={tmp_path}", "push.proto"], check=True)
+    assert (tmp_path / "push_pb2.py").read_bytes() == (PACKAGE / "push_pb2.py").read_bytes()
