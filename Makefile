@@ -1,8 +1,11 @@
 # `make help` lists what there is.
-.PHONY: help try run build install check test mutants bench worlds stress kills documents
+.PHONY: help try run build install check test mutants bench worlds stress kills documents front front-install front-check front-test front-bench
 program = crates/ingestd/out/ingestd
 ctl = crates/ingestctl/out/ingestctl
 PREFIX = /usr/local
+# The front is run by Debian's own Python, for which its libraries are packaged.
+python = /usr/bin/python3
+front = front/out/sarymbeu-front
 postings_figures = crates/bench_postings/out/bench_postings
 codec_figures = crates/bench_codec/out/bench_codec
 locks_figures = crates/bench_locks/out/bench_locks
@@ -22,6 +25,11 @@ help:
 	@echo 'make worlds   10,000 lists of events by lot, beside a slow program'
 	@echo 'make stress   10,000 lives of an ingester by lot, each of several threads'
 	@echo 'make kills    200 runs over a folder by lot, most of them killed, then 200 with files that may not grow, then each call for a file failed (by strace); KILLS=N, SEED=N'
+	@echo 'make front    runs the front over the program; SETTINGS=FILE, FOLDER=FOLDER, OPTIONS="--server.http-listen-port 3100" (docs/FRONT.md)'
+	@echo 'make front-install puts the front in place; PREFIX=FOLDER'
+	@echo 'make front-check tests the front without the program'
+	@echo 'make front-test  tests the front over the program, and kills both; PROGRAM=FILE'
+	@echo 'make front-bench figures of the front (front/bench/README.md); PROGRAM=FILE'
 
 # The toolchain's own lines go to standard error, so that standard output has the replies alone.
 try:
@@ -114,3 +122,24 @@ kills: $(program)
 	@python3 kills/kills.py $(program) $(if $(KILLS),--rounds $(KILLS)) $(if $(SEED),--seed $(SEED))
 	@python3 kills/kills.py $(program) $(if $(KILLS),--rounds $(KILLS)) $(if $(SEED),--seed $(SEED)) --full
 	@if command -v strace >/dev/null; then python3 kills/kills.py $(program) --fail $(if $(SEED),--seed $(SEED)); else echo 'no strace: no call fails in turn'; fi
+
+# One file, which Python runs: the package without its tests.
+$(front): $(wildcard front/sarymbeu_front/*.py)
+	@rm -rf front/out && mkdir -p front/out/package/sarymbeu_front
+	@cp front/sarymbeu_front/*.py front/out/package/sarymbeu_front
+	@$(python) -m zipapp front/out/package --main sarymbeu_front.__main__:end --python $(python) --output $@
+
+front: $(program) $(front)
+	@$(front) --program $(program) $(OPTIONS) "$(or $(SETTINGS),/dev/null)" "$(FOLDER)"
+
+front-install: $(front)
+	install -D $(front) "$(DESTDIR)$(PREFIX)/bin/sarymbeu-front"
+
+front-check:
+	@$(python) -m pytest -q -p no:cacheprovider front/tests
+
+front-test: $(or $(PROGRAM),$(program)) $(front)
+	@PROGRAM="$(abspath $(or $(PROGRAM),$(program)))" FRONT="$(abspath $(front))" $(python) -m pytest -q -p no:cacheprovider front/program_tests
+
+front-bench: $(or $(PROGRAM),$(program)) $(front)
+	@$(python) front/bench/figures.py "$(or $(PROGRAM),$(program))" $(front)

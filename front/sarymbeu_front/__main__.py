@@ -14,5 +14,10 @@ def main() -> int:
     return asyncio.run(serve(settings))
 
 
-if __name__ == "__main__":
+def end() -> None:
+    """Runs the front, and ends with its status."""
     sys.exit(main())
+
+
+if __name__ == "__main__":
+    end()
