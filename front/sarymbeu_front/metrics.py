@@ -37,7 +37,7 @@ class Metrics:
         ProcessCollector(namespace="ingestd", pid=lambda: child_pid() or "none", registry=self.registry)
         self.requests = self._counter("requests", "Requests, by route and status.", "route", "status")
         self.received_bytes = self._counter("received_bytes", "Bytes of pushes, unpacked.")
-        self.lines = self._counter("lines_received", "Lines of pushes that were worked on.")
+        self.lines = self._counter("lines_received", "Lines of pushes that were answered.")
         self.accepted = self._counter("lines_accepted", "Lines that the program accepted.")
         self.duplicate = self._counter("lines_duplicate", "Lines that were their stream's last one already.")
         self.already_there = self._counter("lines_already_there", "Lines left out: they stood before this start.")

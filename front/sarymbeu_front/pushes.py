@@ -92,19 +92,30 @@ class Pushes:
 
     async def _push(self, tenant: str, kind: str, message: bytes, before: memory.Answer | None) -> memory.Answer:
         """Pushes a body, or of one that was answered before the streams that were too many then. Raises Fault."""
-        body = bodies.read(message, kind, self.drop_metadata)
-        self.metrics.mended.inc(body.mended)
-        self.metrics.metadata.inc(body.metadata)
-        streams = [(place, stream) for place, stream in enumerate(body.streams) if before is None or place in before.again]
-        self.metrics.lines.inc(sum(len(stream.values) for _, stream in streams))
-        if self.resent.may_stand(tenant, streams):
-            async with self.resent.lock:
-                streams = await self.resent.without_standing(tenant, streams)
-                outcome = await self._send(tenant, streams)
-        else:
-            outcome = await self._send(tenant, streams)
-        entries = sum(len(stream.values) for stream in body.streams)
-        return answer_of(outcome, before or memory.Answer(204, entries=entries))
+        # Room of its own, for what is read of the body: this goes on when the client has gone away.
+        with self.waiting.room() as taken:
+            taken.append(self.waiting.take(REQUEST_BYTES + len(message)))
+            body = bodies.read(message, kind, self.drop_metadata)
+            streams = [(place, stream) for place, stream in enumerate(body.streams) if before is None or place in before.again]
+            outcome = await self._send_what_is_new(tenant, streams)
+        # Counted by the body, so that the sum of what came of lines can be held against it.
+        self.metrics.lines.inc(entries_of(streams))
+        self._count(outcome)
+        if before is None:
+            self.metrics.mended.inc(body.mended)
+            self.metrics.metadata.inc(body.metadata)
+            before = memory.Answer(204, entries=sum(len(stream.values) for stream in body.streams))
+        return answer_of(outcome, before)
+
+    async def _send_what_is_new(self, tenant: str, streams: list[tuple[int, Stream]]) -> verdicts.Outcome:
+        """What comes of these streams, without what stands from before this start. Raises Fault."""
+        if not self.resent.may_stand(tenant, streams):
+            return await self._send(tenant, streams)
+        async with self.resent.lock:
+            new = await self.resent.without_standing(tenant, streams)
+            outcome = await self._send(tenant, new)
+        outcome.already_there = entries_of(streams) - entries_of(new)
+        return outcome
 
     async def _send(self, tenant: str, streams: list[tuple[int, Stream]]) -> verdicts.Outcome:
         """What the program says to these streams. Raises Fault."""
@@ -116,21 +127,25 @@ class Pushes:
         command = {"cmd": "push", "tenant": tenant, "now": str(time.time_ns()), "streams": members}
         reply = await self.child.ask(command)
         if "error" in reply:
-            self.metrics.refused.labels(reply["error"]).inc(sum(len(part.content.values) for part in parts))
             raise Fault(400 if reply["number"] in SENDER_FAULTS else 500, f"the program refuses the push: {reply}\n")
         outcome = verdicts.judge(parts, reply["push"], limits, tenant)
-        self._count(outcome)
         for part, member in zip(parts, reply["push"], strict=True):
             if "error" not in member:
                 self.streams.note(tenant, member["stream"], part.content.labels)
         return outcome
 
     def _count(self, outcome: verdicts.Outcome) -> None:
+        self.metrics.already_there.inc(outcome.already_there)
         self.metrics.accepted.inc(outcome.accepted)
         self.metrics.duplicate.inc(outcome.duplicate)
         self.metrics.not_durable.inc(outcome.not_durable)
         for reason, count in outcome.refused.items():
             self.metrics.refused.labels(reason).inc(count)
+
+
+def entries_of(streams: list[tuple[int, Stream]]) -> int:
+    """How many entries these streams have."""
+    return sum(len(stream.values) for _, stream in streams)
 
 
 def answer_of(outcome: verdicts.Outcome, before: memory.Answer) -> memory.Answer:

@@ -62,9 +62,7 @@ class Resent:
             self.metrics.unchecked.inc(len(old))
         except Fault as fault:
             raise unavailable(f"whether these entries stand already cannot be told: {fault.text}") from None
-        values = [[stamp, line] for stamp, line in stream.values if (int(stamp), line) not in stands]
-        self.metrics.already_there.inc(len(stream.values) - len(values))
-        return Stream(stream.labels, values)
+        return Stream(stream.labels, [[stamp, line] for stamp, line in stream.values if (int(stamp), line) not in stands])
 
     async def _before(self, tenant: str, name: str, stream: Stream) -> int:
         """The greatest stamp that the stream may have had before this start, or -1. It is asked for once.

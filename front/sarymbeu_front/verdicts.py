@@ -32,10 +32,11 @@ class Part:
 
 @dataclass
 class Outcome:
-    """What came of the parts of a push, in entries. `again` are streams of the body that were too many."""
+    """What came of the streams of a push, in entries. `again` are streams of the body that were too many."""
 
     accepted: int = 0
     duplicate: int = 0
+    already_there: int = 0
     not_durable: int = 0
     refused: collections.Counter = field(default_factory=collections.Counter)
     reason: str = ""
