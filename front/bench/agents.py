@@ -30,7 +30,6 @@ sys.path.insert(0, str(pathlib.Path(__file__).resolve().parent.parent))
 from sarymbeu_front import push_pb2  # noqa: E402
 
 SETTINGS = "shards = 4\nflushers = 2\n"
-TENANT = {"X-Scope-OrgID": "load"}
 KINDS = ["json", "gzip", "protobuf"]
 
 
@@ -59,15 +58,20 @@ def packed(kind: str, labels: dict[str, str], entries: list[tuple[int, str]]) ->
 
 @dataclass
 class Agent:
-    """Sends `count` lines. `again` counts batches that were sent again, `times` has the seconds of those answered at once."""
+    """Sends `count` lines. `times` has the seconds of answers 204, `others` counts other answers, None where there was none."""
 
     number: int
     count: int
     batch: int
     began: int
-    again: int = 0
+    tenant: str = "load"
     sent: int = 0
     times: list[float] = field(default_factory=list)
+    others: collections.Counter = field(default_factory=collections.Counter)
+
+    @property
+    def header(self) -> dict[str, str]:
+        return {"X-Scope-OrgID": self.tenant}
 
     @property
     def labels(self) -> dict[str, str]:
@@ -86,7 +90,6 @@ class Agent:
             entries = [self.entry(index) for index in range(first, min(first + self.batch, self.count))]
             body, headers = packed(KINDS[first // self.batch % len(KINDS)], self.labels, entries)
             while not await self._send(session, url, body, headers):
-                self.again += 1
                 await asyncio.sleep(0.05)
             self.sent += len(entries)
 
@@ -94,13 +97,15 @@ class Agent:
         """Whether the batch was answered by 204. Raises RuntimeError where it is refused for good."""
         began = time.monotonic()
         try:
-            async with session.post(f"{url}/loki/api/v1/push", data=body, headers=TENANT | headers) as response:
+            async with session.post(f"{url}/loki/api/v1/push", data=body, headers=self.header | headers) as response:
                 text = await response.text()
         except (aiohttp.ClientError, asyncio.TimeoutError, OSError):
+            self.others[None] += 1
             return False
         if response.status == 204:
             self.times.append(time.monotonic() - began)
             return True
+        self.others[response.status] += 1
         if response.status in (429, 503):
             return False
         raise RuntimeError(f"{response.status}: {text}")
@@ -111,7 +116,7 @@ class Agent:
         query = f'{{agent="agent-{self.number}"}}'
         for _ in itertools.count():
             words = {"query": query, "start": str(edge), "end": str(2**63 - 1), "limit": "5000", "direction": "forward"}
-            async with session.get(f"{url}/loki/api/v1/query_range", params=words, headers=TENANT) as response:
+            async with session.get(f"{url}/loki/api/v1/query_range", params=words, headers=self.header) as response:
                 assert response.status == 200, await response.text()
                 result = (await response.json())["data"]["result"]
             assert all(stream["stream"] == self.labels for stream in result), f"other streams in {result[:1]}"
@@ -147,7 +152,7 @@ async def load(run: FrontRun, words: argparse.Namespace) -> bool:
         print("| agent | sent | batches sent again | found | lost | doubled | mixed |\n|---|---|---|---|---|---|---|")
         rows = [row_of(agent, await agent.found(session, run.url)) for agent in agents]
     for agent, row in zip(agents, rows):
-        print("|", " | ".join(map(str, (agent.number, agent.count, agent.again, *row))), "|")
+        print("|", " | ".join(map(str, (agent.number, agent.count, agent.others.total(), *row))), "|")
     times = sorted(itertools.chain(*(agent.times for agent in agents)))
     median, late = times[len(times) // 2] * 1000, times[len(times) * 99 // 100] * 1000
     count = sum(agent.count for agent in agents)
@@ -173,6 +178,7 @@ def main() -> int:
     parser.add_argument("--batch", type=int, default=100)
     parser.add_argument("--kills", type=int, default=3)
     parser.add_argument("--in-flight", type=int, default=1)
+    parser.add_argument("--seconds", type=float, default=300, help="the longest that it may take (%(default)s)")
     parser.add_argument("--parent", default=None)
     words = parser.parse_args()
     with tempfile.TemporaryDirectory(dir=words.parent) as place:
@@ -180,7 +186,7 @@ def main() -> int:
         run = FrontRun(words.front, words.program, pathlib.Path(place), SETTINGS, options)
         run.start()
         try:
-            well = asyncio.run(load(run, words))
+            well = asyncio.run(asyncio.wait_for(load(run, words), words.seconds))
             status = run.end()
         except BaseException:
             run.process.kill()
