@@ -1,14 +1,16 @@
 #!/usr/bin/python3
 """Stands in for the program in tests of the front: the same commands and replies, of few rules, without proof or folder.
 
-With FRONT_STAND_IN=slow it answers nothing before a command `wake`, which no front sends; with `dies` it ends at the first push.
-Lines are kept in FOLDER/stand-in.json where FRONT_STAND_IN is `keeps`, so that a second run has those of the first.
+FRONT_STAND_IN says what else it does: with `mute` it answers nothing, with `dies` it ends at the first push, with `sleepy` pushes
+and queries take 0.3 seconds, with `fails` flushes and checkpoints fail; with `keeps` its entries are kept in
+FOLDER/stand-in.json, so that a second run has those of the first.
 """
 import json
 import os
 import pathlib
 import re
 import sys
+import time
 
 MODE = os.environ.get("FRONT_STAND_IN", "")
 PLACE = pathlib.Path(sys.argv[2]) / "stand-in.json"
@@ -67,6 +69,8 @@ def query(command):
 
 def reply(command):
     count = sum(len(entries) for entries in streams.values())
+    if MODE == "sleepy" and command["cmd"] in ("push", "query"):
+        time.sleep(0.3)
     match command["cmd"]:
         case "push":
             if MODE == "dies":
@@ -82,12 +86,12 @@ def reply(command):
         case "sweep":
             return {"sweep": {"queued": 0, "sealed": 0}}
         case "flush":
-            return {"flush": {"failed": 0, "sealed": 1, "stored": 1}}
+            return {"flush": {"failed": int(MODE == "fails"), "sealed": 1, "stored": 1}}
         case "checkpoint":
-            return {"checkpoint": [True]}
+            return {"checkpoint": [MODE != "fails"]}
 
 
 for line in sys.stdin:
-    if MODE != "slow":
+    if MODE != "mute":
         print(json.dumps(reply(json.loads(line)), separators=(",", ":"), ensure_ascii=False), flush=True)
 print(json.dumps({"report": [{"accepted": sum(map(len, streams.values())), "kept": 0, "recovered": 0, "stored": 0}]}), flush=True)

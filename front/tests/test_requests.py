@@ -223,7 +223,7 @@ def test_the_other_routes(with_front):
 
 
 def test_before_the_first_answer_nothing_is_ready(with_front, monkeypatch):
-    monkeypatch.setenv("FRONT_STAND_IN", "slow")
+    monkeypatch.setenv("FRONT_STAND_IN", "mute")
 
     async def work(client, front):
         response = await client.get("/ready")
@@ -245,6 +245,45 @@ def test_the_end_of_the_program_is_503(with_front, monkeypatch):
         assert await front.child.end() == 3
 
     with_front(work)
+
+
+def test_a_client_that_goes_away_ends_nothing(with_front, monkeypatch):
+    monkeypatch.setenv("FRONT_STAND_IN", "sleepy")
+
+    async def work(client, front):
+        with pytest.raises(TimeoutError):
+            async with asyncio.timeout(0.1):
+                await push(client, {"a": "1"}, ("1", "x"), ("2", "y"), ("1", "x"))
+        assert await push(client, {"a": "1"}, ("1", "x"), ("2", "y"), ("1", "x")) == (204, "")
+        assert len(await found(client, '{a="1"}')) == 3
+        assert front.pushes.waiting.bytes == 0
+
+    with_front(work)
+
+
+def test_a_query_that_takes_too_long_is_504(with_front, monkeypatch):
+    monkeypatch.setenv("FRONT_STAND_IN", "sleepy")
+
+    async def work(client, _):
+        assert (await refusal(client, RANGE, query='{a="1"}'))[0] == 504
+        assert (await client.get("/ready")).status == 200
+
+    with_front(work, "--querier.query-timeout", "50ms")
+
+
+@pytest.mark.parametrize("mode, failed", [("", False), ("fails", True)])
+def test_the_clock_sweeps_flushes_and_checkpoints(with_front, monkeypatch, mode, failed):
+    monkeypatch.setenv("FRONT_STAND_IN", mode)
+
+    async def work(client, _):
+        await asyncio.sleep(0.2)
+        numbers = await counts(client)
+        asked = [numbers[f'front_reply_seconds_count{{command="{command}"}}'] for command in ("sweep", "flush", "checkpoint")]
+        assert min(asked) > 0
+        assert (numbers["front_flushes_failed_total"] > 0) == (numbers["front_checkpoints_failed_total"] > 0) == failed
+        assert (await client.post("/flush")).status == (500 if failed else 200)
+
+    with_front(work, "--ingester.flush-check-period", "20ms", "--ingester.checkpoint-duration", "40ms")
 
 
 def test_pushes_that_wait_are_bounded(with_front):
