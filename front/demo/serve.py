@@ -1,5 +1,5 @@
 #!/usr/bin/python3
-"""Gives explore.html, and passes requests for /loki on to a front, as Grafana's server does. front/demo/serve.py PORT FRONT_URL"""
+"""Gives explore.html, and passes requests for /loki on to a front, as Grafana's server does: serve.py PORT FRONT_URL"""
 import http.server
 import pathlib
 import sys

@@ -1,4 +1,5 @@
 """The front over the program itself."""
+import concurrent.futures
 import json
 import os
 import pathlib
@@ -125,6 +126,26 @@ def test_a_front_that_is_killed_leaves_the_folder_to_its_program(front):
     os.kill(child, signal.SIGCONT)
     client.run.start()
     assert client.found('{a="1"}') == [(1, "x")]
+
+
+def test_a_program_that_stands_still_makes_pushes_wait_and_then_503(front):
+    client = front("", "--max-waiting-bytes", "20000000")
+    child = client.run.child()
+    os.kill(child, signal.SIGSTOP)
+    try:
+        with concurrent.futures.ThreadPoolExecutor(40) as pool:
+            work = [pool.submit(client.push, {"a": str(number)}, (5, "x" * 1000), (6, "y" * 250000)) for number in range(40)]
+            # Nothing is answered but what there was no room for.
+            done, waiting = concurrent.futures.wait(work, timeout=5)
+            assert waiting and done and all(one.result()[0] == 503 for one in done)
+            os.kill(child, signal.SIGCONT)
+            statuses = [one.result(20)[0] for one in work]
+    finally:
+        os.kill(child, signal.SIGCONT)
+    assert statuses.count(204) == len(waiting) and statuses.count(503) == len(done)
+    for number, status in enumerate(statuses):
+        assert len(client.found(f'{{a="{number}"}}')) == (2 if status == 204 else 0)
+    assert client.counts()["front_waiting_bytes"] == 0
 
 
 def test_a_folder_that_cannot_be_opened_ends_the_front(front):

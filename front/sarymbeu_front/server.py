@@ -161,12 +161,13 @@ async def serve(settings: Settings) -> int:
     site = web.TCPSite(runner, settings.listen_address, settings.listen_port)
     try:
         await site.start()
-        log.info("listening on %s, port %d", settings.listen_address, settings.listen_port)
-        return await _until_the_end(front, site, stop)
     except OSError as fault:
         log.error("no start: %s", fault)
         await front.child.end()
         return BAD_SETTINGS
+    log.info("listening on %s, port %d", settings.listen_address, settings.listen_port)
+    try:
+        return await _until_the_end(front, site, stop)
     finally:
         await runner.cleanup()
 

@@ -24,9 +24,10 @@ STREAM_REFUSALS = {
 
 @dataclass
 class Part:
-    """Entries of one stream of a body, as they are sent: `stream` is its place in the body."""
+    """Entries of one stream of a body, as they are sent: `stream` is its place there, `first` how many are sent before."""
 
     stream: int
+    first: int
     content: Stream
 
 
@@ -61,12 +62,12 @@ class Outcome:
 
 def parts_of(streams: list[tuple[int, Stream]], most: int) -> list[Part]:
     """Streams with their places in the body as parts of at most `most` entries, the program's limit for one stream of a push."""
-    return [Part(place, piece) for place, stream in streams for piece in _pieces(stream, most)]
+    return [part for place, stream in streams for part in _parts(place, stream, most)]
 
 
-def _pieces(stream: Stream, most: int) -> Iterator[Stream]:
+def _parts(place: int, stream: Stream, most: int) -> Iterator[Part]:
     for first in range(0, len(stream.values), most):
-        yield Stream(stream.labels, stream.values[first : first + most])
+        yield Part(place, first, Stream(stream.labels, stream.values[first : first + most]))
 
 
 def judge(parts: list[Part], replies: list[dict], limits: Limits, tenant: str) -> Outcome:
@@ -78,33 +79,37 @@ def judge(parts: list[Part], replies: list[dict], limits: Limits, tenant: str) -
             outcome.refuse(name, stream_reason(part.content, reply, limits), len(part.content.values))
             continue
         before = outcome.accepted
-        for entry, verdict in zip(part.content.values, reply["verdicts"], strict=True):
-            _judge_entry(outcome, part, entry, verdict, reply["stream"], limits, tenant)
+        for number, verdict in zip(range(len(part.content.values)), reply["verdicts"], strict=True):
+            _judge_entry(outcome, part, number, verdict, reply["stream"], limits, tenant)
         if not reply["durable"]:
             outcome.not_durable += outcome.accepted - before
     return outcome
 
 
 def _judge_entry(
-    outcome: Outcome, part: Part, entry: list[str], verdict: str | dict, name: str, limits: Limits, tenant: str
+    outcome: Outcome, part: Part, number: int, verdict: str | dict, name: str, limits: Limits, tenant: str
 ) -> None:
-    """Counts one entry of the stream `name`."""
+    """Counts entry `number` of a part, of the stream `name`."""
+    if "accepted" in verdict:
+        outcome.accepted += 1
+        return
     if verdict == "duplicate":
         outcome.duplicate += 1
-    elif verdict == "line_too_long":
-        size, limit = len(entry[1].encode()), limits.max_line_size
+        return
+    stamp, line = part.content.values[number]
+    place = f"stream: {name}, entry {part.first + number}"
+    if verdict == "line_too_long":
+        size, limit = len(line.encode()), limits.max_line_size
         text = f"Max entry size '{limit}' bytes exceeded for stream '{name}' while adding an entry with length '{size}' bytes"
-        outcome.refuse("line_too_long", text)
-    elif "accepted" in verdict:
-        outcome.accepted += 1
+        outcome.refuse("line_too_long", f"{text}, {place}")
     elif "too_far_behind" in verdict:
-        stamp, limit = rfc3339(int(entry[0])), rfc3339(int(verdict["too_far_behind"]))
-        text = f"entry too far behind, entry timestamp is: {stamp}, oldest acceptable timestamp is: {limit}, stream: {name}"
-        outcome.refuse("too_far_behind", text)
+        given, limit = rfc3339(int(stamp)), rfc3339(int(verdict["too_far_behind"]))
+        text = f"entry too far behind, entry timestamp is: {given}, oldest acceptable timestamp is: {limit}"
+        outcome.refuse("too_far_behind", f"{text}, {place}")
     elif "too_many_streams" in verdict:
         outcome.limit_streams(part, tenant, verdict["too_many_streams"])
     else:
-        outcome.refuse("unknown", f"the program's verdict {verdict!r} is not known, stream: {name}")
+        outcome.refuse("unknown", f"the program's verdict {verdict!r} is not known, {place}")
 
 
 def stream_reason(stream: Stream, refusal: dict, limits: Limits) -> str:

@@ -90,7 +90,7 @@ def test_refusals_are_told_in_lokis_manner(with_front):
         status, text = await push(client, {"a": "1"}, (eight, "x"), ("1", "y"), (nine, "z" * 1001))
         assert status == 400
         assert text.startswith("entry too far behind, entry timestamp is: 1970-01-01T00:00:00.000000001Z, oldest")
-        assert 'stream: {a="1"}\ntotal ignored: 2 out of 3\n' in text
+        assert 'stream: {a="1"}, entry 1\ntotal ignored: 2 out of 3\n' in text
         status, text = await push(client, {"a": "1"}, (nine, "z" * 1001))
         assert status == 400 and "Max entry size '1000' bytes exceeded for stream '{a=\"1\"}'" in text and "length '1001'" in text
         status, text = await push(client, {"ok": "1", "x-y": "2"}, ("1", "x"))
