@@ -29,7 +29,7 @@ help:
 	@echo 'make front-install puts the front in place; PREFIX=FOLDER'
 	@echo 'make front-check tests the front without the program'
 	@echo 'make front-test  tests the front over the program, and kills both; PROGRAM=FILE'
-	@echo 'make front-bench figures of the front (front/bench/README.md); PROGRAM=FILE'
+	@echo 'make front-bench figures of pushes through the front; PROGRAM=FILE'
 
 # The toolchain's own lines go to standard error, so that standard output has the replies alone.
 try:

@@ -1,6 +1,7 @@
 """Bodies of `POST /loki/api/v1/push`: JSON, or protobuf with Snappy, to streams as the program takes them."""
 import json
 import re
+import warnings
 import zlib
 from dataclasses import dataclass, field
 
@@ -174,10 +175,15 @@ def _json_stream(body: Body, place: str, stream: object, drop_metadata: bool, wh
 
 def read_protobuf(message: bytes, drop_metadata: bool) -> Body:
     """The streams of a push message. Raises Fault 400."""
-    try:
-        request = push_pb2.PushRequest.FromString(message)
-    except DecodeError as fault:
-        raise Fault(400, f"the body is no push message: {fault}\n") from None
+    # Of a message that it has read in part, up to a tag that ends a group, the library only warns.
+    with warnings.catch_warnings(record=True) as warned:
+        warnings.simplefilter("always")
+        try:
+            request = push_pb2.PushRequest.FromString(message)
+        except DecodeError as fault:
+            raise Fault(400, f"the body is no push message: {fault}\n") from None
+    if warned:
+        raise Fault(400, f"the body is no push message: {warned[0].message}\n")
     body = Body()
     for index, stream in enumerate(request.streams):
         body.streams.append(_protobuf_stream(body, f"stream {index}", stream, drop_metadata))

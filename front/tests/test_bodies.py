@@ -94,7 +94,10 @@ def test_stamps_of_protobuf_have_their_range(entry):
 
 
 def test_wrong_protobuf_is_refused():
-    assert status_of(lambda: bodies.read(b"\x0a\xff", PROTOBUF, False)) == 400
+    whole = message_of(b'{a="1"}', (1, 0, b"x")).SerializeToString()
+    # A length past the end; a part of a message; a tag that ends a group where none began.
+    for message in (b"\x0a\xff", whole[:-1], whole + b"\x0c" + whole):
+        assert status_of(lambda: bodies.read(message, PROTOBUF, False)) == 400
     assert status_of(lambda: bodies.read(message_of(b"{a=1}", (1, 0, b"")).SerializeToString(), PROTOBUF, False)) == 400
 
 
