@@ -122,8 +122,11 @@ class Front:
         state = "Stopping" if self.stopping or self.child.ended.is_set() else state
         return web.Response(text=f"ingestd => {state}\nhousekeeping => {state}\n")
 
-    async def recover(self) -> None:
-        """Waits for the first reply, which comes behind recovery. Raises Fault where the program ends before it."""
+    async def run(self) -> None:
+        """Waits for the first reply, which comes behind recovery, then keeps house until it is cancelled.
+
+        Raises Fault where the program ends.
+        """
         began = time.monotonic()
         reply = await self.child.ask({"cmd": "board"})
         # Where no shard has an entry, nothing that is sent can have been taken before.
@@ -174,7 +177,7 @@ async def serve(settings: Settings) -> int:
 
 async def _until_the_end(front: Front, site: web.TCPSite, stop: asyncio.Event) -> int:
     """Waits for a signal or the end of the program, ends in order, and gives the program's status."""
-    work = asyncio.create_task(front.recover())
+    work = asyncio.create_task(front.run())
     waits = [asyncio.create_task(stop.wait()), asyncio.create_task(front.child.ended.wait()), work]
     await asyncio.wait(waits, return_when=asyncio.FIRST_COMPLETED)
     if not front.child.ended.is_set():

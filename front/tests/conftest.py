@@ -27,7 +27,7 @@ def with_front(tmp_path):
             settings = read_settings([*words, "--program", str(HERE / "stand_in.py"), "/dev/null", str(tmp_path)])
             front = Front(settings, AllLimits(LIMITS))
             await front.child.start()
-            task = asyncio.create_task(front.recover())
+            task = asyncio.create_task(front.run())
             server = TestServer(front.application())
             client = TestClient(server)
             await server.start_server(auto_decompress=False)
