@@ -77,6 +77,7 @@ def test_filters_look_through_all_pages(front):
     assert client.found('{a="1"} |= "999"') == [one for one in lines if "999" in one[1]]
     assert client.found('{a="1"} |= "999"', direction="backward") == [one for one in lines if "999" in one[1]][::-1]
     assert client.push({"b": "1"}, *((5, f"line {number}") for number in range(6000))) == (204, "")
+    assert len(client.found('{b="1"}')) == 5000
     status, answer = client.ask("/loki/api/v1/query_range", query='{b="1"} |= "none"', start="0")
     assert status == 400 and "5000 entries or more have the stamp 5" in answer
 

@@ -8,8 +8,9 @@ from .stamps import STAMP_LIMIT
 
 # The most entries of one answer of the program.
 MOST = 5000
+# A first page is short, since its lines may be long: 1,000 of them have at most 256 MiB. Those that follow are made so long
+# that their lines have about PAGE_BYTES, by the lines of the page before.
 FIRST_PAGE, LEAST_PAGE = 1000, 100
-# A page is made so long that its lines have about this many bytes.
 PAGE_BYTES = 1 << 23
 Ask = Callable[[dict], Awaitable[dict]]
 

@@ -130,7 +130,7 @@ class Pushes:
             raise Fault(400 if reply["number"] in SENDER_FAULTS else 500, f"the program refuses the push: {reply}\n")
         outcome = verdicts.judge(parts, reply["push"], limits, tenant)
         for part, member in zip(parts, reply["push"], strict=True):
-            if "error" not in member:
+            if any(verdict == "duplicate" or "accepted" in verdict for verdict in member.get("verdicts", [])):
                 self.streams.note(tenant, member["stream"], part.content.labels)
         return outcome
 

@@ -72,7 +72,7 @@ class Queries:
         Raises Fault 400 where the answer would be too long, and what pages raise.
         """
         found, held, looked_at, size = [], 0, 0, 0
-        first = pages.FIRST_PAGE if query.filters else min(limit, pages.MOST)
+        first = pages.FIRST_PAGE if query.filters else min(limit, pages.FIRST_PAGE)
         async with contextlib.aclosing(pages.walk(self.ask, wanted, first)) as walk:
             async for page in walk:
                 looked_at += len(page)
