@@ -2,6 +2,7 @@
 import gzip
 import json
 import pathlib
+import random
 import subprocess
 import zlib
 
@@ -11,6 +12,7 @@ import snappy
 from sarymbeu_front import bodies, push_pb2
 from sarymbeu_front.bodies import JSON, MAX_BODY, PROTOBUF
 from sarymbeu_front.faults import Fault
+from sarymbeu_front.stamps import is_stamp
 
 PACKAGE = pathlib.Path(bodies.__file__).parent
 
@@ -134,3 +136,46 @@ def test_no_body_grows_beyond_its_bound():
 def test_the_generated_module_is_that_of_the_message(tmp_path):
     subprocess.run(["protoc", f"--proto_path={PACKAGE}", f"--python_out={tmp_path}", "push.proto"], check=True)
     assert (tmp_path / "push_pb2.py").read_bytes() == (PACKAGE / "push_pb2.py").read_bytes()
+
+
+def changed(lot, message):
+    """A message with up to three changes: bytes taken out, put in, or replaced."""
+    message = bytearray(message)
+    for _ in range(lot.randrange(1, 4)):
+        at, what = lot.randrange(len(message) + 1), bytes([lot.choice([lot.randrange(256), *b'{}[]",:\\u'])])
+        message[at : at + lot.randrange(2)] = what * lot.randrange(2)
+    return bytes(message)
+
+
+@pytest.mark.parametrize("seed", range(4))
+def test_every_body_is_read_or_refused(seed):
+    lot = random.Random(seed)
+    values = [["5", "x\ud800"], ["6", "y", {"trace": "7"}], ["7", "ä😀"]]
+    request = message_of(b'{a="1\\x41", b=`q`}', (1, 5, b"hello"), (2, 0, b"\xff"))
+    request.streams[0].entries[0].structured_metadata.add(name=b"trace", value=b"7")
+    whole = {JSON: body_of(({"a": "1", "b": "\udfff"}, values)), PROTOBUF: request.SerializeToString()}
+    read = 0
+    for number in range(2000):
+        kind = (JSON, PROTOBUF)[number % 2]
+        try:
+            body = bodies.read(changed(lot, whole[kind]), kind, True)
+        except Fault as fault:
+            assert fault.status == 400
+            continue
+        read += 1
+        # What was read can be sent: it has no lone surrogate, and all stamps are the program's.
+        for stream in body.streams:
+            json.dumps([stream.labels, stream.values], ensure_ascii=False).encode()
+            assert all(is_stamp(stamp) for stamp, _ in stream.values)
+    assert read > 200
+
+
+@pytest.mark.parametrize("seed", range(4))
+def test_every_snappy_block_is_unpacked_or_refused(seed):
+    lot = random.Random(seed)
+    packed = snappy.compress(b"hello hello hello hello " * 20)
+    for _ in range(500):
+        try:
+            assert len(bodies.unpacked(changed(lot, packed), "", PROTOBUF)) <= MAX_BODY
+        except Fault as fault:
+            assert fault.status in (400, 413)
