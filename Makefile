@@ -60,7 +60,7 @@ check:
 	rt all check
 
 # The crates from which the most ways lead down come first: there a needless edge costs most.
-test: documents
+test: documents front-check
 	@scripts/ways.sh | head -n 3
 	@scripts/gate.sh
 
