@@ -59,7 +59,7 @@ $(ctl): $(sources)
 check:
 	rt all check
 
-# The crates from which the most ways lead down come first: there a needless edge costs most.
+# The crates from which the most ways lead down come first: there a needless edge shows.
 test: documents front-check
 	@scripts/ways.sh | head -n 3
 	@scripts/gate.sh

@@ -1,7 +1,7 @@
 #!/bin/sh
 # Prints each crate with the number of ways that lead down from it through crates.txt and of the crates of this repository that it
-# lists, the most ways first. The toolchain sums up a library's files once for each way to it, at every command: an edge that no
-# text needs costs all that stand above it.
+# lists, the most ways first. An edge that no text needs makes crates wait for each other, and shows here: it costs a way for each
+# that leads to it. (Releases of the toolchain before rattle-kit-13f also sum up a library's files once for each way.)
 set -e
 cd "$(dirname "$0")/.."
 awk '
