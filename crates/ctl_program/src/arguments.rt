@@ -17,6 +17,7 @@ pub fn command<'a>(alloc: Global) -> Result<Command<'a>, AllocError> {
         .subcommand(settings(alloc)?)?
         .subcommand(show(alloc)?)?
         .subcommand(check(alloc)?)?
+        .subcommand(mend(alloc)?)?
         .subcommand(refusals(alloc)?)
 }
 
@@ -91,10 +92,40 @@ fn check<'a>(alloc: Global) -> Result<Command<'a>, AllocError> {
     let settings = Arg::new(alloc, "settings")
         .value_name("SETTINGS")
         .help("The settings file; without it all defaults hold");
+    let room = Arg::new(alloc, "room")
+        .long("room")
+        .action(ArgAction::SetTrue)
+        .help(
+            "Also whether there is room for what a start writes: a file as long is written, and removed",
+        );
     Command::new(alloc, "check")
         .about("What ingestd would recover from a folder, or why it would not start.")
         .arg(folder)?
-        .arg(settings)
+        .arg(settings)?
+        .arg(room)
+}
+
+fn mend<'a>(alloc: Global) -> Result<Command<'a>, AllocError> {
+    let folder = Arg::new(alloc, "folder")
+        .value_name("FOLDER")
+        .required(true)
+        .help("The folder that ingestd is given");
+    let settings = Arg::new(alloc, "settings")
+        .value_name("SETTINGS")
+        .help("The settings file; without it all defaults hold");
+    let cut = Arg::new(alloc, "cut")
+        .long("cut")
+        .action(ArgAction::SetTrue)
+        .help(
+            "Cut them there; what a log had is kept beside it. Not while a program works in the folder",
+        );
+    Command::new(alloc, "mend")
+        .about(
+            "Where the logs of a folder are damaged, as by a power cut, and what stands before that.",
+        )
+        .arg(folder)?
+        .arg(settings)?
+        .arg(cut)
 }
 
 fn refusals<'a>(alloc: Global) -> Result<Command<'a>, AllocError> {

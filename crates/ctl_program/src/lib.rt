@@ -8,6 +8,7 @@ mod feeding;
 mod given;
 mod in_force;
 mod loading;
+mod mending;
 mod output;
 mod progress;
 mod refusals;
@@ -79,6 +80,7 @@ fn run_chosen<I: BufRead, O: Write, E: Write>(
         Some(("settings", given)) => in_force::show_settings(rt, given, output),
         Some(("show", given)) => showing::show_files(rt, given, output),
         Some(("check", given)) => checking::check_folder(rt, given, output),
+        Some(("mend", given)) => mending::mend_folder(rt, given, output),
         Some(("refusals", given)) => refusals::show_refusals(rt, given, output),
         _ => Ok(Status::Unread),
     }

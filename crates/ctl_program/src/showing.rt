@@ -5,9 +5,11 @@ use anyhow::{Context, Result, bail};
 use clap::ArgMatches;
 use ctl_show::{ShowFault, Shown, chunk_words, log_words, record_words, row_words, show};
 use ing_codec::{CodecFault, chunk_key};
+use ing_folder::is_in_use;
 use ing_logged::LogReadFault;
 use std::fs;
 use std::io::Write;
+use std::path::Path;
 
 /// Writes what stands in each file.
 pub fn show_files<O: Write>(
@@ -19,12 +21,36 @@ pub fn show_files<O: Write>(
     let mut is_right = true;
     for path in given.get_strs("files").unwrap_or(&[]) {
         let bytes = fs::read(rt, *path).context(*path)?;
+        tell_use(rt, path, output)?;
         put(output, format!(in rt.alloc(); "{path}: ")?.as_str())?;
         if !show_bytes(rt, &bytes, with_entries, output)? {
             is_right = false;
         }
     }
     Ok(Status::of(is_right))
+}
+
+/// Writes that a program works in the folder of a log or an object, where one does.
+fn tell_use<O: Write>(rt: &HostRuntime, path: &str, output: &mut O) -> Result<()> {
+    let mut above = Path::new(path).ancestors().skip(1);
+    let Some(near) = above.next() else {
+        return Ok(());
+    };
+    let folder = match near.file_name() {
+        Some("objects") => above.next().unwrap_or(near),
+        _ => near,
+    };
+    let folder = match folder.as_str() {
+        "" => ".",
+        folder => folder,
+    };
+    if is_in_use(rt, rt.alloc(), folder).context(folder)? {
+        put(
+            output,
+            "lock: a program works in the folder, and may change what follows\n",
+        )?;
+    }
+    Ok(())
 }
 
 /// Writes what stands in the bytes of a file, or their first fault; whether they have none.

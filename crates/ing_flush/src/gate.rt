@@ -45,6 +45,17 @@ impl<S: StoreEnd, G: Gate> StoreEnd for GatedEnd<S, G> {
         self.end.put(alloc, name, bytes)
     }
 
+    fn put_digested(
+        &mut self,
+        alloc: Global,
+        name: &str,
+        bytes: &[u8],
+        digest: &[u8; 32],
+    ) -> Result<S::Receipt, StoreFault> {
+        self.gate.pass(&self.op);
+        self.end.put_digested(alloc, name, bytes, digest)
+    }
+
     fn get<'r>(
         &mut self,
         alloc: Global,

@@ -1,5 +1,7 @@
 //! One program at a time in a folder, and what the folder was begun with.
-use crate::folder::{FolderFault, make_folder, path_in, refuse_link, sync_folder};
+use crate::folder::{
+    FolderFault, make_folder, path_in, refuse_link, remove_unfinished, sync_folder,
+};
 use ing_limits::Settings;
 use std::alloc::{AllocError, AllocFailed, Global};
 use std::fs::{File, OpenFile, TryLockError};
@@ -84,7 +86,7 @@ enum Found {
 /// A folder that is kept for one program: the file `lock` in it is locked until this is dropped, also where the program is killed.
 /// What the folder was begun with stands in that file. (Linux, `flock`; the text is own.)
 #[derive(Drop)]
-pub struct FolderHold<'a, R: Files<File = File> + AllocGlobal> {
+pub struct FolderHold<'a, R: Files<File = File> + AllocGlobal + Clone + Drop> {
     rt: &'a R,
     folder: String,
     file: File,
@@ -92,18 +94,18 @@ pub struct FolderHold<'a, R: Files<File = File> + AllocGlobal> {
     found: Found,
 }
 
-impl<'a, R: Files<File = File> + AllocGlobal> FolderHold<'a, R> {
+impl<'a, R: Files<File = File> + AllocGlobal + Clone + Drop> FolderHold<'a, R> {
     /// Takes the folder at this path, which is made where it is absent, for a program that works with the shards and sizes of these settings.
     /// `InUse` where another has it; `OtherSettings` where it was begun with others; `MissingLog` of the lowest shard whose log is
     /// not there though the folder was begun; `Failed` where the file system failed. A folder that was there is as it was then, but
-    /// for an empty file `lock`.
+    /// for an empty file `lock`; else what was being written beside a log or an object when a program stopped is gone.
     pub fn take(
         rt: &'a R,
         alloc: Global,
         folder: &str,
         settings: &Settings,
     ) -> Result<FolderHold<'a, R>, HoldFault> {
-        make_folder(rt, folder)?;
+        make_folder(rt, alloc, folder)?;
         let mut file = open_lock(rt, alloc, folder)?;
         lock(&file)?;
         let text = beginning(alloc, settings)?;
@@ -111,11 +113,15 @@ impl<'a, R: Files<File = File> + AllocGlobal> FolderHold<'a, R> {
             Noted::Other => return Err(HoldFault::OtherSettings),
             Noted::Same => {
                 has_logs(rt, alloc, folder, settings.shards())?;
+                // The program that wrote it may have been stopped before it was on the disk.
+                file.sync_all()?;
                 Found::Begun
             }
-            Noted::Nothing if has_log(rt, alloc, folder, 0)? => Found::Unnoted,
-            Noted::Nothing => Found::Fresh,
+            Noted::Nothing if is_bare(rt, alloc, folder, settings.shards())? => Found::Fresh,
+            Noted::Nothing => Found::Unnoted,
         };
+        remove_unfinished(rt, folder)?;
+        remove_unfinished(rt, path_in(alloc, folder, "objects")?.as_str())?;
         Ok(FolderHold {
             rt,
             folder: String::from_str(alloc, folder)?,
@@ -153,15 +159,37 @@ pub fn look_at<R: Files<File = File>>(
     folder: &str,
     settings: &Settings,
 ) -> Result<Looked, HoldFault> {
+    let Some((mut file, is_in_use)) = opened_lock(rt, alloc, folder)? else {
+        return Ok(Looked {
+            is_in_use: false,
+            noted: Noted::Nothing,
+        });
+    };
+    let text = beginning(alloc, settings)?;
+    let noted = note_in(alloc, &mut file, text.as_str())?;
+    Ok(Looked { is_in_use, noted })
+}
+
+/// Whether a program works in the folder at this path, as far as its file `lock` tells: of a folder without one nobody knows. For a moment
+/// no program can take it. `Failed` where the file system failed. (Own.)
+pub fn is_in_use<R: Files<File = File>>(
+    rt: &R,
+    alloc: Global,
+    folder: &str,
+) -> Result<bool, HoldFault> {
+    Ok(opened_lock(rt, alloc, folder)?.is_some_and(|opened| opened.1))
+}
+
+/// The file `lock` of a folder, and whether another program has locked it; none where there is no such file.
+fn opened_lock<R: Files<File = File>>(
+    rt: &R,
+    alloc: Global,
+    folder: &str,
+) -> Result<Option<(File, bool)>, HoldFault> {
     let path = path_in(alloc, folder, "lock")?;
-    let mut file = match File::open(rt, path.as_str()) {
+    let file = match File::open(rt, path.as_str()) {
         Ok(file) => file,
-        Err(error) if error.kind() == ErrorKind::NotFound => {
-            return Ok(Looked {
-                is_in_use: false,
-                noted: Noted::Nothing,
-            });
-        }
+        Err(error) if error.kind() == ErrorKind::NotFound => return Ok(None),
         Err(error) => return Err(HoldFault::from(error)),
     };
     let is_in_use = match file.try_lock_shared() {
@@ -169,9 +197,7 @@ pub fn look_at<R: Files<File = File>>(
         Err(TryLockError::WouldBlock) => true,
         Err(TryLockError::Error(error)) => return Err(HoldFault::from(error)),
     };
-    let text = beginning(alloc, settings)?;
-    let noted = note_in(alloc, &mut file, text.as_str())?;
-    Ok(Looked { is_in_use, noted })
+    Ok(Some((file, is_in_use)))
 }
 
 /// What a folder is begun with, as it stands in the file `lock`: TOML, the number of its form first. (Own.)
@@ -184,7 +210,7 @@ fn beginning(alloc: Global, settings: &Settings) -> Result<String, AllocError> {
 }
 
 /// Opens the file that is locked. It is made where it is absent, for its owner alone.
-fn open_lock<R: Files<File = File>>(
+pub(crate) fn open_lock<R: Files<File = File>>(
     rt: &R,
     alloc: Global,
     folder: &str,
@@ -197,7 +223,7 @@ fn open_lock<R: Files<File = File>>(
 }
 
 /// Locks a file for this program alone.
-fn lock(file: &File) -> Result<(), HoldFault> {
+pub(crate) fn lock(file: &File) -> Result<(), HoldFault> {
     match file.try_lock() {
         Ok(()) => Ok(()),
         Err(TryLockError::WouldBlock) => Err(HoldFault::InUse),
@@ -227,6 +253,17 @@ fn note_in(alloc: Global, file: &mut File, text: &str) -> Result<Noted, HoldFaul
 fn has_log<R: Files>(rt: &R, alloc: Global, folder: &str, shard: u32) -> Result<bool, HoldFault> {
     let path = format!(in alloc; "{folder}/wal-{shard}")?;
     Ok(fs::exists(rt, path.as_str())?)
+}
+
+/// Whether there is neither a log of so many shards nor a store.
+fn is_bare<R: Files>(rt: &R, alloc: Global, folder: &str, shards: u32) -> Result<bool, HoldFault> {
+    for shard in 0..shards {
+        if has_log(rt, alloc, folder, shard)? {
+            return Ok(false);
+        }
+    }
+    let objects = path_in(alloc, folder, "objects")?;
+    Ok(!fs::exists(rt, objects.as_str())?)
 }
 
 /// Whether the logs of so many shards are there; `MissingLog` of the first that is not.

@@ -5,6 +5,7 @@ ghost use Rattle.ing_store.specs.StoreFaults.{IsCounted};
 
 use crate::folder::{FolderFault, make_folder, path_in, read_file, replace_file};
 use ing_store::{DigestReceipt, StoreEnd, StoreFault};
+use sha2::{Digest, Sha256};
 use std::alloc::{AllocError, Global};
 use std::borrow::CowSlice;
 use std::marker::Model;
@@ -43,7 +44,7 @@ impl<'a, R: Files + AllocGlobal> FolderStore<'a, R> {
     ) -> Result<FolderStore<'a, R>, FolderFault>
         ensures { IfOk result (λ end. end ≡ 0) }
     {
-        make_folder(rt, folder)?;
+        make_folder(rt, alloc, folder)?;
         Ok(FolderStore::over(rt, alloc, folder, number)?)
     }
 
@@ -145,7 +146,18 @@ impl<'a, R: Files + AllocGlobal> StoreEnd for FolderStore<'a, R> {
         name: &str,
         bytes: &[u8],
     ) -> Result<DigestReceipt, StoreFault> {
-        let receipt = DigestReceipt::of(alloc, name, bytes)?;
+        let digest = Sha256::digest(bytes);
+        self.put_digested(alloc, name, bytes, &digest)
+    }
+
+    fn put_digested(
+        &mut self,
+        alloc: Global,
+        name: &str,
+        bytes: &[u8],
+        digest: &[u8; 32],
+    ) -> Result<DigestReceipt, StoreFault> {
+        let receipt = DigestReceipt::of_digested(alloc, name, bytes, digest)?;
         match self.try_write(alloc, name, bytes) {
             Ok(()) => Ok(receipt),
             Err(FolderFault::NoMemory) => Err(StoreFault::NoMemory),

@@ -5,11 +5,13 @@
 mod folder;
 mod folder_hold;
 mod folder_log;
+mod folder_repair;
 mod folder_store;
 mod streams;
 
 pub use folder::FolderFault;
-pub use folder_hold::{FolderHold, HoldFault, Looked, Noted, look_at};
+pub use folder_hold::{FolderHold, HoldFault, Looked, Noted, is_in_use, look_at};
 pub use folder_log::FolderLog;
+pub use folder_repair::FolderRepair;
 pub use folder_store::FolderStore;
 pub use streams::hold_streams;

@@ -57,8 +57,8 @@ impl<N: NodeName> Flushing<N> {
         Ok((flushing, Sweeper { pass }))
     }
 
-    /// Tries again to put operations that found the queue full into it, from the last on, until one finds it full. What is left
-    /// comes back in the list that is given. Nothing is sealed. Takes no memory.
+    /// Tries again to put operations that found the queue full into it, from the first on, until one finds it full. What is left
+    /// comes back in the list that is given, in its order. Nothing is sealed. Takes no memory.
     pub fn queue_left<W: Wait>(&self, rt: &W, sweeper: &mut Sweeper, ops: Vec<Op>) -> Swept
         requires { sweeper.old.pass.queue ≡ self.now.queue.name }
         ensures sealed { result.sealed ≡ 0 }
@@ -67,6 +67,8 @@ impl<N: NodeName> Flushing<N> {
         ensures full { IsFullAt self.now.queue.capacity result.left.items sweeper.new.pass }
     {
         let mut left = ops;
+        // What is tried next stands last.
+        left.reverse();
         let mut queued = 0;
         while let Some(op) = left.pop() {
             if let Err(full) = self.queue.put(rt, &mut sweeper.pass, op) {
@@ -75,6 +77,7 @@ impl<N: NodeName> Flushing<N> {
             }
             queued += 1;
         }
+        left.reverse();
         Swept {
             sealed: 0,
             queued,

@@ -211,4 +211,16 @@ impl<N: NodeName, D: LogDisk, R: Receipt> Ingester<N, D, R> {
             .lock(rt)
             .checkpoint(shard, alloc)
     }
+
+    /// Puts a checkpoint of a shard in the place of its log where that is torn, and says whether it is not torn then, as
+    /// `DurableShard::save`: so what was stored on a torn log outlives a crash. Of an ingester with logs. `Misplaced`, and `NoMemory`: then
+    /// the log is as it was. (Own.)
+    pub fn save<W: Wait>(&self, rt: &W, alloc: Global, shard: u32) -> Result<bool, NodeFault>
+        requires shard { shard < N.settings.shards }
+        requires logs { N.has_logs ≡ true }
+        ensures fault { IfErr result (λ fault. (fault ≡ NodeFault.NoMemory)
+            ⊎ (fault ≡ NodeFault.Misplaced shard)) }
+    {
+        self.shards[shard as usize].lock(rt).save(shard, alloc)
+    }
 }

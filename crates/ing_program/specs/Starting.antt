@@ -33,6 +33,13 @@ NamesFile (path ∷ []) file = ⊤
 NamesFile (path ∷ folder ∷ []) file = ⊤
 NamesFile (path ∷ folder ∷ next ∷ more) file = ⊥
 
+-- these argument words are more than two, or that of the folder is empty, which names none
+abbrev pub AreBad : List (List ℕ) → Type 0
+AreBad [] = ⊥
+AreBad (path ∷ []) = ⊥
+AreBad (path ∷ folder ∷ []) = folder ≡ []
+AreBad (path ∷ folder ∷ next ∷ more) = ⊤
+
 -- over a folder: what the shards begin with is what lies there, which no contract knows, and no more how often its store fails
 abbrev pub IsOverFolder : StoreSettings → (Manner → ℕ → Type 0) → Type 0
 IsOverFolder settings P = (began : Began) × (began.logs ≡ true) × (failed : ℕ) × P (by_ledger began settings.shards) failed

@@ -57,8 +57,10 @@ impl<'a, R: Files + AllocGlobal> Disk<'a, R> {
     }
 }
 
-impl<'a, R: Files<File = File> + AllocGlobal> Folders<FolderLog<'a, R>, FolderStore<'a, R>>
-    for Disk<'a, R> {
+impl<'a, R: Files<File = File> + AllocGlobal + Clone + Drop> Folders<
+    FolderLog<'a, R>,
+    FolderStore<'a, R>,
+> for Disk<'a, R> {
     type Hold = FolderHold<'a, R>;
 
     fn hold(

@@ -4,7 +4,7 @@ ghost use Rattle.std.specs.String.{string_bytes};
 ghost use Rattle.ing_limits.specs.Settings.{StoreSettings};
 ghost use Rattle.ing_session.specs.Endings.{IsNotOpened, ending_status, refusal_of};
 ghost use Rattle.ing_session.specs.Runs.{AnswersAll, AnswersWhatWasRead, AnswersFirstLines, AnswersFront};
-ghost use Rattle.ing_program.specs.Starting.{BeginSettings, GiveSettings, IsOfFolder, NamesFile, is_alone, manner_of, started_by};
+ghost use Rattle.ing_program.specs.Starting.{AreBad, BeginSettings, GiveSettings, IsOfFolder, NamesFile, is_alone, manner_of, started_by};
 
 use crate::folders::Folders;
 use crate::over::start_over;
@@ -24,7 +24,7 @@ use std::thread::Threads;
 /// with all defaults; and over the logs and the store in the folder at the second, or without it over a store in memory, which ends with
 /// the run.
 ///
-/// `BadArguments` where there are more words, then `NoSettings` where the file cannot be read; the others as `start_on` and `start_over`
+/// `BadArguments` where there are more words or the one for the folder is empty, then `NoSettings` where the file cannot be read; the others as `start_on` and `start_over`
 /// say. `NoMemory` may stand in place of any. (Own.)
 pub fn start<
     H: Files + AllocGlobal + Threads + Wait + Sync,
@@ -54,7 +54,7 @@ pub fn start<
     ensures begun { IsErrOf result Ending.OutputFault → BeginSettings (map string_bytes words.now) }
     ensures refused { IfErr result (λ e. IfSome (refusal_of e) (λ refusal.
         (file : List ℕ) × NamesFile (map string_bytes words.now) file × (started_by file ≡ Err refusal))) }
-    ensures words { IsErrOf result Ending.BadArguments ↔ (2 < length words.now) }
+    ensures words { IsErrOf result Ending.BadArguments ↔ AreBad (map string_bytes words.now) }
     ensures named { IsErrOf result Ending.NoSettings → 0 < length words.now }
     ensures silent { IfErr result (λ e. ending_status e ≡ 1 → writer.new ≡ writer.old) }
     ensures not_opened { IfErr result (λ e. IsNotOpened e → writer.new ≡ writer.old) }
@@ -70,7 +70,7 @@ pub fn start<
 /// The bytes of the settings file that the argument words name; none without a word.
 fn settings_file<F: Files + AllocGlobal>(rt: &F, words: &[String]) -> Result<Vec<u8>, Ending>
     ensures file { IfOk result (λ file. NamesFile (map string_bytes words.now) file.items) }
-    ensures words { IsErrOf result Ending.BadArguments ↔ (2 < length words.now) }
+    ensures words { IsErrOf result Ending.BadArguments ↔ AreBad (map string_bytes words.now) }
     ensures few { OnOk result (length words.now ≤ 2) }
     ensures named { IsErrOf result Ending.NoSettings → 0 < length words.now }
     ensures refused { IfErr result (λ e. refusal_of e ≡ None) }
@@ -79,7 +79,8 @@ fn settings_file<F: Files + AllocGlobal>(rt: &F, words: &[String]) -> Result<Vec
 {
     match words {
         [] => Ok(Vec::new(rt.alloc())),
-        [path] | [path, _] => read_file(rt, path.as_str()),
+        [path] => read_file(rt, path.as_str()),
+        [path, folder] if !folder.is_empty() => read_file(rt, path.as_str()),
         _ => Err(Ending::BadArguments),
     }
 }

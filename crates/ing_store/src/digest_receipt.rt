@@ -1,5 +1,6 @@
 //! What an end gives for an object whose bytes lie where they may change.
 ghost use Rattle.std.specs.Prelude.{◌≡◌, IfOk, true};
+ghost use Rattle.sha2.specs.Sha256.{sha256};
 ghost use Rattle.ing_store.specs.Digests.{HasDigestOf};
 ghost use Rattle.ing_store.specs.StoredObjects.{stored_object};
 
@@ -36,9 +37,22 @@ impl DigestReceipt {
     pub fn of(alloc: Global, name: &str, bytes: &[u8]) -> Result<DigestReceipt, AllocError>
         ensures { IfOk result (λ r. r ≡ stored_object name.now bytes.now) }
     {
+        DigestReceipt::of_digested(alloc, name, bytes, &Sha256::digest(bytes))
+    }
+
+    /// The same, of bytes whose digest is known: they are not read.
+    pub fn of_digested(
+        alloc: Global,
+        name: &str,
+        bytes: &[u8],
+        digest: &[u8; 32],
+    ) -> Result<DigestReceipt, AllocError>
+        requires { digest.now ≡ sha256 bytes.now }
+        ensures { IfOk result (λ r. r ≡ stored_object name.now bytes.now) }
+    {
         Ok(DigestReceipt {
             name: String::from_str(alloc, name)?,
-            digest: Sha256::digest(bytes),
+            digest: *digest,
             meaning: Meaning::of(bytes),
         })
     }
@@ -63,4 +77,8 @@ impl Receipt for DigestReceipt {
     ghost name = { λ r. r.name };
 
     ghost bytes = { λ r. r.bytes };
+
+    fn digest(&self) -> Option<[u8; 32]> {
+        Some(self.digest)
+    }
 }

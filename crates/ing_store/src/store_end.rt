@@ -1,6 +1,7 @@
 //! What a worker has of a store.
 ghost use Rattle.std.specs.Prelude.{◌≡◌, ℕ, List, IfOk, IfSome};
 ghost use Rattle.std.specs.Cow.{cow_slice_items};
+ghost use Rattle.sha2.specs.Sha256.{sha256};
 ghost use Rattle.ing_store.specs.Digests.{HasDigestOf};
 ghost use Rattle.ing_store.specs.StoreFaults.{IsCounted};
 
@@ -16,6 +17,13 @@ pub trait Receipt: Drop {
 
     /// The bytes of the object.
     ghost bytes: { Self → List ℕ };
+
+    /// The SHA-256 (FIPS 180-4) of the bytes, where the receipt has it, so that nobody takes it again. Takes no memory.
+    fn digest(&self) -> Option<[u8; 32]>
+        ensures { IfSome result (λ digest. digest ≡ sha256 (bytes self.now)) }
+    {
+        None
+    }
 }
 
 /// What one worker has of a store of objects, each of which has a name and bytes. Its calls may wait. (Own.)
@@ -50,6 +58,24 @@ pub trait StoreEnd {
         // One that never fails stays such an end.
         ensures sure { never_fails self.old → (never_fails self.new)
             × (failure_count self.new ≡ failure_count self.old) };
+
+    /// Stores an object of which the SHA-256 (FIPS 180-4) is known, so that an end which needs it does not take it again. As `put`.
+    fn put_digested(
+        &mut self,
+        alloc: Global,
+        name: &str,
+        bytes: &[u8],
+        digest: &[u8; 32],
+    ) -> Result<Self::Receipt, StoreFault>
+        requires { digest.now ≡ sha256 bytes.now }
+        ensures name { IfOk result (λ r. Self.Receipt.name r ≡ name.now) }
+        ensures bytes { IfOk result (λ r. Self.Receipt.bytes r ≡ bytes.now) }
+        ensures count { IsCounted (failure_count self.old) (failure_count self.new) result }
+        ensures sure { never_fails self.old → (never_fails self.new)
+            × (failure_count self.new ≡ failure_count self.old) }
+    {
+        self.put(alloc, name, bytes)
+    }
 
     /// The bytes of an object, lent where they lie in memory already. `Damaged` where what lies there has another digest.
     fn get<'r>(

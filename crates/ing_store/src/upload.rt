@@ -44,7 +44,7 @@ pub fn put_chunk<S: StoreEnd>(
     let bytes = encode_chunk(alloc, chunk)?;
     let key = chunk_key(&bytes);
     let name = chunk_name(alloc, &key)?;
-    let receipt = end.put(alloc, name.as_str(), &bytes)?;
+    let receipt = end.put_digested(alloc, name.as_str(), &bytes, &key)?;
     Ok(Uploaded { receipt, key })
 }
 

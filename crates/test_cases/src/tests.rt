@@ -3,6 +3,7 @@
 mod faults;
 mod flushes;
 mod folders;
+mod full;
 
 use ing_limits::Settings;
 use ing_program::{Disk, Ending, Folders, conclude, run, run_shards, start};
@@ -159,13 +160,16 @@ fn words_that_name_no_file(rt: HostRuntime) -> Result<(), Fail> {
     Ok(())
 }
 
+/// More words than two, and a folder without a name, which is told before a settings file that is not there.
 #[test]
-fn more_words_than_two(rt: HostRuntime) -> Result<(), Fail> {
+fn words_that_are_no_arguments(rt: HostRuntime) -> Result<(), Fail> {
     let missing = temporary(&rt, "no-such-file.toml")?;
     let word = missing.as_str();
-    let (ended, written) = started(&rt, &Disk::new(&rt), &[word, word, word], PUSHES)?;
-    assert!(rt; ended == Err(Ending::BadArguments));
-    assert!(rt; written.as_str().is_empty());
+    for words in [[word, word, word].as_slice(), [word, ""].as_slice()] {
+        let (ended, written) = started(&rt, &Disk::new(&rt), words, PUSHES)?;
+        assert!(rt; ended == Err(Ending::BadArguments));
+        assert!(rt; written.as_str().is_empty());
+    }
     Ok(())
 }
 

@@ -54,8 +54,8 @@ impl<
     F: StoreEnd<Receipt = R> + Drop + Send,
     W: Threads + Wait + Sync,
 > Locked<'r, N, D, R, F, W> {
-    /// Seals each growing chunk where that is forced, works off what is queued, and gives the reply. It fails only where memory
-    /// runs out; then a part of it may be done.
+    /// Seals each growing chunk where that is forced, works off what is queued, saves what was stored on torn logs, and gives the
+    /// reply. It fails only where memory runs out; then a part of it may be done.
     pub fn flush(&mut self, said: Flush) -> Result<Reply, AllocError>
         ensures obeyed { (count : ℕ) → IfOk result (λ reply. (held : Held) →
             IsHeld self.old.pusher (counted_by self.old.workers.items) self.old.board held →
@@ -65,6 +65,7 @@ impl<
         match self.seal(said.forced) {
             Ok(swept) => {
                 let round = self.flush_all(swept.left);
+                self.save_torn(&round)?;
                 Ok(Reply::Flush {
                     failed: round.failed,
                     sealed: swept.sealed,
@@ -90,6 +91,21 @@ impl<
         }
         let (flushing, sweeper) = (&self.flushing, &mut self.sweeper);
         flushing.seal_round(self.rt, self.alloc, &self.ingester, sweeper)
+    }
+
+    /// Replaces each torn log by a checkpoint behind a round that stored something: no record tells there what was stored, so that a
+    /// crash would bring it back as what was never stored, or not at all. A log that cannot be replaced stays torn, and pushes go on to
+    /// say so. It fails only where memory runs out.
+    fn save_torn(&self, round: &Round) -> Result<(), AllocError> {
+        if !self.has_logs || round.stored == 0 {
+            return Ok(());
+        }
+        for shard in 0..self.settings.shards() {
+            if let Err(NodeFault::NoMemory) = self.ingester.save(self.rt, self.alloc, shard) {
+                return Err(AllocError);
+            }
+        }
+        Ok(())
     }
 
     /// Works the queue off, and puts what there was no room for into it, until nothing is left.

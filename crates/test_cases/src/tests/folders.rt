@@ -19,13 +19,13 @@ const CHECKPOINT: &str = "{\"cmd\":\"checkpoint\"}\n";
 
 /// A folder of one test alone, and a settings file.
 #[derive(Drop)]
-struct Places {
+pub struct Places {
     folder: String,
     settings: String,
 }
 
 /// Those of this name, in the folder for temporary files: the folder is not there yet, and the settings say nothing.
-fn places_of(rt: &HostRuntime, name: &str) -> Result<Places, Fail> {
+pub fn places_of(rt: &HostRuntime, name: &str) -> Result<Places, Fail> {
     let name = format!(in rt.alloc(); "{name}-{}", process::id(rt.process()))?;
     let folder = temporary(rt, name.as_str())?;
     let settings = format!(in rt.alloc(); "{}.toml", folder.as_str())?;
@@ -34,7 +34,7 @@ fn places_of(rt: &HostRuntime, name: &str) -> Result<Places, Fail> {
 }
 
 /// Removes both.
-fn remove(rt: &HostRuntime, places: &Places) -> Result<(), Fail> {
+pub fn remove(rt: &HostRuntime, places: &Places) -> Result<(), Fail> {
     fs::remove_file(rt, places.settings.as_str())?;
     fs::remove_dir_all(rt, places.folder.as_str())?;
     Ok(())
@@ -57,7 +57,7 @@ fn written<
 }
 
 /// How often such a run writes this text.
-fn count_of<
+pub fn count_of<
     H: Files + AllocGlobal + Threads + Wait + Sync,
     D: LogDisk + Drop + Send,
     Q: Receipt + Send + Sync,
@@ -173,8 +173,16 @@ fn empty_two(rt: &HostRuntime, folder: &str) -> Result<(), Fail> {
     Ok(())
 }
 
+/// Makes it a folder of an earlier version, which says nothing of how it was begun, without its first log.
+fn take_back(rt: &HostRuntime, folder: &str) -> Result<String, Fail> {
+    let lock = format!(in rt.alloc(); "{folder}/lock")?;
+    fs::write(rt, lock.as_str(), "")?;
+    fs::remove_file(rt, log_of(rt, folder, 0)?.as_str())?;
+    Ok(lock)
+}
+
 /// Several shards are made again, each of its own log. Where two are refused, the fault of the lower one is told, and the others keep
-/// what they have.
+/// what they have. A folder of before that lacks a log is no new one: what it was begun with is not noted behind a refusal.
 #[test]
 fn several_shards_are_made_again(rt: HostRuntime) -> Result<(), Fail> {
     let places = places_of(&rt, "several")?;
@@ -195,6 +203,10 @@ fn several_shards_are_made_again(rt: HostRuntime) -> Result<(), Fail> {
     );
     empty_two(&rt, folder)?;
     assert!(rt; written(&rt, &disk, &places, "")?.as_str() == FOUR);
+    let lock = take_back(&rt, folder)?;
+    fs::write(&rt, settings, "shards = 3\n")?;
+    assert!(rt; is_kept_out(&rt, &disk, &places, b"ingestd: OtherSettings\n")?);
+    assert!(rt; fs::read(&rt, lock.as_str())?.is_empty());
     remove(&rt, &places)
 }
 

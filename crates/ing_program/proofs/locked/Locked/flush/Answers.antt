@@ -7,8 +7,8 @@ use Rattle.ing_program.specs.Counted.{RisesBy, counted_by}
 use Rattle.ing_program.proofs.CountLaws.{rises_none, told_flush}
 use Rattle.ing_program.proofs.locked.Locked.flush.Goals as goal
 
-pub returns-in-Ok : goal.returns-in-Ok
-returns-in-Ok g c = record {
+pub returns-in_ok-save_torn-in-Ok : goal.returns-in_ok-save_torn-in-Ok
+returns-in_ok-save_torn-in-Ok g c = record {
   obeyed = λ count held is_held.
       let old = c.args.self.now in
       let left = c.flush_all-round.new.self in
