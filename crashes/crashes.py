@@ -1,0 +1,455 @@
+#!/usr/bin/env python3
+"""Cuts the power of ingestd over a folder, at drawn moments and in drawn ways, and looks whether what it had answered is there.
+
+    python3 crashes/crashes.py PROGRAM [--images N] [--seed N] [--jobs N] [--ctl PROGRAM] [--without WHICH] [--history N]
+    python3 crashes/crashes.py --check
+
+A run of `PROGRAM SETTINGS FOLDER` gets drawn commands, and `strace` records its calls for files and its replies, in one order. A
+model of a file system (disk.py) is told them one by one. Of what it has before and behind each call, images are built that a power
+cut may leave: bytes that were not synced dropped, cut, or zeros; creations, renames and removals that were not synced undone,
+singly and together. FOLDER itself, and folders above it that the program made, may be gone.
+
+Each image is put into a folder, and what lies in it is read by docs/FORMATS.md alone, as in kills/kills.py: what was answered
+durable before that moment is there, once, and nothing is that was not sent. The program is started over it, queries for all
+streams give the same, and so does what it leaves. Only a log whose end is damaged may keep it from starting, with `DamagedLog`:
+then `ingestctl mend` cuts it (with --ctl; else this program does), and all that was durable has to be there.
+
+A history is of several runs over one folder: each begins with what the one before left, be it ended, killed at a drawn sync, or
+with an image that a power cut left. What a run begins with has to last once it has answered.
+
+Besides, the order itself is looked at, in the record alone: before a reply tells that something is durable or stored, the logs,
+the objects and what leads to them are synced, and before a rename the bytes of the renamed file.
+
+With --without the record is read as if the program had left out one of its syncs, which both an image and the order have to show:
+
+    append  the sync of a log behind an append
+    beside  the sync of what is written beside before a rename: checkpoints and objects
+    folder  the sync of a folder behind a rename
+    begun   those with which a folder is begun: of `lock`, of FOLDER, and of the folders that list it
+
+What a disk does with what it said was synced this cannot show, and it takes the calls as they were seen: threads may be in another
+order the next time, so that `--seed` draws the same commands and cuts, but not always the same images. At the first image that
+loses, doubles or invents something, it says what, keeps the folder, and ends with status 1.
+"""
+import argparse
+import collections
+import functools
+import itertools
+import json
+import multiprocessing
+import os
+import pathlib
+import random
+import re
+import shutil
+import signal
+import subprocess
+import sys
+import tempfile
+from dataclasses import dataclass, field
+
+from disk import CALLS, KEPT, WAYS, Disk, check_disk, left_of, read_trace
+
+sys.path.insert(0, str(pathlib.Path(__file__).resolve().parent.parent / "kills"))
+from kills import SETTINGS, Fields, Folder, Model, canonical_name, draw_commands, draw_queries, entries_of  # noqa: E402
+
+EACH = 100  # images of one history
+OF_A_KIND = 5  # images of one kind in a run
+OF_A_RUN = 50  # images of a run
+ABOVE = ["", "above", "above/more"]  # folders that the program has to make, too
+WHICH = ["append", "beside", "folder", "begun"]
+BEFORE, BEHIND = "before the first reply", "behind a reply"
+STARTED, ANEW, MENDED = "started", "began anew", "started when mended"
+
+
+class Lost(Exception):
+    """An image, or the order of calls, that shows a loss."""
+
+
+@dataclass
+class Image:
+    """What a power cut may leave: files by path, None for a folder. Its kind says how entries and bytes were left."""
+    kind: tuple
+    moment: int
+    told: int
+    files: dict
+
+
+@dataclass
+class Lot:
+    """Some images of each kind, drawn among all that are offered."""
+    draw: random.Random
+    taken: dict = field(default_factory=dict)
+    offered: collections.Counter = field(default_factory=collections.Counter)
+
+    def offer(self, kind, build):
+        self.offered[kind] += 1
+        place = self.offered[kind] - 1
+        if place >= OF_A_KIND:
+            place = self.draw.randrange(self.offered[kind])
+        if place < OF_A_KIND:
+            self.taken.setdefault(kind, {})[place] = build()
+
+    def images(self):
+        """Those drawn, each once."""
+        found = {}
+        for image in itertools.chain(*(images.values() for images in self.taken.values())):
+            found.setdefault((image.told, frozenset(image.files.items())), image)
+        return sorted(found.values(), key=lambda image: image.moment)
+
+
+def ways_of_entries(calls, draw):
+    """How the entries are left that no sync made last, with those that are kept."""
+    if not calls:
+        return [("all kept", [])]
+    one = draw.choice(calls)
+    ways = [("all kept", calls), ("all undone", []), (f"one {one.kind} undone", [call for call in calls if call is not one])]
+    return ways + [(f"one {one.kind} kept", [one]), ("some undone", [call for call in calls if draw.random() < 0.5])]
+
+
+def offer_images(disk, lot, moment, told):
+    """Offers images of a moment."""
+    nodes, draw = disk.nodes(), lot.draw
+    entries = [call for node in nodes if node.is_folder() for call in node.calls]
+    has_bytes = any(node.calls for node in nodes if not node.is_folder())
+    for name, kept in ways_of_entries(entries, draw):
+        for way in [*WAYS, "drawn"] if has_bytes else ["none"]:
+            kind = (BEFORE if told == 0 else BEHIND, f"entries: {name if entries else 'none'}", f"bytes: {way}")
+
+            def build():
+                def text_of(node):
+                    return left_of(node, draw.choice(WAYS) if way == "drawn" else KEPT if way == "none" else way, draw)
+
+                return Image(kind, moment, told, disk.image(kept, text_of))
+
+            lot.offer(kind, build)
+
+
+def leaves_out(which, opened):
+    """Whether a sync is the one that is left out."""
+    name = opened.path.rsplit("/", 1)[1]
+    has_renamed = opened.node.is_folder() and any(call.kind == "rename" for call in opened.node.calls)
+    return {
+        "append": re.fullmatch(r"wal-\d+", name),
+        "beside": name.endswith(".new"),
+        "folder": has_renamed,
+        "begun": name == "lock" or opened.node.is_folder() and not has_renamed,
+        None: False,
+    }[which]
+
+
+def check_reply(disk, folder, command, reply):
+    """The order at a reply: where it tells that something lasts, the calls before have made it last."""
+    kind = command["cmd"]
+    told = reply.get(kind)
+    if kind == "push":
+        lasting = [part["durable"] for part in told]
+    else:
+        lasting = told if kind == "checkpoint" else [kind == "flush" and told["stored"] > 0]
+    if not any(lasting):
+        return
+    path = folder.place / "folder"
+    logs = [path / f"wal-{number}" for number in range(folder.settings["shards"])]
+    for at in [*logs, path / "lock", path, *path.parents]:
+        node = disk.find(at)
+        assert not node or not node.calls, f"a {kind} was answered before {at.name} was synced"
+    texts = [disk.find(log).now() for log in logs]
+    for name in [name for call in disk.find(path / "objects").calls for name in call.meant]:
+        # What a killed run left may stay as it is until a log lists it.
+        key = re.search("-([0-9a-f]{64})$", name)
+        is_listed = key and any(bytes.fromhex(key[1]) in text for text in texts)
+        assert not is_listed, f"a {kind} was answered before the entry {name} was synced"
+
+
+def check_rename(disk, called):
+    """The order at a rename: the bytes are synced."""
+    path = called.texts()[0].decode()
+    if node := disk.find(path):
+        assert not node.calls, f"{pathlib.Path(path).name} was renamed before it was synced"
+
+
+def write_files(top, files):
+    """Puts an image into a folder, which may be there with another one."""
+    shutil.rmtree(top, ignore_errors=True)
+    top.mkdir(parents=True)
+    for path, text in sorted(files.items()):
+        if text is None:
+            (top / path).mkdir()
+        else:
+            (top / path).write_bytes(text)
+
+
+def files_below(top):
+    return {str(path.relative_to(top)): None if path.is_dir() else path.read_bytes() for path in sorted(top.rglob("*"))}
+
+
+def start(options, folder, commands):
+    """Runs the program over a folder to the end of these commands: its status, replies, and what it says."""
+    lines = "".join(json.dumps(command) + "\n" for command in commands).encode()
+    words = [options.program, folder.place / "folder"]
+    words.insert(1, settings_of(folder))
+    ran = subprocess.run(words, input=lines, capture_output=True, timeout=60)
+    return ran.returncode, [json.loads(line) for line in ran.stdout.splitlines()], ran.stderr.decode()
+
+
+def settings_of(folder):
+    """The file of settings, which lies beside the top."""
+    return next(at for at in folder.place.parents if (at / "settings.toml").exists()) / "settings.toml"
+
+
+def mend(options, folder):
+    """Cuts each log behind its last whole record."""
+    logs = {path: path.read_bytes() for path in (folder.place / "folder").glob("wal-?")}
+    if options.ctl:
+        words = [options.ctl, "mend", folder.place / "folder", settings_of(folder), "--cut"]
+        ran = subprocess.run(words, capture_output=True, timeout=60)
+        assert ran.returncode == 0, f"mend ended with {ran.returncode}: {ran.stderr.decode()}"
+        kept = files_below(folder.place / "folder").values()
+        lost = [path.name for path, text in logs.items() if text not in kept]
+        assert not lost, f"mend did not keep {lost}"
+        return
+    for path, text in logs.items():
+        fields, whole = Fields(text), 0
+        try:
+            for _ in fields.records():
+                whole = fields.at
+        except AssertionError:
+            path.write_bytes(text[:whole])
+
+
+def check_image(options, folder, model):
+    """Looks at an image that lies in a folder, by what was told before the cut. How the program started over it, and what was
+    found."""
+    outcome = STARTED if (folder.place / "folder" / "wal-0").exists() else ANEW
+    try:
+        found = folder.read()
+    except AssertionError as fault:
+        ended = start(options, folder, [])
+        assert ended == (2, [], "ingestd: DamagedLog\n"), f"{fault}, and the program ended with {ended}"
+        mend(options, folder)
+        outcome, found = MENDED, folder.read()
+    model.check_found(found)
+    again = Model(folder, found)
+    queries = draw_queries(random.Random(0), again.kept, 5000)
+    status, replies, says = start(options, folder, queries)
+    assert status == 0, f"the program ended with {status}: {says}"
+    again.check_report(replies.pop()["report"])
+    for query, reply in zip(queries, replies, strict=True):
+        again.note(query, reply)
+    assert folder.read() == found, "the program left other chunks than it found"
+    return outcome, found
+
+
+def send(process, line):
+    """Sends a command and reads the reply. Whether one came."""
+    try:
+        process.stdin.write(line)
+    except BrokenPipeError:
+        return False
+    return bool(process.stdout.readline())
+
+
+class History:
+    """Runs over one folder, and the images of each."""
+
+    def __init__(self, options, number, parent):
+        self.options, self.number, self.draw = options, number, random.Random(f"{options.seed} {number}")
+        self.settings = {name: self.draw.choice(values) for name, values in SETTINGS.items()}
+        self.above = self.draw.choice(ABOVE)
+        self.folder, self.image_folder = self.make(parent / f"history-{number}"), self.make(parent / f"image-{number}")
+        self.disk, self.found, self.before = Disk(self.top(self.folder)), {}, None
+        self.counts, self.order, self.loss = collections.Counter(), None, None
+
+    def make(self, place):
+        """Makes a place with settings beside the top. FOLDER, and what is above it there, is for the program to make."""
+        Folder(place, self.settings).make()
+        (place / "top").mkdir()
+        return Folder(place / "top" / self.above, self.settings)
+
+    def top(self, folder):
+        return settings_of(folder).parent / "top"
+
+    def play(self):
+        """Plays runs until there are images enough."""
+        for run in itertools.count():
+            commands = self.draw_run(run)
+            self.record(run, commands)
+            images, replies = self.read_record(commands)
+            started = self.check(run, images, commands, replies)
+            if sum(self.counts.values()) >= EACH or self.loss:
+                break
+            self.go_on(started, commands, replies)
+        for folder in [self.folder] if self.loss else [self.folder, self.image_folder]:
+            shutil.rmtree(self.top(folder).parent)
+
+    def draw_run(self, run):
+        """The commands of a run. A later one begins with one that adds nothing, the reply to which tells that it goes on."""
+        kept, clock = {stream: entries_of(chunks) for stream, chunks in self.found.items()}, (10**9 + 7 * run) * 10**9
+        first = [{"cmd": "checkpoint"}, {"cmd": "flush"}, {"cmd": "flush", "forced": False}, {"cmd": "sweep", "now": str(clock)}]
+        return ([self.draw.choice(first)] if run else []) + draw_commands(self.draw, kept, clock)
+
+    def record(self, run, commands):
+        """Runs the program under strace, to its end or until it is killed at a drawn call."""
+        trace, draw = self.top(self.folder).parent / "trace", self.draw
+        words = ["strace", "-f", "-qq", "-xx", "-s", str(2**24), "-e", "signal=none", "-o", trace, "-e", f"trace={','.join(CALLS)}"]
+        is_killed = draw.random() < 0.3
+        if is_killed:
+            at = draw.choice(["fsync,fdatasync", "rename"]), draw.choice([draw.randint(1, 3), draw.randint(1, 60)])
+            words += ["-e", "inject={}:signal=SIGKILL:when={}".format(*at)]
+        words += [self.options.program, settings_of(self.folder), self.folder.place / "folder"]
+        waits = len(commands) if draw.random() < 0.7 else min(run, 1)
+        lines, pipe = [json.dumps(command).encode() + b"\n" for command in commands], subprocess.PIPE
+        with subprocess.Popen(words, stdin=pipe, stdout=pipe, stderr=pipe, bufsize=0) as process:
+            signal.signal(signal.SIGALRM, lambda *_: process.kill())
+            signal.alarm(120)  # where nothing goes on
+            for line in lines[:waits]:
+                if not send(process, line):
+                    break
+            _, says = process.communicate(b"".join(lines[waits:]))
+            signal.alarm(0)
+        ended = (process.returncode, says)
+        assert ended == (0, b"") or is_killed and process.returncode == -signal.SIGKILL, f"the program ended with {ended}"
+
+    def read_record(self, commands):
+        """Tells the model of files what was recorded: images, and the replies."""
+        lot, written, replies = Lot(self.draw), b"", []
+        steps = read_trace((self.top(self.folder).parent / "trace").read_text().splitlines())
+        for moment, (called, begins) in enumerate(steps):
+            if not begins:
+                self.disk.end(called)
+            else:
+                if called.name in ("write", "writev") and called.number(0) == 1:
+                    written += b"".join(called.texts())[: called.result]
+                    new = [json.loads(line) for line in written.split(b"\n")[len(replies) : -1]]
+                    self.look(lambda: [check_reply(self.disk, self.folder, *told) for told in zip(commands[len(replies) :], new)])
+                    replies += new
+                elif called.name.startswith("rename"):
+                    self.look(lambda: check_rename(self.disk, called))
+                self.disk.begin(called, lambda opened: leaves_out(self.options.without, opened))
+            offer_images(self.disk, lot, moment, min(len(replies), len(commands)))
+        self.settle()
+        return lot.images(), replies[: len(commands)]
+
+    def look(self, check):
+        """Looks at the order, and keeps what is first wrong with it."""
+        try:
+            check()
+        except AssertionError as fault:
+            self.order = self.order or str(fault)
+
+    def settle(self):
+        """Compares the model of files with the files. A call that did not return, of a run that was killed, may have done nothing."""
+        files, running = files_below(self.top(self.folder)), [call for calls in self.disk.running.values() for call in calls]
+        running, nodes = [call for call in running if not isinstance(call, tuple)], self.disk.nodes()
+        for undone in itertools.chain(*(itertools.combinations(running, count) for count in range(len(running) + 1))):
+            left = {node: [call for call in node.calls if call not in undone] for node in nodes}
+            kept = [call for calls in left.values() for call in calls]
+            if self.disk.image(kept, lambda node: node.with_calls(left[node])) == files:
+                for node, calls in left.items():
+                    node.calls = calls
+                return self.disk.stop()
+        raise Lost("the record does not give what lies in the folder")
+
+    def model_of(self, commands, replies):
+        """What may be there, and has to be, behind some replies."""
+        model = Model(self.folder, self.found)
+        for command, reply in itertools.zip_longest(commands, replies):
+            model.note(command, reply)
+        model.may_fail = True  # the logs of two shards may be cut at different moments
+        return model
+
+    def check(self, run, images, commands, replies):
+        """Looks at images of a run, up to the first that shows a loss. Those over which the program started, with what was found."""
+        models, started = {0: self.before or self.model_of(commands, [])}, []
+        self.before = models[0]
+        for image in self.draw.sample(images, min(OF_A_RUN, len(images))):
+            if image.told not in models:
+                models[image.told] = self.model_of(commands, replies[: image.told])
+            write_files(self.top(self.image_folder), image.files)
+            try:
+                outcome, found = check_image(self.options, self.image_folder, models[image.told])
+            except Exception as fault:
+                kind = ", ".join(image.kind[1:])
+                self.loss = f"run {run}, moment {image.moment}, {image.told} replies, {kind}: {type(fault).__name__}: {fault}"
+                write_files(self.top(self.image_folder), image.files)
+                break
+            self.counts[image.kind, outcome] += 1
+            started += [(image, found)] if outcome == STARTED else []
+        return started
+
+    def go_on(self, started, commands, replies):
+        """Makes the next run begin with what the last one left, or with an image of it over which the program started."""
+        if started and self.draw.random() < 0.4:
+            image, self.found = self.draw.choice(started)
+            write_files(self.top(self.folder), image.files)
+            self.disk, self.before = Disk(self.top(self.folder), image.files), self.model_of([], [])
+        else:
+            self.before = self.model_of(commands, replies) if replies else self.before
+            self.found = self.folder.read()
+
+
+def play(options, parent, number):
+    """Plays a history. What it counted, and what was wrong with the order and with an image."""
+    history = History(options, number, parent)
+    try:
+        history.play()
+    except Exception:
+        print(f"seed {options.seed}, history {number}:", flush=True)
+        raise
+    return number, history.counts, history.order, history.loss
+
+
+def print_table(counts):
+    """Prints how many images of each stage, way of entries and way of bytes there were, by outcome."""
+    table, outcomes = collections.Counter(), [STARTED, ANEW, MENDED]
+    for (kind, outcome), count in counts.items():
+        for name in ["images", *kind]:
+            table[name, outcome] += count
+    print(f"{'':32}" + "".join(f"{outcome:>22}" for outcome in outcomes))
+    for name in sorted({name for name, _ in table}):
+        print(f"{name:32}" + "".join(f"{table[name, outcome]:22}" for outcome in outcomes), flush=True)
+
+
+def main():
+    parser = argparse.ArgumentParser(description=__doc__.split("\n")[0])
+    parser.add_argument("program", nargs="?")
+    parser.add_argument("--images", type=int, default=10000)
+    parser.add_argument("--seed", type=int, default=random.randrange(2**32))
+    parser.add_argument("--jobs", type=int, default=os.cpu_count(), help="how many histories are played side by side")
+    parser.add_argument("--ctl", help="ingestctl, which mends")
+    parser.add_argument("--without", choices=WHICH, help="a sync that the record is read without (see the head of this file)")
+    parser.add_argument("--history", type=int, help="play this one alone, to look at it again")
+    parser.add_argument("--parent", default="/dev/shm", help="where folders are made: a memory disk")
+    parser.add_argument("--check", action="store_true", help="check the model of files alone")
+    options = parser.parse_args()
+    check_disk()
+    if options.check:
+        return
+    if not options.program or not shutil.which("strace"):
+        parser.error("a program is needed, and strace")
+    parent = pathlib.Path(tempfile.mkdtemp(prefix="crashes-", dir=options.parent))
+    what = f", without the syncs `{options.without}`" if options.without else ""
+    print(f"seed {options.seed}, {options.images} images{what}, folders in {parent}", flush=True)
+    numbers = range(-(-options.images // EACH)) if options.history is None else [options.history]
+    counts, order, loss = collections.Counter(), None, None
+    with multiprocessing.Pool(min(options.jobs, len(numbers))) as pool:
+        for number, more, wrong_order, lost in pool.imap_unordered(functools.partial(play, options, parent), numbers):
+            counts.update(more)
+            order = order or wrong_order and f"seed {options.seed}, history {number}, order: {wrong_order}"
+            loss = loss or lost and f"seed {options.seed}, history {number}, {lost}"
+            if lost and not options.without:
+                print(f"the image lies in {parent / f'image-{number}'}")
+            if (order and loss) if options.without else (order or loss):
+                break
+    print_table(counts)
+    print("\n".join(filter(None, [order, loss])))
+    if options.without or not loss:
+        shutil.rmtree(parent)
+    is_caught = bool(order and loss)
+    if options.without:
+        print(f"a program without the syncs `{options.without}` is{'' if is_caught else ' not'} caught")
+    sys.exit(not is_caught if options.without else bool(order or loss))
+
+
+if __name__ == "__main__":
+    main()
