@@ -14,8 +14,8 @@ durable before that moment is there, once, and nothing is that was not sent. The
 streams give the same, and so does what it leaves. Only a log whose end is damaged may keep it from starting, with `DamagedLog`:
 then `ingestctl mend` cuts it (with --ctl; else this program does), and all that was durable has to be there.
 
-A history is of several runs over one folder: each begins with what the one before left, be it ended, killed at a drawn sync, or
-with an image that a power cut left. What a run begins with has to last once it has answered.
+A history is of several runs over one folder. Each begins with what the one before left at its end, or where it is taken to be
+killed, with all that is not synced yet, or with an image that a power cut left. What a run begins with lasts once it has answered.
 
 Besides, the order itself is looked at, in the record alone: before a reply tells that something is durable or stored, the logs,
 the objects and what leads to them are synced, and before a rename the bytes of the renamed file.
@@ -33,6 +33,7 @@ loses, doubles or invents something, it says what, keeps the folder, and ends wi
 """
 import argparse
 import collections
+import copy
 import functools
 import itertools
 import json
@@ -62,10 +63,6 @@ BEFORE, BEHIND = "before the first reply", "behind a reply"
 STARTED, ANEW, MENDED = "started", "began anew", "started when mended"
 
 
-class Lost(Exception):
-    """An image, or the order of calls, that shows a loss."""
-
-
 @dataclass
 class Image:
     """What a power cut may leave: files by path, None for a folder. Its kind says how entries and bytes were left."""
@@ -76,8 +73,15 @@ class Image:
 
 
 @dataclass
+class Kill:
+    """What a kill at a moment leaves: the model of files, which knows what is not synced."""
+    told: int
+    disk: Disk
+
+
+@dataclass
 class Lot:
-    """Some images of each kind, drawn among all that are offered."""
+    """Some images, or kills, of each kind, drawn among all that are offered."""
     draw: random.Random
     taken: dict = field(default_factory=dict)
     offered: collections.Counter = field(default_factory=collections.Counter)
@@ -96,6 +100,10 @@ class Lot:
         for image in itertools.chain(*(images.values() for images in self.taken.values())):
             found.setdefault((image.told, frozenset(image.files.items())), image)
         return sorted(found.values(), key=lambda image: image.moment)
+
+    def any(self):
+        """One of a drawn kind."""
+        return self.draw.choice([*self.draw.choice([*self.taken.values()]).values()])
 
 
 def ways_of_entries(calls, draw):
@@ -123,6 +131,14 @@ def offer_images(disk, lot, moment, told):
                 return Image(kind, moment, told, disk.image(kept, text_of))
 
             lot.offer(kind, build)
+
+
+def offer_kill(disk, lot, told):
+    """Offers a kill at a moment, by the kinds of calls that are not synced and the first letters of what they name."""
+    nodes = disk.nodes()
+    entries = {(call.kind, name[:2]) for node in nodes if node.is_folder() for call in node.calls for name in call.meant}
+    has_bytes = any(node.calls for node in nodes if not node.is_folder())
+    lot.offer((frozenset(entries), has_bytes), lambda: Kill(told, copy.deepcopy(disk)))
 
 
 def leaves_out(which, opened):
@@ -240,15 +256,6 @@ def check_image(options, folder, model):
     return outcome, found
 
 
-def send(process, line):
-    """Sends a command and reads the reply. Whether one came."""
-    try:
-        process.stdin.write(line)
-    except BrokenPipeError:
-        return False
-    return bool(process.stdout.readline())
-
-
 class History:
     """Runs over one folder, and the images of each."""
 
@@ -274,11 +281,11 @@ class History:
         for run in itertools.count():
             commands = self.draw_run(run)
             self.record(run, commands)
-            images, replies = self.read_record(commands)
+            images, kill, replies = self.read_record(commands)
             started = self.check(run, images, commands, replies)
             if sum(self.counts.values()) >= EACH or self.loss:
                 break
-            self.go_on(started, commands, replies)
+            self.go_on(started, kill, commands, replies)
         for folder in [self.folder] if self.loss else [self.folder, self.image_folder]:
             shutil.rmtree(self.top(folder).parent)
 
@@ -289,30 +296,25 @@ class History:
         return ([self.draw.choice(first)] if run else []) + draw_commands(self.draw, kept, clock)
 
     def record(self, run, commands):
-        """Runs the program under strace, to its end or until it is killed at a drawn call."""
-        trace, draw = self.top(self.folder).parent / "trace", self.draw
+        """Runs the program under strace."""
+        trace = self.top(self.folder).parent / "trace"
         words = ["strace", "-f", "-qq", "-xx", "-s", str(2**24), "-e", "signal=none", "-o", trace, "-e", f"trace={','.join(CALLS)}"]
-        is_killed = draw.random() < 0.3
-        if is_killed:
-            at = draw.choice(["fsync,fdatasync", "rename"]), draw.choice([draw.randint(1, 3), draw.randint(1, 60)])
-            words += ["-e", "inject={}:signal=SIGKILL:when={}".format(*at)]
         words += [self.options.program, settings_of(self.folder), self.folder.place / "folder"]
-        waits = len(commands) if draw.random() < 0.7 else min(run, 1)
+        waits = len(commands) if self.draw.random() < 0.7 else min(run, 1)
         lines, pipe = [json.dumps(command).encode() + b"\n" for command in commands], subprocess.PIPE
         with subprocess.Popen(words, stdin=pipe, stdout=pipe, stderr=pipe, bufsize=0) as process:
             signal.signal(signal.SIGALRM, lambda *_: process.kill())
             signal.alarm(120)  # where nothing goes on
             for line in lines[:waits]:
-                if not send(process, line):
-                    break
+                process.stdin.write(line)
+                assert process.stdout.readline(), f"the program ended: {process.stderr.read()}"
             _, says = process.communicate(b"".join(lines[waits:]))
             signal.alarm(0)
-        ended = (process.returncode, says)
-        assert ended == (0, b"") or is_killed and process.returncode == -signal.SIGKILL, f"the program ended with {ended}"
+        assert (process.returncode, says) == (0, b""), f"the program ended with {process.returncode}: {says}"
 
     def read_record(self, commands):
-        """Tells the model of files what was recorded: images, and the replies."""
-        lot, written, replies = Lot(self.draw), b"", []
+        """Tells the model of files what was recorded: images, kills, and the replies."""
+        lot, kills, written, replies = Lot(self.draw), Lot(self.draw), b"", []
         steps = read_trace((self.top(self.folder).parent / "trace").read_text().splitlines())
         for moment, (called, begins) in enumerate(steps):
             if not begins:
@@ -326,9 +328,12 @@ class History:
                 elif called.name.startswith("rename"):
                     self.look(lambda: check_rename(self.disk, called))
                 self.disk.begin(called, lambda opened: leaves_out(self.options.without, opened))
-            offer_images(self.disk, lot, moment, min(len(replies), len(commands)))
-        self.settle()
-        return lot.images(), replies[: len(commands)]
+            told = min(len(replies), len(commands))
+            offer_images(self.disk, lot, moment, told)
+            offer_kill(self.disk, kills, told)
+        assert self.disk.image() == files_below(self.top(self.folder)), "the record does not give what lies in the folder"
+        self.disk.stop()
+        return lot.images(), kills.any(), replies[: len(commands)]
 
     def look(self, check):
         """Looks at the order, and keeps what is first wrong with it."""
@@ -336,19 +341,6 @@ class History:
             check()
         except AssertionError as fault:
             self.order = self.order or str(fault)
-
-    def settle(self):
-        """Compares the model of files with the files. A call that did not return, of a run that was killed, may have done nothing."""
-        files, running = files_below(self.top(self.folder)), [call for calls in self.disk.running.values() for call in calls]
-        running, nodes = [call for call in running if not isinstance(call, tuple)], self.disk.nodes()
-        for undone in itertools.chain(*(itertools.combinations(running, count) for count in range(len(running) + 1))):
-            left = {node: [call for call in node.calls if call not in undone] for node in nodes}
-            kept = [call for calls in left.values() for call in calls]
-            if self.disk.image(kept, lambda node: node.with_calls(left[node])) == files:
-                for node, calls in left.items():
-                    node.calls = calls
-                return self.disk.stop()
-        raise Lost("the record does not give what lies in the folder")
 
     def model_of(self, commands, replies):
         """What may be there, and has to be, behind some replies."""
@@ -377,15 +369,21 @@ class History:
             started += [(image, found)] if outcome == STARTED else []
         return started
 
-    def go_on(self, started, commands, replies):
-        """Makes the next run begin with what the last one left, or with an image of it over which the program started."""
-        if started and self.draw.random() < 0.4:
+    def go_on(self, started, kill, commands, replies):
+        """Makes the next run begin with what the last one left: at its end, where it is killed, or as an image over which the
+        program started."""
+        way, top = self.draw.random(), self.top(self.folder)
+        if way < 0.4 and started:
             image, self.found = self.draw.choice(started)
-            write_files(self.top(self.folder), image.files)
-            self.disk, self.before = Disk(self.top(self.folder), image.files), self.model_of([], [])
-        else:
-            self.before = self.model_of(commands, replies) if replies else self.before
-            self.found = self.folder.read()
+            write_files(top, image.files)
+            self.disk, self.before = Disk(top, image.files), self.model_of([], [])
+            return
+        if way < 0.8:
+            self.disk, replies = kill.disk, replies[: kill.told]
+            self.disk.stop()
+            write_files(top, self.disk.image())
+        self.before = self.model_of(commands, replies) if replies else self.before
+        self.found = self.folder.read()
 
 
 def play(options, parent, number):
