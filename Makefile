@@ -1,5 +1,5 @@
 # `make help` lists what there is.
-.PHONY: help try run build install check test mutants bench worlds stress kills documents front front-install front-check front-test front-bench
+.PHONY: help try run build install check test mutants bench worlds stress kills crashes documents front front-install front-check front-test front-bench
 program = crates/ingestd/out/ingestd
 ctl = crates/ingestctl/out/ingestctl
 PREFIX = /usr/local
@@ -25,6 +25,7 @@ help:
 	@echo 'make worlds   10,000 lists of events by lot, beside a slow program'
 	@echo 'make stress   10,000 lives of an ingester by lot, each of several threads'
 	@echo 'make kills    200 runs over a folder by lot, most of them killed, then 200 with files that may not grow, then each call for a file failed (by strace); KILLS=N, SEED=N'
+	@echo 'make crashes  10,000 images that a power cut may leave of a folder, each started over; then a program without one sync has to be caught, for each of four; IMAGES=N, SEED=N'
 	@echo 'make front    runs the front over the program; SETTINGS=FILE, FOLDER=FOLDER, OPTIONS="--server.http-listen-port 3100" (docs/FRONT.md)'
 	@echo 'make front-install puts the front in place; PREFIX=FOLDER'
 	@echo 'make front-check tests the front without the program'
@@ -122,6 +123,12 @@ kills: $(program)
 	@python3 kills/kills.py $(program) $(if $(KILLS),--rounds $(KILLS)) $(if $(SEED),--seed $(SEED))
 	@python3 kills/kills.py $(program) $(if $(KILLS),--rounds $(KILLS)) $(if $(SEED),--seed $(SEED)) --full
 	@if command -v strace >/dev/null; then python3 kills/kills.py $(program) --fail $(if $(SEED),--seed $(SEED)); else echo 'no strace: no call fails in turn'; fi
+
+crashes: $(program) $(ctl)
+	@python3 crashes/crashes.py $(program) --ctl $(ctl) $(if $(IMAGES),--images $(IMAGES)) $(if $(SEED),--seed $(SEED))
+	@for which in append beside folder begun; do \
+	  python3 crashes/crashes.py $(program) --ctl $(ctl) $(if $(SEED),--seed $(SEED)) --without $$which || exit 1; \
+	done
 
 # One file, which Python runs: the package without its tests.
 $(front): $(wildcard front/sarymbeu_front/*.py)

@@ -5,31 +5,34 @@
     python3 crashes/crashes.py --check
 
 A run of `PROGRAM SETTINGS FOLDER` gets drawn commands, and `strace` records its calls for files and its replies, in one order. A
-model of a file system (disk.py) is told them one by one. Of what it has before and behind each call, images are built that a power
-cut may leave: bytes that were not synced dropped, cut, or zeros; creations, renames and removals that were not synced undone,
-singly and together. FOLDER itself, and folders above it that the program made, may be gone.
+model of a file system (disk.py) is told them one by one. Before and behind each of them images are built that a power cut may
+leave: bytes that were not synced dropped, cut, or zeros; creations, renames and removals that were not synced undone, singly and
+together. FOLDER itself, and folders above it that the program made, may be gone. Of all these some of each kind are drawn.
 
 Each image is put into a folder, and what lies in it is read by docs/FORMATS.md alone, as in kills/kills.py: what was answered
 durable before that moment is there, once, and nothing is that was not sent. The program is started over it, queries for all
 streams give the same, and so does what it leaves. Only a log whose end is damaged may keep it from starting, with `DamagedLog`:
-then `ingestctl mend` cuts it (with --ctl; else this program does), and all that was durable has to be there.
+then this program cuts it behind its last whole record, and all that was durable has to be there; with --ctl, `ingestctl mend` has
+to leave the same, and to keep what was there.
 
-A history is of several runs over one folder. Each begins with what the one before left at its end, or where it is taken to be
-killed, with all that is not synced yet, or with an image that a power cut left. What a run begins with lasts once it has answered.
+A history is of several runs over one folder. Each begins with what the one before left: at its end; where it is taken to be
+killed, with what was not synced then; or as an image of it. What a run begins with has to last as soon as it has answered.
 
-Besides, the order itself is looked at, in the record alone: before a reply tells that something is durable or stored, the logs,
-the objects and what leads to them are synced, and before a rename the bytes of the renamed file.
+Besides, the order itself is looked at, in the record alone. Before a reply tells that something is durable or stored, these are
+synced: the logs, what leads to them, `lock`, and the names of the objects that the logs list. Before a rename the bytes of the
+renamed file are.
 
-With --without the record is read as if the program had left out one of its syncs, which both an image and the order have to show:
+With --without the record is read as if the program had left out one of its syncs, which both an image and the order have to show
+(status 0, else 1):
 
     append  the sync of a log behind an append
     beside  the sync of what is written beside before a rename: checkpoints and objects
     folder  the sync of a folder behind a rename
     begun   those with which a folder is begun: of `lock`, of FOLDER, and of the folders that list it
 
-What a disk does with what it said was synced this cannot show, and it takes the calls as they were seen: threads may be in another
-order the next time, so that `--seed` draws the same commands and cuts, but not always the same images. At the first image that
-loses, doubles or invents something, it says what, keeps the folder, and ends with status 1.
+What a disk does with what it said was synced this cannot show, nor an order of threads that was not seen: `--seed` draws the same
+commands and cuts, but threads may take turns otherwise the next time. At the first image that loses, doubles or invents
+something, and at a wrong order, it says what, keeps the image, and ends with status 1. `--seed N --history N` plays that again.
 """
 import argparse
 import collections
@@ -154,7 +157,7 @@ def leaves_out(which, opened):
     }[which]
 
 
-def check_reply(disk, folder, command, reply):
+def check_reply(disk, place, command, reply):
     """The order at a reply: where it tells that something lasts, the calls before have made it last."""
     kind = command["cmd"]
     told = reply.get(kind)
@@ -164,8 +167,8 @@ def check_reply(disk, folder, command, reply):
         lasting = told if kind == "checkpoint" else [kind == "flush" and told["stored"] > 0]
     if not any(lasting):
         return
-    path = folder.place / "folder"
-    logs = [path / f"wal-{number}" for number in range(folder.settings["shards"])]
+    path = place.path()
+    logs = [path / f"wal-{number}" for number in range(place.settings["shards"])]
     for at in [*logs, path / "lock", path, *path.parents]:
         node = disk.find(at)
         assert not node or not node.calls, f"a {kind} was answered before {at.name} was synced"
@@ -199,31 +202,34 @@ def files_below(top):
     return {str(path.relative_to(top)): None if path.is_dir() else path.read_bytes() for path in sorted(top.rglob("*"))}
 
 
-def start(options, folder, commands):
+@dataclass
+class Place(Folder):
+    """A folder of kills.py below a top, which alone is there at first, beside the settings: the program makes what is missing."""
+    top: pathlib.Path
+
+    def path(self):
+        return self.place / "folder"
+
+    def settings_file(self):
+        return self.top.parent / "settings.toml"
+
+
+def make_place(parent, settings, above):
+    Folder(parent, settings).make()
+    (parent / "top").mkdir()
+    return Place(parent / "top" / above, settings, parent / "top")
+
+
+def start(options, place, commands):
     """Runs the program over a folder to the end of these commands: its status, replies, and what it says."""
     lines = "".join(json.dumps(command) + "\n" for command in commands).encode()
-    words = [options.program, folder.place / "folder"]
-    words.insert(1, settings_of(folder))
+    words = [options.program, place.settings_file(), place.path()]
     ran = subprocess.run(words, input=lines, capture_output=True, timeout=60)
     return ran.returncode, [json.loads(line) for line in ran.stdout.splitlines()], ran.stderr.decode()
 
 
-def settings_of(folder):
-    """The file of settings, which lies beside the top."""
-    return next(at for at in folder.place.parents if (at / "settings.toml").exists()) / "settings.toml"
-
-
-def mend(options, folder):
-    """Cuts each log behind its last whole record."""
-    logs = {path: path.read_bytes() for path in (folder.place / "folder").glob("wal-?")}
-    if options.ctl:
-        words = [options.ctl, "mend", folder.place / "folder", settings_of(folder), "--cut"]
-        ran = subprocess.run(words, capture_output=True, timeout=60)
-        assert ran.returncode == 0, f"mend ended with {ran.returncode}: {ran.stderr.decode()}"
-        kept = files_below(folder.place / "folder").values()
-        lost = [path.name for path, text in logs.items() if text not in kept]
-        assert not lost, f"mend did not keep {lost}"
-        return
+def cut_logs(logs):
+    """Cuts each log, whose bytes are given, behind its last whole record."""
     for path, text in logs.items():
         fields, whole = Fields(text), 0
         try:
@@ -233,48 +239,55 @@ def mend(options, folder):
             path.write_bytes(text[:whole])
 
 
-def check_image(options, folder, model):
-    """Looks at an image that lies in a folder, by what was told before the cut. How the program started over it, and what was
-    found."""
-    outcome = STARTED if (folder.place / "folder" / "wal-0").exists() else ANEW
+def mend(options, place):
+    """Cuts the logs, and sees that ingestctl does the same and keeps what they were. What is found then."""
+    logs = {path: path.read_bytes() for path in place.path().glob("wal-?")}
+    cut_logs(logs)
+    found = place.read()
+    if options.ctl:
+        for path, text in logs.items():
+            path.write_bytes(text)
+        words = [options.ctl, "mend", place.path(), place.settings_file(), "--cut"]
+        ran = subprocess.run(words, capture_output=True, timeout=60)
+        assert ran.returncode == 0, f"mend ended with {ran.returncode}: {ran.stderr.decode()}"
+        assert place.read() == found, "behind mend the logs have other chunks than their whole records"
+        lost = [path.name for path, text in logs.items() if text not in files_below(place.path()).values()]
+        assert not lost, f"mend did not keep {lost}"
+    return found
+
+
+def check_image(options, place, model):
+    """Looks at an image that lies in a place, by what was told before. How the program started over it, and what was found."""
+    outcome = STARTED if (place.path() / "wal-0").exists() else ANEW
     try:
-        found = folder.read()
+        found = place.read()
     except AssertionError as fault:
-        ended = start(options, folder, [])
+        ended = start(options, place, [])
         assert ended == (2, [], "ingestd: DamagedLog\n"), f"{fault}, and the program ended with {ended}"
-        mend(options, folder)
-        outcome, found = MENDED, folder.read()
+        outcome, found = MENDED, mend(options, place)
     model.check_found(found)
-    again = Model(folder, found)
+    again = Model(place, found)
     queries = draw_queries(random.Random(0), again.kept, 5000)
-    status, replies, says = start(options, folder, queries)
+    status, replies, says = start(options, place, queries)
     assert status == 0, f"the program ended with {status}: {says}"
     again.check_report(replies.pop()["report"])
     for query, reply in zip(queries, replies, strict=True):
         again.note(query, reply)
-    assert folder.read() == found, "the program left other chunks than it found"
+    assert place.read() == found, "the program left other chunks than it found"
     return outcome, found
 
 
 class History:
-    """Runs over one folder, and the images of each."""
+    """Runs over one folder, and images of each. What a run began with is `found`, and what had to last then `before` says."""
 
     def __init__(self, options, number, parent):
-        self.options, self.number, self.draw = options, number, random.Random(f"{options.seed} {number}")
-        self.settings = {name: self.draw.choice(values) for name, values in SETTINGS.items()}
-        self.above = self.draw.choice(ABOVE)
-        self.folder, self.image_folder = self.make(parent / f"history-{number}"), self.make(parent / f"image-{number}")
-        self.disk, self.found, self.before = Disk(self.top(self.folder)), {}, None
+        self.options, self.draw = options, random.Random(f"{options.seed} {number}")
+        settings = {name: self.draw.choice(values) for name, values in SETTINGS.items()}
+        above = self.draw.choice(ABOVE)
+        self.place = make_place(parent / f"history-{number}", settings, above)
+        self.image_place = make_place(parent / f"image-{number}", settings, above)
+        self.disk, self.found, self.before = Disk(self.place.top), {}, None
         self.counts, self.order, self.loss = collections.Counter(), None, None
-
-    def make(self, place):
-        """Makes a place with settings beside the top. FOLDER, and what is above it there, is for the program to make."""
-        Folder(place, self.settings).make()
-        (place / "top").mkdir()
-        return Folder(place / "top" / self.above, self.settings)
-
-    def top(self, folder):
-        return settings_of(folder).parent / "top"
 
     def play(self):
         """Plays runs until there are images enough."""
@@ -286,8 +299,8 @@ class History:
             if sum(self.counts.values()) >= EACH or self.loss:
                 break
             self.go_on(started, kill, commands, replies)
-        for folder in [self.folder] if self.loss else [self.folder, self.image_folder]:
-            shutil.rmtree(self.top(folder).parent)
+        for place in [self.place] if self.loss else [self.place, self.image_place]:
+            shutil.rmtree(place.top.parent)
 
     def draw_run(self, run):
         """The commands of a run. A later one begins with one that adds nothing, the reply to which tells that it goes on."""
@@ -297,9 +310,8 @@ class History:
 
     def record(self, run, commands):
         """Runs the program under strace."""
-        trace = self.top(self.folder).parent / "trace"
-        words = ["strace", "-f", "-qq", "-xx", "-s", str(2**24), "-e", "signal=none", "-o", trace, "-e", f"trace={','.join(CALLS)}"]
-        words += [self.options.program, settings_of(self.folder), self.folder.place / "folder"]
+        words = ["strace", "-f", "-qq", "-xx", "-s", str(2**24), "-e", "signal=none", "-e", f"trace={','.join(CALLS)}"]
+        words += ["-o", self.place.top.parent / "trace", self.options.program, self.place.settings_file(), self.place.path()]
         waits = len(commands) if self.draw.random() < 0.7 else min(run, 1)
         lines, pipe = [json.dumps(command).encode() + b"\n" for command in commands], subprocess.PIPE
         with subprocess.Popen(words, stdin=pipe, stdout=pipe, stderr=pipe, bufsize=0) as process:
@@ -315,23 +327,24 @@ class History:
     def read_record(self, commands):
         """Tells the model of files what was recorded: images, kills, and the replies."""
         lot, kills, written, replies = Lot(self.draw), Lot(self.draw), b"", []
-        steps = read_trace((self.top(self.folder).parent / "trace").read_text().splitlines())
+        steps = read_trace((self.place.top.parent / "trace").read_text().splitlines())
         for moment, (called, begins) in enumerate(steps):
             if not begins:
                 self.disk.end(called)
             else:
                 if called.name in ("write", "writev") and called.number(0) == 1:
                     written += b"".join(called.texts())[: called.result]
-                    new = [json.loads(line) for line in written.split(b"\n")[len(replies) : -1]]
-                    self.look(lambda: [check_reply(self.disk, self.folder, *told) for told in zip(commands[len(replies) :], new)])
-                    replies += new
+                    for line in written.split(b"\n")[len(replies) : -1]:
+                        replies.append(json.loads(line))
+                        if len(replies) <= len(commands):
+                            self.look(lambda: check_reply(self.disk, self.place, commands[len(replies) - 1], replies[-1]))
                 elif called.name.startswith("rename"):
                     self.look(lambda: check_rename(self.disk, called))
                 self.disk.begin(called, lambda opened: leaves_out(self.options.without, opened))
             told = min(len(replies), len(commands))
             offer_images(self.disk, lot, moment, told)
             offer_kill(self.disk, kills, told)
-        assert self.disk.image() == files_below(self.top(self.folder)), "the record does not give what lies in the folder"
+        assert self.disk.image() == files_below(self.place.top), "the record does not give what lies in the folder"
         self.disk.stop()
         return lot.images(), kills.any(), replies[: len(commands)]
 
@@ -344,26 +357,27 @@ class History:
 
     def model_of(self, commands, replies):
         """What may be there, and has to be, behind some replies."""
-        model = Model(self.folder, self.found)
+        model = Model(self.place, self.found)
         for command, reply in itertools.zip_longest(commands, replies):
             model.note(command, reply)
         model.may_fail = True  # the logs of two shards may be cut at different moments
         return model
 
     def check(self, run, images, commands, replies):
-        """Looks at images of a run, up to the first that shows a loss. Those over which the program started, with what was found."""
+        """Looks at images of a run, up to the first that loses. Those over which the program started, with what was found."""
         models, started = {0: self.before or self.model_of(commands, [])}, []
         self.before = models[0]
         for image in self.draw.sample(images, min(OF_A_RUN, len(images))):
             if image.told not in models:
                 models[image.told] = self.model_of(commands, replies[: image.told])
-            write_files(self.top(self.image_folder), image.files)
+            write_files(self.image_place.top, image.files)
             try:
-                outcome, found = check_image(self.options, self.image_folder, models[image.told])
+                outcome, found = check_image(self.options, self.image_place, models[image.told])
             except Exception as fault:
                 kind = ", ".join(image.kind[1:])
-                self.loss = f"run {run}, moment {image.moment}, {image.told} replies, {kind}: {type(fault).__name__}: {fault}"
-                write_files(self.top(self.image_folder), image.files)
+                said = f"{type(fault).__name__}: {fault}"[:2000]
+                self.loss = f"run {run}, moment {image.moment}, {image.told} replies, {kind}: {said}"
+                write_files(self.image_place.top, image.files)
                 break
             self.counts[image.kind, outcome] += 1
             started += [(image, found)] if outcome == STARTED else []
@@ -372,7 +386,7 @@ class History:
     def go_on(self, started, kill, commands, replies):
         """Makes the next run begin with what the last one left: at its end, where it is killed, or as an image over which the
         program started."""
-        way, top = self.draw.random(), self.top(self.folder)
+        way, top = self.draw.random(), self.place.top
         if way < 0.4 and started:
             image, self.found = self.draw.choice(started)
             write_files(top, image.files)
@@ -383,11 +397,13 @@ class History:
             self.disk.stop()
             write_files(top, self.disk.image())
         self.before = self.model_of(commands, replies) if replies else self.before
-        self.found = self.folder.read()
+        self.found = self.place.read()
 
 
 def play(options, parent, number):
-    """Plays a history. What it counted, and what was wrong with the order and with an image."""
+    """Plays a history, unless they are to stop. What it counted, and what was wrong with the order and with an image."""
+    if (parent / "stop").exists():
+        return number, {}, None, None
     history = History(options, number, parent)
     try:
         history.play()
@@ -395,6 +411,22 @@ def play(options, parent, number):
         print(f"seed {options.seed}, history {number}:", flush=True)
         raise
     return number, history.counts, history.order, history.loss
+
+
+def play_all(options, parent):
+    """Plays histories side by side, until there are images enough or something is wrong. What is counted, and first faults."""
+    numbers = range(-(-options.images // EACH)) if options.history is None else [options.history]
+    counts, order, loss = collections.Counter(), None, None
+    with multiprocessing.Pool(min(options.jobs, len(numbers))) as pool:
+        for number, more, wrong_order, lost in pool.imap_unordered(functools.partial(play, options, parent), numbers):
+            counts.update(more)
+            order = order or wrong_order and f"seed {options.seed}, history {number}, order: {wrong_order}"
+            loss = loss or lost and f"seed {options.seed}, history {number}, {lost}"
+            if lost and not options.without:
+                print(f"an image with a loss lies in {parent / f'image-{number}'}", flush=True)
+            if (order and loss) if options.without else (order or loss):
+                (parent / "stop").touch()
+    return counts, order, loss
 
 
 def print_table(counts):
@@ -426,20 +458,11 @@ def main():
     if not options.program or not shutil.which("strace"):
         parser.error("a program is needed, and strace")
     parent = pathlib.Path(tempfile.mkdtemp(prefix="crashes-", dir=options.parent))
-    what = f", without the syncs `{options.without}`" if options.without else ""
+    what = f" at most, without the syncs `{options.without}`" if options.without else ""
     print(f"seed {options.seed}, {options.images} images{what}, folders in {parent}", flush=True)
-    numbers = range(-(-options.images // EACH)) if options.history is None else [options.history]
-    counts, order, loss = collections.Counter(), None, None
-    with multiprocessing.Pool(min(options.jobs, len(numbers))) as pool:
-        for number, more, wrong_order, lost in pool.imap_unordered(functools.partial(play, options, parent), numbers):
-            counts.update(more)
-            order = order or wrong_order and f"seed {options.seed}, history {number}, order: {wrong_order}"
-            loss = loss or lost and f"seed {options.seed}, history {number}, {lost}"
-            if lost and not options.without:
-                print(f"the image lies in {parent / f'image-{number}'}")
-            if (order and loss) if options.without else (order or loss):
-                break
-    print_table(counts)
+    counts, order, loss = play_all(options, parent)
+    if not options.without:
+        print_table(counts)
     print("\n".join(filter(None, [order, loss])))
     if options.without or not loss:
         shutil.rmtree(parent)

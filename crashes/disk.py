@@ -1,4 +1,4 @@
-"""What a power cut may leave of files: a file system that is told the calls of a program, in the order in which `strace` saw them.
+"""What a power cut may leave of files: a file system that is told the calls of a program, in the order that `strace` saw.
 
 Of each file it has the bytes that were synced last, and the calls since; of each folder the entries that were synced last, and
 the creations, renames and removals since. A sync of a file makes its bytes last, not its entry; a sync of a folder its entries,
@@ -27,6 +27,9 @@ class Write:
 
     def on(self, text):
         return text[: self.at].ljust(self.at, b"\0") + self.data + text[self.at + len(self.data) :]
+
+    def zeroed(self):
+        return Write(self.at, bytes(len(self.data)))
 
 
 @dataclass(eq=False)
@@ -262,7 +265,7 @@ def left_of(node, way, draw):
     if way == LOST or not node.calls:
         return node.last
     if way == ZEROS:
-        return node.with_calls([Write(call.at, bytes(len(call.data))) if isinstance(call, Write) else call for call in node.calls])
+        return node.with_calls([call.zeroed() if isinstance(call, Write) else call for call in node.calls])
     if way == HOLES:
         return with_holes(node, draw)
     if way == UNCUT:
@@ -278,7 +281,7 @@ def left_of(node, way, draw):
 
 
 def with_holes(node, draw):
-    """All bytes, but zeros in the place of some pages of what was written. The last page stands, so that there are holes before."""
+    """All bytes, but zeros in the place of some pages of what was written. The last one stands, so that there are holes."""
     size, text = draw.choice(PAGES), node.now()
     writes = [call for call in node.calls if isinstance(call, Write)]
     first = min((write.at for write in writes), default=0)
@@ -344,7 +347,8 @@ def check_disk():
     assert full[13] == {"f": None, "f/a": b"onetw"}, full[13]
     before = len(seen) - 1 - [called.name for called, _ in read_trace(BY_HAND)][::-1].index("fsync")
     assert only[before - 1] == {"f": None, "f/a": b"one"}, only[before - 1]
-    assert creations[before - 1] == only[before] == only[-1] == {"f": None, "f/a": b"one", "f/b.new": b"12"}, creations[before - 1]
+    created = {"f": None, "f/a": b"one", "f/b.new": b"12"}
+    assert creations[before - 1] == only[before] == only[-1] == created, creations[before - 1]
     assert full[-1] == {"f": None, "f/a": b"1x3\0"}, full[-1]
     node = disk.find("/top/f/a")
     assert left_of(node, ZEROS, draw) == b"1\0\0\0" and left_of(node, UNCUT, draw) == b"1x3\0y", node
