@@ -171,7 +171,7 @@ def check_reply(disk, place, command, reply):
     logs = [path / f"wal-{number}" for number in range(place.settings["shards"])]
     for at in [*logs, path / "lock", path, *path.parents]:
         node = disk.find(at)
-        assert not node or not node.calls, f"a {kind} was answered before {at.name} was synced"
+        assert not node or node.last == node.now(), f"a {kind} was answered before {at.name} was synced"
     texts = [disk.find(log).now() for log in logs]
     for name in [name for call in disk.find(path / "objects").calls for name in call.meant]:
         # What a killed run left may stay as it is until a log lists it.
