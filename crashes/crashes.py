@@ -58,7 +58,7 @@ sys.path.insert(0, str(pathlib.Path(__file__).resolve().parent.parent / "kills")
 from kills import SETTINGS, Fields, Folder, Model, canonical_name, draw_commands, draw_queries, entries_of  # noqa: E402
 
 EACH = 100  # images of one history
-OF_A_KIND = 5  # images of one kind in a run
+OF_A_KIND = 2  # images of one kind that are built in a run
 OF_A_RUN = 50  # images of a run
 ABOVE = ["", "above", "above/more"]  # folders that the program has to make, too
 WHICH = ["append", "beside", "folder", "begun"]
@@ -84,17 +84,18 @@ class Kill:
 
 @dataclass
 class Lot:
-    """Some images, or kills, of each kind, drawn among all that are offered."""
+    """So many images, or kills, of each kind, drawn among all that are offered."""
     draw: random.Random
+    size: int
     taken: dict = field(default_factory=dict)
     offered: collections.Counter = field(default_factory=collections.Counter)
 
     def offer(self, kind, build):
         self.offered[kind] += 1
         place = self.offered[kind] - 1
-        if place >= OF_A_KIND:
+        if place >= self.size:
             place = self.draw.randrange(self.offered[kind])
-        if place < OF_A_KIND:
+        if place < self.size:
             self.taken.setdefault(kind, {})[place] = build()
 
     def images(self):
@@ -326,7 +327,7 @@ class History:
 
     def read_record(self, commands):
         """Tells the model of files what was recorded: images, kills, and the replies."""
-        lot, kills, written, replies = Lot(self.draw), Lot(self.draw), b"", []
+        lot, kills, written, replies = Lot(self.draw, OF_A_KIND), Lot(self.draw, 1), b"", []
         steps = read_trace((self.place.top.parent / "trace").read_text().splitlines())
         for moment, (called, begins) in enumerate(steps):
             if not begins:
