@@ -55,7 +55,7 @@ from dataclasses import dataclass, field
 from disk import CALLS, KEPT, WAYS, Disk, check_disk, left_of, read_trace
 
 sys.path.insert(0, str(pathlib.Path(__file__).resolve().parent.parent / "kills"))
-from kills import SETTINGS, Fields, Folder, Model, canonical_name, draw_commands, draw_queries, entries_of  # noqa: E402
+from kills import SETTINGS, Fields, Folder, Model, draw_commands, draw_queries, entries_of  # noqa: E402
 
 EACH = 100  # images of one history
 OF_A_KIND = 2  # images of one kind that are built in a run
@@ -84,7 +84,7 @@ class Kill:
 
 @dataclass
 class Lot:
-    """So many images, or kills, of each kind, drawn among all that are offered."""
+    """At most so many images, or kills, of each kind, drawn among all that are offered."""
     draw: random.Random
     size: int
     taken: dict = field(default_factory=dict)
@@ -464,7 +464,8 @@ def main():
     counts, order, loss = play_all(options, parent)
     if not options.without:
         print_table(counts)
-    print("\n".join(filter(None, [order, loss])))
+    for fault in filter(None, [order, loss]):
+        print(fault)
     if options.without or not loss:
         shutil.rmtree(parent)
     is_caught = bool(order and loss)
