@@ -5,3 +5,4 @@ pub mod Members
 pub mod Streams
 pub mod Walks
 pub mod Words
+pub mod Notes

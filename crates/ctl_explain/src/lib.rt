@@ -4,9 +4,12 @@
 
 mod explained;
 mod explaining;
+mod hints;
 mod in_force;
 mod lookup;
 mod member;
+mod nearest;
+mod notes;
 mod settings_refusal;
 mod shape;
 mod stream;
@@ -15,9 +18,11 @@ mod walk;
 
 pub use explained::{Cause, Explained};
 pub use explaining::explain;
+pub use hints::setting_hint;
 pub use in_force::{rules_in_force, settings_in_force};
 pub use lookup::{page_for, pages};
 pub use member::{Field, Member, Part};
+pub use notes::{Note, notes_of};
 pub use settings_refusal::SettingsRefusal;
 pub use stream::StreamFault;
 pub use table::Page;

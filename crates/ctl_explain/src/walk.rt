@@ -98,7 +98,7 @@ fn first_of_streams(fault: LineFault, list: &[Value]) -> Option<Member>
 }
 
 /// The members of the line's object that a command has.
-fn fields_of(cmd: &str) -> &'static [Field]
+pub(crate) fn fields_of(cmd: &str) -> &'static [Field]
     ensures { result.now ≡ walks.fields_of cmd.now }
 {
     match cmd {
