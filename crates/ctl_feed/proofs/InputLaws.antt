@@ -1,5 +1,5 @@
 -- Lines of an input, and what is written of them.
-use Rattle.std.proofs.Common.{◌≡◌, ℕ, ◌+◌, ◌<◌, ◌^◌, cond, Bool, true, false, List, [], ◌∷◌, ◌++◌, length, Option, Some, None, Result, Ok, Err, refl, sym, ap, subst, ◌∙◌, arith, append_assoc, append-nil, length-append}
+use Rattle.std.proofs.Common.{◌≡◌, ℕ, ◌+◌, ◌<◌, ◌≤◌, ◌^◌, cond, Bool, true, false, List, [], ◌∷◌, ◌++◌, length, Option, Some, None, Result, Ok, Err, refl, sym, ap, subst, ◌∙◌, arith, append_assoc, append-nil, length-append}
 use Rattle.std.specs.Prelude.{IfSome, OnOk, not, nat_lt, nat_le}
 use Rattle.std.specs.Str.Lossy.{utf8_lossy}
 use Rattle.std.specs.Io.KnownBytes.{Appends}
@@ -31,11 +31,11 @@ last_of-append : (last : Option ℕ) (es fs : List Entry) → last_of last (es +
 last_of-append last [] fs = refl
 last_of-append last (e ∷ es) fs = last_of-append (Some e.stamp) es fs
 
-AreOf-append : (time : List ℕ → Option ℕ) (now : ℕ) (last : Option ℕ) (ls ms : List (List ℕ)) (es fs : List Entry) → AreOf time now last ls es → AreOf time now (last_of last es) ms fs → AreOf time now last (ls ++ ms) (es ++ fs)
-AreOf-append time now last [] ms [] fs h k = k
-AreOf-append time now last [] ms (e ∷ es) fs h k = absurd h
-AreOf-append time now last (l ∷ ls) ms [] fs h k = absurd h
-AreOf-append time now last (l ∷ ls) ms (e ∷ es) fs h k = (h.0, h.1, AreOf-append time now (Some e.stamp) ls ms es fs h.2 k)
+AreOf-append : (read : List ℕ → Option ℕ × List ℕ) (now : ℕ) (last : Option ℕ) (ls ms : List (List ℕ)) (es fs : List Entry) → AreOf read now last ls es → AreOf read now (last_of last es) ms fs → AreOf read now last (ls ++ ms) (es ++ fs)
+AreOf-append read now last [] ms [] fs h k = k
+AreOf-append read now last [] ms (e ∷ es) fs h k = absurd h
+AreOf-append read now last (l ∷ ls) ms [] fs h k = absurd h
+AreOf-append read now last (l ∷ ls) ms (e ∷ es) fs h k = (h.0, h.1, AreOf-append read now (Some e.stamp) ls ms es fs h.2 k)
 
 AreCommands-append : (tenant : List ℕ) (now : ℕ) (labels : List (List ℕ × List ℕ)) (cs ds : List (List ℕ)) (gs hs : List (List Entry)) → AreCommands tenant now labels cs gs → AreCommands tenant now labels ds hs
     → AreCommands tenant now labels (cs ++ ds) (gs ++ hs)
@@ -74,18 +74,18 @@ too_long load time line h = let long : nat_le (length line) max_bytes ≡ false 
 entry_above : (now : ℕ) (last time : Option ℕ) (line : List ℕ) (entry : Entry) → entry_at now last time line ≡ Ok entry → IsAbove last entry.stamp
 entry_above now last time line entry h = stamp_above now last time entry.stamp (stamped_as (nat_lt (stamp_for now last time) (2 ^ 63)) (stamp_for now last time) (utf8_lossy line) entry (within (nat_le (length line) max_bytes) (stamped (stamp_for now last time) line >>= sized) entry h))
 
-module _ (time : List ℕ → Option ℕ) where
+module _ (read : List ℕ → Option ℕ × List ℕ) where
   -- none yet
-  pub loads_none : (load : Load) (o : Option (List ℕ)) → Loads time load load [] o o
+  pub loads_none : (load : Load) (o : Option (List ℕ)) → Loads read load load [] o o
   loads_none load o = record { entries = []; of_lines = tt; commands = []; groups = []; are_commands = tt; whole = append-nil load.entries; next = refl; written = Appends-nil o }
 
   -- these, and then those
-  pub loads_both : (a b c : Load) (ls ms : List (List ℕ)) (x y z : Option (List ℕ)) → Loads time a b ls x y → Loads time b c ms y z → Loads time a c (ls ++ ms) x z
+  pub loads_both : (a b c : Load) (ls ms : List (List ℕ)) (x y z : Option (List ℕ)) → Loads read a b ls x y → Loads read b c ms y z → Loads read a c (ls ++ ms) x z
   loads_both a b c ls ms x y z first second =
-      let then = subst (λ load. Loads time load c ms y z) first.next second in
+      let then = subst (λ load. Loads read load c ms y z) first.next second in
       record {
         entries = first.entries ++ then.entries;
-        of_lines = AreOf-append time a.now a.last ls ms first.entries then.entries first.of_lines then.of_lines;
+        of_lines = AreOf-append read a.now a.last ls ms first.entries then.entries first.of_lines then.of_lines;
         commands = first.commands ++ then.commands;
         groups = first.groups ++ then.groups;
         are_commands = AreCommands-append a.tenant a.now a.labels first.commands then.commands first.groups then.groups first.are_commands then.are_commands;
@@ -96,15 +96,15 @@ module _ (time : List ℕ → Option ℕ) where
       }
 
   -- one line, beside those that wait
-  pub loads_beside : (old new : Load) (line : List ℕ) (t : Option ℕ) (o : Option (List ℕ)) → t ≡ time line → (entry : Entry) × (entry_of old t line ≡ Ok entry) × Takes old new entry None → Loads time old new (line ∷ []) o o
-  loads_beside old new line t o same taken =
+  pub loads_beside : (old new : Load) (line text : List ℕ) (t : Option ℕ) (o : Option (List ℕ)) → (t, text) ≡ read line → (entry : Entry) × (entry_of old t text ≡ Ok entry) × Takes old new entry None → Loads read old new (line ∷ []) o o
+  loads_beside old new line text t o same taken =
       let entry = taken.0 in
-      let made : entry_at old.now old.last (time line) line ≡ Ok entry = subst (λ u. entry_at old.now old.last u line ≡ Ok entry) same taken.1 in
+      let made : entry_at old.now old.last (read line).0 (read line).1 ≡ Ok entry = subst (λ (u : Option ℕ × List ℕ). entry_at old.now old.last u.0 u.1 ≡ Ok entry) same taken.1 in
       let is : new ≡ with_entry old entry = taken.2.2 ∙ ap (λ load. with_entry load entry) taken.2.1.1 in
       let entries : new.entries ≡ old.entries ++ entry ∷ [] = ap (λ load. load.entries) is in
       record {
         entries = entry ∷ [];
-        of_lines = (made, entry_above old.now old.last (time line) line entry made, tt);
+        of_lines = (made, entry_above old.now old.last (read line).0 (read line).1 entry made, tt);
         commands = [];
         groups = [];
         are_commands = tt;
@@ -114,16 +114,16 @@ module _ (time : List ℕ → Option ℕ) where
       }
 
   -- one line, and the command of those that waited
-  pub loads_after : (old new : Load) (line command : List ℕ) (t : Option ℕ) (x y : Option (List ℕ)) → t ≡ time line → (entry : Entry) × (entry_of old t line ≡ Ok entry) × Takes old new entry (Some command)
-      → Appends x y (with_feed command) → Loads time old new (line ∷ []) x y
-  loads_after old new line command t x y same taken put =
+  pub loads_after : (old new : Load) (line text command : List ℕ) (t : Option ℕ) (x y : Option (List ℕ)) → (t, text) ≡ read line → (entry : Entry) × (entry_of old t text ≡ Ok entry) × Takes old new entry (Some command)
+      → Appends x y (with_feed command) → Loads read old new (line ∷ []) x y
+  loads_after old new line text command t x y same taken put =
       let entry = taken.0 in
-      let made : entry_at old.now old.last (time line) line ≡ Ok entry = subst (λ u. entry_at old.now old.last u line ≡ Ok entry) same taken.1 in
+      let made : entry_at old.now old.last (read line).0 (read line).1 ≡ Ok entry = subst (λ (u : Option ℕ × List ℕ). entry_at old.now old.last u.0 u.1 ≡ Ok entry) same taken.1 in
       let is : new ≡ record old { last = Some entry.stamp; entries = entry ∷ [] } = taken.2.2 ∙ ap (λ load. with_entry load entry) taken.2.1.2 in
       let entries : new.entries ≡ entry ∷ [] = ap (λ load. load.entries) is in
       record {
         entries = entry ∷ [];
-        of_lines = (made, entry_above old.now old.last (time line) line entry made, tt);
+        of_lines = (made, entry_above old.now old.last (read line).0 (read line).1 entry made, tt);
         commands = command ∷ [];
         groups = old.entries ∷ [];
         are_commands = (taken.2.1.1, tt);
@@ -133,7 +133,7 @@ module _ (time : List ℕ → Option ℕ) where
       }
 
   -- the command of those that wait
-  pub loads_rest : (old new : Load) (command : List ℕ) (x y : Option (List ℕ)) → Finishes old new (Some command) → Appends x y (with_feed command) → Loads time old new [] x y
+  pub loads_rest : (old new : Load) (command : List ℕ) (x y : Option (List ℕ)) → Finishes old new (Some command) → Appends x y (with_feed command) → Loads read old new [] x y
   loads_rest old new command x y finished put =
       let entries : new.entries ≡ [] = ap (λ load. load.entries) finished.1 in
       record {
@@ -149,11 +149,11 @@ module _ (time : List ℕ → Option ℕ) where
 
   -- ---- the front of an input
 
-  pub front_begins : (load : Load) (input : List ℕ) (left o : Option (List ℕ)) → left ≡ Some input → LoadsFront time load load input left o o 1
+  pub front_begins : (load : Load) (input : List ℕ) (left o : Option (List ℕ)) → left ≡ Some input → LoadsFront read load load input left o o 1
   front_begins load input left o is = record { taken = []; rest = input; left_is = is; lines = refl; numbered = refl; loads = loads_none load o }
 
-  pub front_more : (a b c : Load) (input line : List ℕ) (left new x y z : Option (List ℕ)) (n : ℕ) → LoadsFront time a b input left x y n → IfSome left (λ old. TakesLine max_bytes old new line Line)
-      → Loads time b c (line ∷ []) y z → LoadsFront time a c input new x z (n + 1)
+  pub front_more : (a b c : Load) (input line : List ℕ) (left new x y z : Option (List ℕ)) (n : ℕ) → LoadsFront read a b input left x y n → IfSome left (λ old. TakesLine (max_bytes + 1) old new line Line)
+      → Loads read b c (line ∷ []) y z → LoadsFront read a c input new x z (n + 1)
   front_more a b c input line left new x y z n front next loads =
       let more = rw front.left_is at next in
       record {
@@ -165,13 +165,13 @@ module _ (time : List ℕ → Option ℕ) where
         loads = loads_both a b c front.taken (line ∷ []) x y z front.loads loads;
       }
 
-  pub front_ends : (a b : Load) (input line : List ℕ) (left new x y : Option (List ℕ)) (n : ℕ) → LoadsFront time a b input left x y n → IfSome left (λ old. TakesLine max_bytes old new line End) → LoadsAll time a b input new x y
+  pub front_ends : (a b : Load) (input line : List ℕ) (left new x y : Option (List ℕ)) (n : ℕ) → LoadsFront read a b input left x y n → IfSome left (λ old. TakesLine (max_bytes + 1) old new line End) → LoadsAll read a b input new x y
   front_ends a b input line left new x y n front next =
       let none = rw front.left_is at next in
-      (none.1, subst (λ ls. Loads time a b ls x y) (sym (front.lines ∙ ap (λ ls. front.taken ++ ls) none.0 ∙ append-nil front.taken)) front.loads)
+      (none.1, subst (λ ls. Loads read a b ls x y) (sym (front.lines ∙ ap (λ ls. front.taken ++ ls) none.0 ∙ append-nil front.taken)) front.loads)
 
-  pub front_refused : (a b : Load) (input line : List ℕ) (left new x y : Option (List ℕ)) (n : ℕ) (fault : LoadFault) → LoadsFront time a b input left x y n → IfSome left (λ old. TakesLine max_bytes old new line Line)
-      → entry_of b (time line) line ≡ Err fault → LoadsUntil time a b input new x y n fault
+  pub front_refused : (a b : Load) (input line : List ℕ) (left new x y : Option (List ℕ)) (n : ℕ) (fault : LoadFault) → LoadsFront read a b input left x y n → IfSome left (λ old. TakesLine (max_bytes + 1) old new line Line)
+      → entry_of b (read line).0 (read line).1 ≡ Err fault → LoadsUntil read a b input new x y n fault
   front_refused a b input line left new x y n fault front next refused =
       let more = rw front.left_is at next in
       record {
@@ -186,15 +186,15 @@ module _ (time : List ℕ → Option ℕ) where
       }
 
   -- the same, by a loader and a writer that stay
-  pub refused_here : (a b c : Load) (input line : List ℕ) (left new x y z : Option (List ℕ)) (n : ℕ) (fault : LoadFault) → LoadsFront time a b input left x y n → IfSome left (λ old. TakesLine max_bytes old new line Line)
-      → (entry_of b (time line) line ≡ Err fault) × (c ≡ b) × (z ≡ y) → LoadsUntil time a c input new x z n fault
+  pub refused_here : (a b c : Load) (input line : List ℕ) (left new x y z : Option (List ℕ)) (n : ℕ) (fault : LoadFault) → LoadsFront read a b input left x y n → IfSome left (λ old. TakesLine (max_bytes + 1) old new line Line)
+      → (entry_of b (read line).0 (read line).1 ≡ Err fault) × (c ≡ b) × (z ≡ y) → LoadsUntil read a c input new x z n fault
   refused_here a b c input line left new x y z n fault front next refused =
       rw (refused.1, refused.2) (front_refused a b input line left new x y n fault front next refused.0)
 
   -- the same, of a line that was skipped
-  pub skipped_here : (a b : Load) (input kept : List ℕ) (left new x y : Option (List ℕ)) (n : ℕ) → LoadsFront time a b input left x y n → IfSome left (λ old. TakesLine max_bytes old new kept NextLine.TooLong)
-      → LoadsUntil time a b input new x y n TooLong
-  skipped_here a b input kept left new x y n front next =
+  pub skipped_here : (a b : Load) (input kept : List ℕ) (left new x y : Option (List ℕ)) (n : ℕ) → ((line : List ℕ) → length line ≤ length (read line).1 + 1) → LoadsFront read a b input left x y n
+      → IfSome left (λ old. TakesLine (max_bytes + 1) old new kept NextLine.TooLong) → LoadsUntil read a b input new x y n TooLong
+  skipped_here a b input kept left new x y n nearly front next =
       let more = rw front.left_is at next in
       record {
         taken = front.taken;
@@ -203,7 +203,7 @@ module _ (time : List ℕ → Option ℕ) where
         left_is = more.2;
         lines = front.lines ∙ ap (λ ls. front.taken ++ ls) more.3;
         numbered = front.numbered;
-        refused = too_long b (time more.0) more.0 more.4;
+        refused = too_long b (read more.0).0 (read more.0).1 (omega (arith, nearly more.0, more.4));
         loads = front.loads;
       }
 

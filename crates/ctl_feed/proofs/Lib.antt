@@ -9,3 +9,5 @@ pub mod TimeLaws
 pub mod InputLaws
 pub mod LineLaws
 pub mod BodyLaws
+pub mod ReadingLaws
+pub mod PartLaws

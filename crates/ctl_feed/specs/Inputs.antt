@@ -11,14 +11,14 @@ abbrev pub IsAbove : Option ℕ → ℕ → Type 0
 IsAbove None stamp = ⊤
 IsAbove (Some last) stamp = last < stamp
 
--- The entries are those of the lines, in order, in a load that began at now, behind a line of the stamp last: each has its line,
--- and the stamp that its line gets, which is above the one before.
-abbrev pub AreOf : (List ℕ → Option ℕ) → ℕ → Option ℕ → List (List ℕ) → List Entry → Type 0
-AreOf time now last [] [] = ⊤
-AreOf time now last [] (entry ∷ entries) = ⊥
-AreOf time now last (line ∷ lines) [] = ⊥
-AreOf time now last (line ∷ lines) (entry ∷ entries) =
-    (entry_at now last (time line) line ≡ Ok entry) × IsAbove last entry.stamp × AreOf time now (Some entry.stamp) lines entries
+-- The entries are those of the lines, in order, in a load that began at now, behind a line of the stamp last: each has the text that
+-- its line is read as, and the stamp that its time gets, which is above the one before.
+abbrev pub AreOf : (List ℕ → Option ℕ × List ℕ) → ℕ → Option ℕ → List (List ℕ) → List Entry → Type 0
+AreOf read now last [] [] = ⊤
+AreOf read now last [] (entry ∷ entries) = ⊥
+AreOf read now last (line ∷ lines) [] = ⊥
+AreOf read now last (line ∷ lines) (entry ∷ entries) =
+    (entry_at now last (read line).0 (read line).1 ≡ Ok entry) × IsAbove last entry.stamp × AreOf read now (Some entry.stamp) lines entries
 
 -- the stamp of the last of some entries, behind one
 abbrev pub last_of : Option ℕ → List Entry → Option ℕ
@@ -38,9 +38,9 @@ concat groups = flat_map (λ entries. entries) groups
 
 -- Lines were taken by a load, and what was written is commands, each a line. The entries that waited, and then those of the lines,
 -- are those of the commands, and then those that still wait: none is lost, doubled or out of order.
-pub record Loads (time : List ℕ → Option ℕ) (old new : Load) (lines : List (List ℕ)) (before after : Option (List ℕ)) : Type 0 where
+pub record Loads (read : List ℕ → Option ℕ × List ℕ) (old new : Load) (lines : List (List ℕ)) (before after : Option (List ℕ)) : Type 0 where
   pub entries : List Entry
-  pub of_lines : AreOf time old.now old.last lines entries
+  pub of_lines : AreOf read old.now old.last lines entries
   pub commands : List (List ℕ)
   pub groups : List (List Entry)
   pub are_commands : AreCommands old.tenant old.now old.labels commands groups
@@ -49,27 +49,27 @@ pub record Loads (time : List ℕ → Option ℕ) (old new : Load) (lines : List
   pub written : Appends before after (flat_map with_feed commands)
 
 -- all lines of an input were taken
-abbrev pub LoadsAll : (List ℕ → Option ℕ) → Load → Load → List ℕ → Option (List ℕ) → Option (List ℕ) → Option (List ℕ) → Type 0
-LoadsAll time old new input left before after = (left ≡ Some []) × Loads time old new (lines_of input) before after
+abbrev pub LoadsAll : (List ℕ → Option ℕ × List ℕ) → Load → Load → List ℕ → Option (List ℕ) → Option (List ℕ) → Option (List ℕ) → Type 0
+LoadsAll read old new input left before after = (left ≡ Some []) × Loads read old new (lines_of input) before after
 
 -- the lines before one that is refused were taken, and those after it are left; the refused one is the number-th
-pub record LoadsUntil (time : List ℕ → Option ℕ) (old new : Load) (input : List ℕ) (left before after : Option (List ℕ)) (number : ℕ) (fault : LoadFault) : Type 0 where
+pub record LoadsUntil (read : List ℕ → Option ℕ × List ℕ) (old new : Load) (input : List ℕ) (left before after : Option (List ℕ)) (number : ℕ) (fault : LoadFault) : Type 0 where
   pub taken : List (List ℕ)
   pub line : List ℕ
   pub rest : List ℕ
   pub left_is : left ≡ Some rest
   pub lines : lines_of input ≡ taken ++ line ∷ lines_of rest
   pub numbered : number ≡ length taken + 1
-  pub refused : entry_of new (time line) line ≡ Err fault
-  pub loads : Loads time old new taken before after
+  pub refused : entry_of new (read line).0 (read line).1 ≡ Err fault
+  pub loads : Loads read old new taken before after
 
 -- ---- for private clauses
 
 -- the lines before those that are left were taken; the next is the number-th
-pub record LoadsFront (time : List ℕ → Option ℕ) (old new : Load) (input : List ℕ) (left before after : Option (List ℕ)) (number : ℕ) : Type 0 where
+pub record LoadsFront (read : List ℕ → Option ℕ × List ℕ) (old new : Load) (input : List ℕ) (left before after : Option (List ℕ)) (number : ℕ) : Type 0 where
   pub taken : List (List ℕ)
   pub rest : List ℕ
   pub left_is : left ≡ Some rest
   pub lines : lines_of input ≡ taken ++ lines_of rest
   pub numbered : number ≡ length taken + 1
-  pub loads : Loads time old new taken before after
+  pub loads : Loads read old new taken before after

@@ -5,3 +5,4 @@ pub mod Loads
 pub mod Times
 pub mod Inputs
 pub mod Lines
+pub mod Readings

@@ -5,13 +5,13 @@ ghost use Rattle.ctl_feed.specs.Inputs.{Loads, LoadsAll, LoadsUntil};
 ghost use Rattle.ctl_feed.specs.Lines.{with_feed};
 ghost use Rattle.ctl_feed.specs.Loads.{entry_of};
 ghost use Rattle.ctl_feed.specs.declared.load_fault.LoadFault.{LoadFault};
-ghost use Rattle.ctl_feed.specs.Times.{time_of};
+ghost use Rattle.ctl_feed.specs.Readings.{read_by};
 
 use crate::lines::{LineError, NextLine, next_line};
 use crate::load_fault::LoadFault;
 use crate::loader::Loader;
+use crate::reading::Reading;
 use crate::size::MAX_BYTES;
-use crate::stamps::Stamps;
 use std::alloc::{AllocError, Global};
 use std::io::{BufRead, Write};
 
@@ -55,10 +55,10 @@ impl From<LineError> for FeedEnding {
     }
 }
 
-/// Takes the lines of an input, as `Loader::take` does, with the times that `stamps` says, and writes each
-/// command that is full as a line. What does not fill a command waits in the loader, for a further input or
-/// for `load_rest`. At a line that no command can have it stops: all lines before it are taken, and a further
-/// call goes on behind it. No more than `MAX_BYTES` of a line are kept in memory.
+/// Takes the lines of an input, as `Loader::take` does, with the texts and times that `reading` says, and
+/// writes each command that is full as a line. What does not fill a command waits in the loader, for a
+/// further input or for `load_rest`. At a line that no command can have it stops: all lines before it are
+/// taken, and a further call goes on behind it. No more than `MAX_BYTES` of a line and one are kept in memory.
 ///
 /// `InputFault` where a read failed, or there are 2^64-2 lines, or one takes as many reads; `OutputFault`
 /// where a write failed; `NoMemory`. Then entries may be lost, and the last line that was written may be cut.
@@ -68,19 +68,19 @@ pub fn load_input<R: BufRead, W: Write>(
     reader: &mut R,
     writer: &mut W,
     loader: &mut Loader,
-    stamps: Stamps,
+    reading: &Reading,
 ) -> Result<Loaded, FeedEnding>
     ensures all { result ≡ Ok Loaded.All → IfSome (R.remaining reader.old) (λ input.
-        LoadsAll (time_of stamps) loader.old loader.new input (R.remaining reader.new)
+        LoadsAll (read_by reading.now) loader.old loader.new input (R.remaining reader.new)
         (W.contents writer.old) (W.contents writer.new)) }
     ensures refused { (line : ℕ) (fault : LoadFault) → result ≡ Ok (Loaded.Refused line fault)
         → IfSome (R.remaining reader.old) (λ input.
-        LoadsUntil (time_of stamps) loader.old loader.new input (R.remaining reader.new)
+        LoadsUntil (read_by reading.now) loader.old loader.new input (R.remaining reader.new)
         (W.contents writer.old) (W.contents writer.new) line fault) }
 {
     let mut line = Vec::new(alloc);
     for number in 1..u64::MAX {
-        match next_line(reader, &mut line, MAX_BYTES)? {
+        match next_line(reader, &mut line, MAX_BYTES + 1)? {
             NextLine::End => return Ok(Loaded::All),
             NextLine::TooLong => {
                 return Ok(Loaded::Refused {
@@ -89,7 +89,7 @@ pub fn load_input<R: BufRead, W: Write>(
                 });
             }
             NextLine::Line => {
-                if let Some(fault) = load_line(alloc, writer, loader, &line, stamps)? {
+                if let Some(fault) = load_line(alloc, writer, loader, &line, reading)? {
                     return Ok(Loaded::Refused {
                         line: number,
                         fault,
@@ -108,8 +108,8 @@ pub fn load_rest<W: Write>(
     loader: &mut Loader,
 ) -> Result<(), FeedEnding>
     ensures none_waits { OnOk result (loader.new.entries ≡ []) }
-    ensures written { (time : List ℕ → Option ℕ) → OnOk result
-        (Loads time loader.old loader.new [] (W.contents writer.old) (W.contents writer.new)) }
+    ensures written { (read : List ℕ → Option ℕ × List ℕ) → OnOk result
+        (Loads read loader.old loader.new [] (W.contents writer.old) (W.contents writer.new)) }
 {
     match loader.finish(alloc)? {
         Some(command) => put(writer, command),
@@ -137,15 +137,17 @@ fn load_line<W: Write>(
     writer: &mut W,
     loader: &mut Loader,
     line: &[u8],
-    stamps: Stamps,
+    reading: &Reading,
 ) -> Result<Option<LoadFault>, FeedEnding>
-    ensures taken { result ≡ Ok None → Loads (time_of stamps) loader.old loader.new (line.now ∷ [])
+    ensures taken { result ≡ Ok None → Loads (read_by reading.now) loader.old loader.new (line.now ∷ [])
         (W.contents writer.old) (W.contents writer.new) }
     ensures refused { (fault : LoadFault) → result ≡ Ok (Some fault)
-        → (entry_of loader.old (time_of stamps line.now) line.now ≡ Err fault)
+        → (entry_of loader.old (read_by reading.now line.now).0 (read_by reading.now line.now).1 ≡ Err fault)
         × (loader.new ≡ loader.old) × (W.contents writer.new ≡ W.contents writer.old) }
 {
-    match loader.take(alloc, line, stamps.time_of(line)) {
+    let text = reading.text_of(line);
+    let time = reading.stamps.time_of(alloc, text)?;
+    match loader.take(alloc, text, time) {
         Ok(None) => Ok(None),
         Ok(Some(command)) => {
             put(writer, command)?;

@@ -7,6 +7,7 @@ use crate::labels::Labels;
 use crate::load_fault::LoadFault;
 use crate::push::push_line;
 use crate::size::{MAX_BYTES, size_in_bounds};
+use crate::tally::Tally;
 use ing_rows::{Entry, Line, Stamp, Tenant};
 use std::alloc::{AllocError, Global};
 use std::marker::Model;
@@ -27,6 +28,8 @@ pub struct Loader {
     entries: Vec<Entry>,
     /// What they take in a command, in bytes.
     size: usize,
+    /// What is told at the end.
+    tally: Tally,
 }
 
 impl Model for Loader {
@@ -84,6 +87,7 @@ impl Loader {
             last: None,
             entries: Vec::new(alloc),
             size: 0,
+            tally: Tally::empty(),
         })
     }
 
@@ -110,6 +114,7 @@ impl Loader {
         let (entry, size) = self.sized_entry(alloc, line, time)?;
         let command = self.make_room(alloc, size)?;
         self.add(entry, size)?;
+        self.tally = self.tally.with_line(line, time.is_some());
         Ok(command)
     }
 
@@ -123,6 +128,11 @@ impl Loader {
             return Ok(None);
         }
         Ok(Some(self.take_command(alloc)?))
+    }
+
+    /// What was taken so far, and made of it. Takes no memory.
+    pub fn tally(&self) -> Tally {
+        self.tally
     }
 
     /// The entry of a line of this time, and what it takes in a command.
@@ -189,6 +199,7 @@ impl Loader {
     {
         let entries = mem::replace(&mut self.entries, Vec::new(alloc));
         self.size = 0;
+        self.tally = self.tally.with_command();
         push_line(alloc, &self.tenant, self.now, &self.labels, entries)
     }
 }

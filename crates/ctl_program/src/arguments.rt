@@ -1,14 +1,22 @@
 //! The argument words.
+use crate::version::VERSION;
 use clap::{Arg, ArgAction, Command};
 use std::alloc::{AllocError, Global};
 
 /// Where stamps come from.
-static STAMPS: [&str; 2] = ["now", "line"];
+static STAMPS: [&str; 6] = ["now", "line", "syslog", "nginx", "seconds", "milliseconds"];
+
+/// What is told of them.
+const STAMPS_HELP: &str = "now: stamps rise from this moment on; else a line has the time that it \
+    has in this format. line: it begins with nanoseconds or a time of ISO 8601 with its zone; \
+    syslog: with Nov 28 13:52:55, in UTC; nginx: it has [28/Nov/2026:13:52:55 +0000]; seconds, \
+    milliseconds: it begins with a number of these since 1970";
 
 /// The program with its commands.
 pub fn command<'a>(alloc: Global) -> Result<Command<'a>, AllocError> {
     Command::new(alloc, "ingestctl")
         .about("A person's side of ingestd.")
+        .version(VERSION)
         .subcommand_required(true)
         .arg_required_else_help(true)
         .subcommand(load(alloc)?)?
@@ -18,23 +26,28 @@ pub fn command<'a>(alloc: Global) -> Result<Command<'a>, AllocError> {
         .subcommand(show(alloc)?)?
         .subcommand(check(alloc)?)?
         .subcommand(mend(alloc)?)?
-        .subcommand(refusals(alloc)?)
+        .subcommand(refusals(alloc)?)?
+        .subcommand(tick(alloc)?)?
+        .subcommand(query(alloc)?)
 }
 
 fn load<'a>(alloc: Global) -> Result<Command<'a>, AllocError> {
     let stamps = Arg::new(alloc, "stamps")
         .long("stamps")
-        .value_name("now|line")
+        .value_name("FORMAT")
         .value_parser(STAMPS.as_slice())
         .default_value("now")
-        .help(
-            "now: stamps rise from this moment on; line: a line that begins with a time has that",
-        );
+        .help(STAMPS_HELP);
+    let crlf = Arg::new(alloc, "crlf")
+        .long("crlf")
+        .action(ArgAction::SetTrue)
+        .help("A carriage return at the end of a line is no part of it");
     Command::new(alloc, "load")
         .about("Lines of text, as push commands of at most 5,000 values and 8 MiB.")
         .arg(tenant(alloc))?
         .arg(labels(alloc))?
         .arg(stamps)?
+        .arg(crlf)?
         .arg(now(alloc))?
         .arg(files(alloc, "Files of lines; without one, standard input"))
 }
@@ -136,6 +149,63 @@ fn refusals<'a>(alloc: Global) -> Result<Command<'a>, AllocError> {
                 .value_name("NUMBER|NAME")
                 .help("Which one; without it all"),
         )
+}
+
+fn tick<'a>(alloc: Global) -> Result<Command<'a>, AllocError> {
+    let checkpoint = Arg::new(alloc, "checkpoint")
+        .long("checkpoint")
+        .action(ArgAction::SetTrue)
+        .help("A checkpoint behind them");
+    Command::new(alloc, "tick")
+        .about("The commands that are due from time to time: a sweep and a flush of what is due.")
+        .arg(now(alloc))?
+        .arg(checkpoint)
+}
+
+fn query<'a>(alloc: Global) -> Result<Command<'a>, AllocError> {
+    let since = word(
+        alloc,
+        "since",
+        "DURATION",
+        "From so long ago on, as 90m, 2h or 7d",
+    )
+    .conflicts_with("start")?;
+    Command::new(alloc, "query")
+        .about("A query as a command, or why it would be refused.")
+        .arg(tenant(alloc))?
+        .arg(word(
+            alloc,
+            "query",
+            "SELECTOR",
+            "Which streams, as {job=\"app\"}",
+        )
+        .required(true))?
+        .arg(since)?
+        .arg(word(
+            alloc,
+            "start",
+            "TIME",
+            "The least stamp, or a time of RFC 3339",
+        ))?
+        .arg(word(
+            alloc,
+            "end",
+            "TIME",
+            "What each stamp is below, or a time of RFC 3339",
+        ))?
+        .arg(word(
+            alloc,
+            "limit",
+            "NUMBER",
+            "At most so many entries, up to 5000",
+        ))?
+        .arg(word(alloc, "direction", "DIRECTION", "forward, or backward"))?
+        .arg(now(alloc))
+}
+
+/// An argument that is given by its name.
+fn word<'a>(alloc: Global, id: &'a str, value: &'a str, help: &'a str) -> Arg<'a> {
+    Arg::new(alloc, id).long(id).value_name(value).help(help)
 }
 
 fn tenant<'a>(alloc: Global) -> Arg<'a> {

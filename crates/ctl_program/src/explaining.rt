@@ -4,10 +4,12 @@ use crate::output::put;
 use crate::status::Status;
 use anyhow::Result;
 use clap::ArgMatches;
-use ctl_explain::explain;
+use ctl_explain::{explain, notes_of};
+use ing_commands::{LineFault, read_value};
+use std::alloc::{AllocError, Global};
 use std::io::{BufRead, Write};
 
-/// Writes for each line of the input that is refused its number and why.
+/// Writes for each line of the input that is refused its number and why, and notes on members that its command does not have.
 pub fn explain_lines<I: BufRead, O: Write>(
     rt: &HostRuntime,
     given: &ArgMatches<'_>,
@@ -34,6 +36,23 @@ pub fn explain_lines<I: BufRead, O: Write>(
             )?;
             is_right = false;
         }
+        note(alloc, number, &line, output)?;
     }
     Ok(Status::of(is_right))
+}
+
+/// Writes a note on each member of a line that its command does not have.
+fn note<O: Write>(alloc: Global, number: u64, line: &[u8], output: &mut O) -> Result<()> {
+    let value = match read_value(alloc, line) {
+        Ok(value) => value,
+        Err(LineFault::NoMemory) => return Err(AllocError.into()),
+        Err(_) => return Ok(()),
+    };
+    for note in notes_of(alloc, &value)? {
+        put(
+            output,
+            format!(in alloc; "line {number}: note: {note}\n")?.as_str(),
+        )?;
+    }
+    Ok(())
 }

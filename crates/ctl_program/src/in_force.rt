@@ -4,7 +4,7 @@ use crate::output::put;
 use crate::status::Status;
 use anyhow::{Context, Result, bail};
 use clap::ArgMatches;
-use ctl_explain::{SettingsRefusal, rules_in_force, settings_in_force};
+use ctl_explain::{SettingsRefusal, rules_in_force, setting_hint, settings_in_force};
 use ing_limits::Settings;
 use ing_rows::Tenant;
 use std::io::Write;
@@ -27,7 +27,14 @@ pub fn show_settings<O: Write>(
         }
         Err(SettingsRefusal::NoMemory) => bail!("out of memory"),
         Err(refusal) => {
-            put(output, format!(in rt.alloc(); "{refusal}\n")?.as_str())?;
+            let hint = match &refusal {
+                SettingsRefusal::Refused(fault) => setting_hint(rt.alloc(), text.as_str(), fault)?,
+                _ => String::new(rt.alloc()),
+            };
+            put(
+                output,
+                format!(in rt.alloc(); "{refusal}{hint}\n")?.as_str(),
+            )?;
             Ok(Status::Wrong)
         }
     }

@@ -8,12 +8,16 @@ mod feeding;
 mod given;
 mod in_force;
 mod loading;
+mod looking;
 mod mending;
 mod output;
 mod progress;
+mod querying;
 mod refusals;
 mod showing;
 mod status;
+mod ticking;
+mod version;
 mod wrapping;
 
 use anyhow::Result;
@@ -82,6 +86,8 @@ fn run_chosen<I: BufRead, O: Write, E: Write>(
         Some(("check", given)) => checking::check_folder(rt, given, output),
         Some(("mend", given)) => mending::mend_folder(rt, given, output),
         Some(("refusals", given)) => refusals::show_refusals(rt, given, output),
+        Some(("tick", given)) => ticking::tick(rt, given, output),
+        Some(("query", given)) => querying::query(rt, given, output),
         _ => Ok(Status::Unread),
     }
 }

@@ -24,6 +24,13 @@ impl<'a, O: Write> Progress<'a, O> {
             commands: 0,
         }
     }
+
+    /// Ends what it tells, so that a line may follow.
+    pub fn end(&mut self) {
+        if self.is_watched && self.commands >= EACH {
+            let _ = eprint!(self.rt; "\n");
+        }
+    }
 }
 
 impl<'a, O: Write> Write for Progress<'a, O> {

@@ -11,6 +11,9 @@ use std::fs;
 use std::io::Write;
 use std::path::Path;
 
+/// What is told of a file with no whole record of a log.
+const NO_OBJECT: &str = "no chunk and no index row; as a log: ";
+
 /// Writes what stands in each file.
 pub fn show_files<O: Write>(
     rt: &HostRuntime,
@@ -68,6 +71,9 @@ fn show_bytes<O: Write>(
         }
         Ok(Shown::Row(row)) => put(output, row_words(alloc, &row)?.as_str())?,
         Ok(Shown::Log(found)) => {
+            if found.whole.is_empty() && !found.rest.is_empty() {
+                put(output, NO_OBJECT)?;
+            }
             put(output, log_words(alloc, &found)?.as_str())?;
             for (at, record) in found.whole.iter().enumerate() {
                 let text = record_words(alloc, record, with_entries)?;
@@ -78,6 +84,9 @@ fn show_bytes<O: Write>(
             bail!("out of memory")
         }
         Err(fault) => {
+            if fault == ShowFault::Log(LogReadFault::Damaged { at: 0 }) {
+                put(output, NO_OBJECT)?;
+            }
             put(output, format!(in alloc; "{fault}\n")?.as_str())?;
             return Ok(false);
         }

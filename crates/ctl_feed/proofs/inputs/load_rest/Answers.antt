@@ -6,10 +6,10 @@ use Rattle.ctl_feed.proofs.inputs.load_rest.Goals as goal
 pub returns-in-Some-clause-written : goal.returns-in-Some-clause-written
 returns-in-Some-clause-written g c =
     let finished = rw c.in-Some.is at c.in_ok-command.ensures in
-    λ time. on_ok_of c.put.result _ _ (λ put. loads_rest time c.args.loader.now c.finish.new.self c.in-Some.command.items (g.W.Write.contents c.args.writer.now) (g.W.Write.contents c.put.new.writer) finished put) c.put.ensures
+    λ read. on_ok_of c.put.result _ _ (λ put. loads_rest read c.args.loader.now c.finish.new.self c.in-Some.command.items (g.W.Write.contents c.args.writer.now) (g.W.Write.contents c.put.new.writer) finished put) c.put.ensures
 
 pub returns-in-None-clause-written : goal.returns-in-None-clause-written
 returns-in-None-clause-written g c =
     let finished = rw c.in-None.is at c.in_ok-command.ensures in
     let contents = g.W.Write.contents c.args.writer.now in
-    λ time. subst (λ load. Loads time c.args.loader.now load [] contents contents) (sym finished.1) (loads_none time c.args.loader.now contents)
+    λ read. subst (λ load. Loads read c.args.loader.now load [] contents contents) (sym finished.1) (loads_none read c.args.loader.now contents)
