@@ -1,5 +1,5 @@
 # `make help` lists what there is.
-.PHONY: help try run build install check test mutants bench worlds stress kills crashes documents front front-install front-check front-test front-bench
+.PHONY: help try try-ctl run build install check test mutants bench worlds stress kills crashes documents front front-install front-check front-test front-bench
 program = crates/ingestd/out/ingestd
 ctl = crates/ingestctl/out/ingestctl
 PREFIX = /usr/local
@@ -15,6 +15,7 @@ sources = crates.txt $(shell find crates -name out -prune -o \( -name '*.rt' -o 
 
 help:
 	@echo 'make try      runs the program on standard input before anything is proved, within a minute or two; SETTINGS=FILE'
+	@echo 'make try-ctl  does so with ingestctl; ARGS="load --tenant me --label job=app" < app.log'
 	@echo 'make run      runs the program on standard input, with all that it calls proved first; SETTINGS=FILE, FOLDER=FOLDER'
 	@echo 'make build    builds it and ingestctl, with all that they call proved'
 	@echo 'make install  puts both and a man page each in place; PREFIX=FOLDER'
@@ -34,8 +35,11 @@ help:
 
 # The toolchain's own lines go to standard error, so that standard output has the replies alone.
 try:
-	@echo 'nothing is proved yet: make run proves what it runs' >&2
-	@cd crates/ingestd && rt try $(if $(SETTINGS),--data settings.toml="$(abspath $(SETTINGS))") -- $(if $(SETTINGS),settings.toml)
+	@scripts/try.sh ingestd $(if $(SETTINGS),--data settings.toml="$(abspath $(SETTINGS))") -- $(if $(SETTINGS),settings.toml)
+
+# A word that is the name of a file below this folder is passed with the file.
+try-ctl:
+	@scripts/try.sh ingestctl $(foreach word,$(ARGS),$(if $(wildcard $(word)),--data $(word)="$(abspath $(word))")) -- $(ARGS)
 
 run: $(program)
 	@$(program) $(if $(SETTINGS)$(FOLDER),"$(or $(SETTINGS),/dev/null)") $(if $(FOLDER),"$(FOLDER)")

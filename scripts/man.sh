@@ -1,23 +1,38 @@
 #!/bin/sh
-# Writes the man page of a program of this repository, made from its help: that of ingestctl, or for ingestd the head of its page.
+# Writes the man page of a program of this repository: of ingestctl from its own help, of ingestd from docs/COMMANDS.md.
 set -e
 cd "$(dirname "$0")/.."
+ctl=crates/ingestctl/out/ingestctl
 escaped() { sed -e 's/\\/\\e/g' -e "s/^[.']/\\\\\&&/" -e 's/-/\\-/g'; }
+# The text of a section of a page, without its heading; links are their words alone.
+section() { sed -n "/^$2\$/,/^## /p" "$1" | sed -e '1d' -e '/^## /d' -e 's/\[\([^]]*\)\]([^)]*)/\1/g'; }
+verbatim() { echo .nf; escaped; echo .fi; }
+head_of() { echo ".TH $(echo "$1" | tr a-z A-Z) 1 \"\" \"$1 $($ctl --version | cut -d' ' -f2)\" \"Sarymbeu\""; }
+
+head_of "$1"
 case $1 in
   ingestctl)
-    echo '.TH INGESTCTL 1'
-    printf '.SH NAME\ningestctl \\- a person'"'"'s side of ingestd\n'
-    for command in '' load wrap explain settings show check refusals; do
-      echo ".SH ${command:-SYNOPSIS}"
-      echo .nf
-      # shellcheck disable=SC2086 # no command is no word
-      crates/ingestctl/out/ingestctl $command --help | escaped
-      echo .fi
-    done ;;
+    printf '.SH NAME\ningestctl \\- logs as commands of ingestd, and what it refuses, in words\n'
+    printf '.SH SYNOPSIS\n.B ingestctl\n.I COMMAND\n[OPTIONS] [WORDS]\n.SH COMMANDS\n'
+    $ctl --help | sed -n '/^Commands:/,/^$/p' | sed '1d; /^ *help /d' | verbatim
+    $ctl --help | sed -n '/^Commands:/,/^$/p' | sed '1d' | while read -r command _; do
+      case $command in '' | help) continue ;; esac
+      printf '.SS %s\n' "$command"
+      $ctl "$command" --help </dev/null | verbatim
+    done
+    printf '.SH EXIT STATUS\n.TP\n0\nall is as it should be\n.TP\n1\nsomething that was looked at is wrong, and told\n'
+    printf '.TP\n2\nit could not be looked at; one line on standard error says why\n'
+    printf '.SH SEE ALSO\n.BR ingestd (1)\n' ;;
   ingestd)
-    echo '.TH INGESTD 1'
-    printf '.SH NAME\ningestd \\- the write path of a log store\n.SH DESCRIPTION\n.nf\n'
-    sed '1d; /^## /,$d' docs/COMMANDS.md | escaped
-    echo .fi ;;
+    printf '.SH NAME\ningestd \\- the write path of a log store\n.SH SYNOPSIS\n.B ingestd\n[SETTINGS [FOLDER]]\n.SH DESCRIPTION\n'
+    section docs/COMMANDS.md '# Commands' | sed '/^    ingestd /d' | escaped
+    for command in push sweep flush gauges board checkpoint query; do
+      printf '.SH %s\n' "$(echo $command | tr a-z A-Z)"
+      section docs/COMMANDS.md "## $command" | verbatim
+    done
+    printf '.SH SETTINGS\n'; section docs/COMMANDS.md '## Settings' | verbatim
+    printf '.SH EXIT STATUS\n'; section docs/COMMANDS.md '## Refusals' | verbatim
+    printf '.SH FILES\nIn FOLDER:\n'; section docs/OPERATING.md '## What lies there' | verbatim
+    printf '.SH SEE ALSO\n.BR ingestctl (1)\n' ;;
   *) echo "no man page of $1" >&2; exit 2 ;;
 esac
