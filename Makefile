@@ -73,12 +73,14 @@ mutants:
 	@mutants/try.sh $(CRATE)
 
 # A case with a file `document` stands in that page: each line of it, indented by four spaces. An example is the input of a
-# case.
+# case. README.md names the toolchain that --version names.
 documents:
 	@for example in examples/*.jsonl; do \
 	  cmp "$$example" "crates/test_cases/data/example_$$(basename "$$example" .jsonl)/input.jsonl" || exit 1; \
 	done
 	@cmp examples/settings.toml crates/test_cases/data/example_first_push/settings.toml
+	@kit="$$(sed -n 's/.*(\(rattle-kit.*\)).*/\1/p' crates/ctl_program/src/version.rt)"; \
+	grep -qF -e "$$kit" README.md || { echo "README.md and --version name other toolchains"; exit 1; }
 	@for page in crates/test_cases/data/*/document; do \
 	  folder=$${page%/document}; \
 	  for file in settings.toml input.jsonl output.jsonl; do \

@@ -7,7 +7,7 @@ escaped() { sed -e 's/\\/\\e/g' -e "s/^[.']/\\\\\&&/" -e 's/-/\\-/g'; }
 # The text of a section of a page, without its heading; links are their words alone.
 section() { sed -n "/^$2\$/,/^## /p" "$1" | sed -e '1d' -e '/^## /d' -e 's/\[\([^]]*\)\]([^)]*)/\1/g'; }
 verbatim() { echo .nf; escaped; echo .fi; }
-head_of() { echo ".TH $(echo "$1" | tr a-z A-Z) 1 \"\" \"$1 $($ctl --version | cut -d' ' -f2)\" \"Sarymbeu\""; }
+head_of() { echo ".TH $(echo "$1" | tr '[:lower:]' '[:upper:]') 1 \"\" \"$1 $($ctl --version | cut -d' ' -f2)\" \"Sarymbeu\""; }
 
 head_of "$1"
 case $1 in
@@ -27,7 +27,7 @@ case $1 in
     printf '.SH NAME\ningestd \\- the write path of a log store\n.SH SYNOPSIS\n.B ingestd\n[SETTINGS [FOLDER]]\n.SH DESCRIPTION\n'
     section docs/COMMANDS.md '# Commands' | sed '/^    ingestd /d' | escaped
     for command in push sweep flush gauges board checkpoint query; do
-      printf '.SH %s\n' "$(echo $command | tr a-z A-Z)"
+      printf '.SH %s\n' "$(echo $command | tr '[:lower:]' '[:upper:]')"
       section docs/COMMANDS.md "## $command" | verbatim
     done
     printf '.SH SETTINGS\n'; section docs/COMMANDS.md '## Settings' | verbatim

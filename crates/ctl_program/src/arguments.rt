@@ -7,10 +7,14 @@ use std::alloc::{AllocError, Global};
 static STAMPS: [&str; 6] = ["now", "line", "syslog", "nginx", "seconds", "milliseconds"];
 
 /// What is told of them.
-const STAMPS_HELP: &str = "now: stamps rise from this moment on; else a line has the time that it \
-    has in this format. line: it begins with nanoseconds or a time of ISO 8601 with its zone; \
-    syslog: with Nov 28 13:52:55, in UTC; nginx: it has [28/Nov/2026:13:52:55 +0000]; seconds, \
-    milliseconds: it begins with a number of these since 1970";
+const FORMATS: &str = "\
+Formats of the times of lines:
+  now           none: stamps rise from this moment on, a nanosecond apart
+  line          nanoseconds, or a time of ISO 8601 with its zone, at the beginning
+  syslog        Nov 28 13:52:55 at the beginning, in UTC
+  nginx         [28/Nov/2026:13:52:55 +0000], the first brackets of the line
+  seconds       seconds since 1970 at the beginning, also with a fraction
+  milliseconds  milliseconds since 1970 at the beginning";
 
 /// The program with its commands.
 pub fn command<'a>(alloc: Global) -> Result<Command<'a>, AllocError> {
@@ -37,13 +41,14 @@ fn load<'a>(alloc: Global) -> Result<Command<'a>, AllocError> {
         .value_name("FORMAT")
         .value_parser(STAMPS.as_slice())
         .default_value("now")
-        .help(STAMPS_HELP);
+        .help("How the times of lines are written");
     let crlf = Arg::new(alloc, "crlf")
         .long("crlf")
         .action(ArgAction::SetTrue)
         .help("A carriage return at the end of a line is no part of it");
     Command::new(alloc, "load")
         .about("Lines of text, as push commands of at most 5,000 values and 8 MiB.")
+        .after_help(FORMATS)
         .arg(tenant(alloc))?
         .arg(labels(alloc))?
         .arg(stamps)?
@@ -229,7 +234,7 @@ fn now<'a>(alloc: Global) -> Arg<'a> {
     Arg::new(alloc, "now")
         .long("now")
         .value_name("NANOSECONDS")
-        .help("The time of the pushes, in nanoseconds since 1970; without it this moment")
+        .help("The time of the commands, in nanoseconds since 1970; without it this moment")
 }
 
 fn files<'a>(alloc: Global, help: &'static str) -> Arg<'a> {
