@@ -98,6 +98,7 @@ bench: $(postings_figures) $(codec_figures) $(locks_figures) $(nodes_by_lot) $(p
 	@bench/locks.sh $(locks_figures)
 	@bench/flushers.sh $(program)
 	@bench/pushes.sh $(program)
+	@python3 bench/recovery.py $(program) --parent /dev/shm
 
 $(postings_figures): $(sources)
 	@scripts/build.sh bench_postings counts 100

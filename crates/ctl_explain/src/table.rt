@@ -167,9 +167,9 @@ pub(crate) static TABLE: [Page; 43] = [
     },
     Page {
         refusal: Refusal::DamagedLog,
-        meaning: "A whole record of a log is none, or does not fit those before it: the file was changed.",
+        meaning: "What stands behind whole records of a log is none, or does not fit: a power cut, a changed file or a later version.",
         when: "Over a folder, before any input is read; status 2.",
-        advice: "Restore the log from a copy, or cut it before that record and keep the original.",
+        advice: "ingestctl check tells which; ingestctl mend cuts the log there and keeps what it had. Restore a changed file.",
     },
     Page {
         refusal: Refusal::OtherSettings,
@@ -263,7 +263,7 @@ pub(crate) static TABLE: [Page; 43] = [
     },
     Page {
         refusal: Refusal::BadArguments,
-        meaning: "There are more than two argument words, or one is not UTF-8.",
+        meaning: "There are more than two argument words, one is not UTF-8, or that of the folder is empty.",
         when: "Before any input is read; status 1.",
         advice: "Give at most the settings file and the folder.",
     },
