@@ -160,18 +160,13 @@ fn words_that_name_no_file(rt: HostRuntime) -> Result<(), Fail> {
     Ok(())
 }
 
-/// Whether these words are refused before anything is read.
-fn are_no_arguments(rt: &HostRuntime, words: &[&str]) -> Result<bool, Fail> {
-    is_refused(rt, &Disk::new(rt), words, 1, b"ingestd: BadArguments\n")
-}
-
 /// More words than two, and a folder without a name, which is told before a settings file that is not there.
 #[test]
 fn words_that_are_no_arguments(rt: HostRuntime) -> Result<(), Fail> {
     let missing = temporary(&rt, "no-such-file.toml")?;
     let word = missing.as_str();
-    assert!(rt; are_no_arguments(&rt, &[word, word, word])?);
-    assert!(rt; are_no_arguments(&rt, &[word, ""])?);
+    assert!(rt; is_refused(&rt, &Disk::new(&rt), &[word, word, word], 1, b"ingestd: BadArguments\n")?);
+    assert!(rt; is_refused(&rt, &Disk::new(&rt), &[word, ""], 1, b"ingestd: BadArguments\n")?);
     Ok(())
 }
 
