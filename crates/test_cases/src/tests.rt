@@ -165,8 +165,24 @@ fn words_that_name_no_file(rt: HostRuntime) -> Result<(), Fail> {
 fn words_that_are_no_arguments(rt: HostRuntime) -> Result<(), Fail> {
     let missing = temporary(&rt, "no-such-file.toml")?;
     let word = missing.as_str();
-    assert!(rt; is_refused(&rt, &Disk::new(&rt), &[word, word, word], 1, b"ingestd: BadArguments\n")?);
-    assert!(rt; is_refused(&rt, &Disk::new(&rt), &[word, ""], 1, b"ingestd: BadArguments\n")?);
+    assert!(rt;
+        is_refused(
+            &rt,
+            &Disk::new(&rt),
+            &[word, word, word],
+            1,
+            b"ingestd: BadArguments\n"
+        )?
+    );
+    assert!(rt;
+        is_refused(
+            &rt,
+            &Disk::new(&rt),
+            &[word, ""],
+            1,
+            b"ingestd: BadArguments\n"
+        )?
+    );
     Ok(())
 }
 
