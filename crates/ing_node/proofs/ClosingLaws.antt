@@ -1,14 +1,19 @@
 -- Lists whose last item is taken, and what is closed.
-use Rattle.std.proofs.Common.{◌≡◌, ◌≢◌, ◌<◌, ◌≤◌, ◌+◌, ◌-◌, ◌⊎◌, inl, inr, ℕ, zero, suc, List, [], ◌∷◌, ◌++◌, length, Some, true, false, refl, sym, ap, subst, ◌∙◌, arith, slice_index_or, slice_set, Bool}
-use Rattle.std.specs.Prelude.{slice_get}
+use Rattle.std.proofs.Common.{append_assoc, ◌≡◌, ◌≢◌, ◌<◌, ◌≤◌, ◌+◌, ◌-◌, ◌⊎◌, inl, inr, ℕ, zero, suc, List, [], ◌∷◌, ◌++◌, length, Some, true, false, refl, sym, ap, subst, ◌∙◌, arith, slice_index_or, slice_set, Bool}
+use Rattle.std.specs.Prelude.{map, reverse, slice_get}
 use Rattle.std.specs.Global.{Vec}
+use Rattle.std.proofs.lemmas.List.{map-append, reverse-append}
 use Rattle.std.proofs.lemmas.List.Sorted.{IsPermutation-refl}
-use Rattle.ing_rows.specs.Rows.{IsSame, State}
+use Rattle.ing_rows.specs.Rows.{IsSame, Row, State}
+use Rattle.ing_limits.specs.Settings.{StoreSettings}
 use Rattle.ing_tally.specs.Books.{ShareState}
+use Rattle.ing_diary.specs.Notes.{AreNoted, Note}
+use Rattle.ing_durable.specs.Closed.{ClosedContents, closed_of}
 use Rattle.ing_durable.specs.Contents.{Contents, flying_count, stored_count}
 use Rattle.ing_tally.specs.declared.report.ShardReport.{ShardReport}
-use Rattle.ing_node.specs.Closing.{IsComplete, shares_at, shares_in}
-use Rattle.ing_node.specs.Reports.{CountRowsFrom, CountsRows, IsClosed, IsGathered, recovered_at, recovered_in}
+use Rattle.ing_node.specs.Closing.{AreInPlaces, IsComplete, StandInPlaces, shares_at, shares_in}
+use Rattle.ing_node.specs.Diaries.{HaveNoted}
+use Rattle.ing_node.specs.Reports.{CountRows, CountRowsFrom, CountsRows, IsClosed, IsGathered, recovered_at, recovered_in}
 
 -- ---- lists
 
@@ -66,9 +71,9 @@ gathered_by recovered accepted stored told counted is_told is_counted within bef
   all = omega (arith, within, is_told, before);
 }
 
-pub counted_by : (shard : Contents) (recovered accepted stored : ℕ) → recovered ≤ accepted → accepted ≡ length shard.state.rows → stored ≡ stored_count shard.state.rows → flying_count shard.state.rows ≡ 0
-    → CountsRows shard (record { accepted = accepted - recovered; recovered = recovered; stored = stored; kept = accepted - stored })
-counted_by shard recovered accepted stored before all some none = record { all = omega (arith, before, all); stored = some; landed = none }
+pub counted_by : (rows : List Row) (recovered accepted stored : ℕ) → recovered ≤ accepted → accepted ≡ length rows → stored ≡ stored_count rows → flying_count rows ≡ 0
+    → CountsRows rows (record { accepted = accepted - recovered; recovered = recovered; stored = stored; kept = accepted - stored })
+counted_by rows recovered accepted stored before all some none = record { all = omega (arith, before, all); stored = some; landed = none }
 
 -- an item at a place
 pub there : {X : Type 0} (xs : List X) (i : ℕ) → i < length xs → (x : X) × (slice_get xs i ≡ Some x)
@@ -121,15 +126,15 @@ module _ {X : Type 0} (all rest : List X) (x : X) (is : all ≡ rest ++ x ∷ []
   left_same i below = sym (front_get rest x i below) ∙ ap (λ l. slice_get l i) (sym is)
 
 -- the reports from a place on count the rows of their shards, once the one at the place does
-pub rows_set : {H : Type 0} (shard_in : H → Contents) (helds : List H) (reports : List ShardReport) (place : ℕ) (r : ShardReport) (held : H) → slice_get helds place ≡ Some held → CountsRows (shard_in held) r
-    → ((i : ℕ) (h : H) (report : ShardReport) → place < i → slice_get helds i ≡ Some h → slice_get reports i ≡ Some report → CountsRows (shard_in h) report)
-    → CountRowsFrom place shard_in helds (slice_set reports place r)
-rows_set {H} shard_in helds reports place r held at_held counts beyond i h report past at_h at = by (set_get reports place r i report at) where
-  by : ((i ≡ place) × (report ≡ r)) ⊎ ((i ≢ place) × (slice_get reports i ≡ Some report)) → CountsRows (shard_in h) report
+pub rows_set : {H : Type 0} (rows_in : H → List Row) (helds : List H) (reports : List ShardReport) (place : ℕ) (r : ShardReport) (held : H) → slice_get helds place ≡ Some held → CountsRows (rows_in held) r
+    → ((i : ℕ) (h : H) (report : ShardReport) → place < i → slice_get helds i ≡ Some h → slice_get reports i ≡ Some report → CountsRows (rows_in h) report)
+    → CountRowsFrom place rows_in helds (slice_set reports place r)
+rows_set {H} rows_in helds reports place r held at_held counts beyond i h report past at_h at = by (set_get reports place r i report at) where
+  by : ((i ≡ place) × (report ≡ r)) ⊎ ((i ≢ place) × (slice_get reports i ≡ Some report)) → CountsRows (rows_in h) report
   by (inl there) =
       let same : Some h ≡ Some held = sym at_h ∙ ap (slice_get helds) there.0 ∙ at_held in
       let is : h ≡ held = cc in
-      subst (λ (x : H). CountsRows (shard_in x) report) (sym is) (subst (λ x. CountsRows (shard_in held) x) (sym there.1) counts)
+      subst (λ (x : H). CountsRows (rows_in x) report) (sym is) (subst (λ x. CountsRows (rows_in held) x) (sym there.1) counts)
   by (inr other) = beyond i h report (omega (arith, past, other.0)) at_h other.1
 
 -- the reports from a place on are gathered, once the one at the place is
@@ -175,21 +180,69 @@ meets (suc i) (suc j) = further (meets i j) where
   further (inl same) = inl (ap suc same)
   further (inr other) = inr (λ same. other (omega (arith, same)))
 
--- the first shards are complete, and so is the next
-pub complete_next : {H : Type 0} (shard_in : H → Contents) (helds : List H) (place pushers tallies : ℕ) (x : H) → place < length helds → x ≡ slice_index_or helds place x
-    → IsComplete place pushers tallies (shard_in x)
-    → ((i : ℕ) (held : H) → i < place → slice_get helds i ≡ Some held → IsComplete i pushers tallies (shard_in held))
-    → (i : ℕ) (held : H) → i < place + 1 → slice_get helds i ≡ Some held → IsComplete i pushers tallies (shard_in held)
-complete_next {H} shard_in helds place pushers tallies x below is this before i held next at = by (meets i place) where
-  by : (i ≡ place) ⊎ (i ≢ place) → IsComplete i pushers tallies (shard_in held)
+-- what is so of the first items, each at its place, and of the next one
+pub next_too : {H : Type 0} (P : ℕ → H → Type 0) (helds : List H) (place : ℕ) (x : H) → place < length helds → x ≡ slice_index_or helds place x → P place x
+    → ((i : ℕ) (held : H) → i < place → slice_get helds i ≡ Some held → P i held)
+    → (i : ℕ) (held : H) → i < place + 1 → slice_get helds i ≡ Some held → P i held
+next_too {H} P helds place x below is this before i held next at = by (meets i place) where
+  by : (i ≡ place) ⊎ (i ≢ place) → P i held
   by (inl same) =
       let there : Some held ≡ Some (slice_index_or helds place x) = sym at ∙ ap (slice_get helds) same ∙ get_there helds place x below in
       let one : held ≡ slice_index_or helds place x = cc in
-      subst (λ n. IsComplete n pushers tallies (shard_in held)) (sym same)
-      (subst (λ (h : H). IsComplete place pushers tallies (shard_in h)) (is ∙ sym one) this)
+      subst (λ n. P n held) (sym same) (subst (P place) (is ∙ sym one) this)
   by (inr other) = before i held (omega (arith, next, other)) at
+
+-- the item at a place
+pub same_there : {H : Type 0} (helds : List H) (place : ℕ) (x held : H) → place < length helds → x ≡ slice_index_or helds place x → slice_get helds place ≡ Some held → held ≡ x
+same_there helds place x held below is at =
+    let one : Some held ≡ Some x = sym at ∙ get_there helds place x below ∙ ap Some (sym is) in cc
+
+-- what is so of the rows of a shard that is looked at, where each stands at its place
+pub so_there : {H : Type 0} (shard_in : H → Contents) (helds : List H) (place : ℕ) (x : H) (seen : Contents) (shards : ℕ) (F : List Row → ℕ → ℕ → Type 0)
+    → place < length helds → x ≡ slice_index_or helds place x → seen ≡ shard_in (slice_index_or helds place x) → AreInPlaces shard_in helds → length helds ≡ shards
+    → F seen.state.rows (length helds) seen.number → F (shard_in x).state.rows shards place
+so_there shard_in helds place x seen shards F below is look placed all fact =
+    let here = get_there helds place x below ∙ ap Some (sym is) in
+    let seen_is : seen ≡ shard_in x = look ∙ ap shard_in (sym is) in
+    let number : seen.number ≡ place = ap (λ (s : Contents). s.number) seen_is ∙ placed place x here in
+    subst (λ n. F (shard_in x).state.rows n place) all
+    (subst (λ k. F (shard_in x).state.rows (length helds) k) number (subst (λ (s : Contents). F s.state.rows (length helds) seen.number) seen_is fact))
 
 -- a list of no length
 pub no_item : {X : Type 0} (xs : List X) → length xs ≡ 0 → xs ≡ []
 no_item [] none = refl
 no_item (x ∷ xs) none = absurd (omega (arith, none))
+
+-- ---- shards without their books
+
+-- the last of some is taken over to others, which stand behind it in turn
+pub handed_on : {X Y : Type 0} (f : X → Y) (all rest : List X) (x : X) (done more : List Y) (whole : List Y) → all ≡ rest ++ x ∷ [] → more ≡ done ++ f x ∷ []
+    → map f all ++ reverse done ≡ whole → map f rest ++ reverse more ≡ whole
+handed_on f all rest x done more whole is is_more before =
+    ap (λ ys. map f rest ++ reverse ys) is_more ∙ ap (λ ys. map f rest ++ ys) (reverse-append done (f x ∷ []))
+    ∙ sym (append_assoc (map f rest) (f x ∷ []) (reverse done)) ∙ ap (λ ys. ys ++ reverse done) (sym (map-append f rest (x ∷ [])) ∙ ap (map f) (sym is)) ∙ before
+
+-- what stands in a list that was made of another, item by item
+pub made_of : {X Y : Type 0} (f : X → Y) (xs : List X) (i : ℕ) (y : Y) → slice_get (map f xs) i ≡ Some y → (x : X) × (slice_get xs i ≡ Some x) × (y ≡ f x)
+made_of f [] i y at = absurd cc
+made_of f (x ∷ xs) zero y at = let same : y ≡ f x = cc in (x, refl, same)
+made_of f (x ∷ xs) (suc i) y at = made_of f xs i y at
+
+module _ {H : Type 0} (shard_in : H → Contents) (helds : List H) (closed : List ClosedContents) (is : closed ≡ map (λ h. closed_of (shard_in h)) helds) where
+  from : (i : ℕ) (shard : ClosedContents) → slice_get closed i ≡ Some shard → (h : H) × (slice_get helds i ≡ Some h) × (shard ≡ closed_of (shard_in h))
+  from i shard at = made_of (λ h. closed_of (shard_in h)) helds i shard (ap (λ l. slice_get l i) (sym is) ∙ at)
+
+  pub closed_noted : (notes : ℕ → List Note) → HaveNoted (λ h. (shard_in h).state.rows) notes helds → HaveNoted (λ shard. shard.state.rows) notes closed
+  closed_noted notes noted i shard at =
+      let made = from i shard at in
+      subst (λ (s : ClosedContents). AreNoted s.state.rows (notes i)) (sym made.2) (noted i made.0 made.1)
+
+  pub closed_counted : (reports : List ShardReport) → CountRows (λ h. (shard_in h).state.rows) helds reports → CountRows (λ shard. shard.state.rows) closed reports
+  closed_counted reports counted i shard report at told =
+      let made = from i shard at in
+      subst (λ (s : ClosedContents). CountsRows s.state.rows report) (sym made.2) (counted i made.0 report made.1 told)
+
+  pub closed_placed : (settings : StoreSettings) → ((h : H) → (shard_in h).settings ≡ settings) → AreInPlaces shard_in helds → StandInPlaces settings closed
+  closed_placed settings judges placed i shard at =
+      let made = from i shard at in
+      subst (λ (s : ClosedContents). (s.settings ≡ settings) × (s.number ≡ i)) (sym made.2) (judges made.0, placed i made.0 made.1)

@@ -1,3 +1,5 @@
+mod AnswerLaws
+mod CallLaws
 pub mod ClosingLaws
 pub mod Handing
 mod Keeping

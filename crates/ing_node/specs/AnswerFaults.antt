@@ -1,9 +1,10 @@
 -- Which refusal a fault of a query through the locks is, and what it tells of the store (own).
 use Rattle.std.specs.Prelude.{◌≡◌, ℕ, Result, Ok, Err}
 use Rattle.ing_refusals.specs.declared.refusal.Refusal.{Refusal}
-use Rattle.ing_diary.specs.Fetched.{Counts}
+use Rattle.ing_diary.specs.Fetched.{Counts, NotBad}
 use Rattle.ing_diary.specs.QueryFaults.{query_refusal_of}
 use Rattle.ing_durable.specs.NodeFaults.{refusal_of}
+use Rattle.ing_node.specs.Refusals.{IsRoundRefusal}
 use Rattle.ing_node.specs.declared.query.AnswerFault.{AnswerFault}
 use Rattle.ing_node.specs.declared.query.AnswerFault.TheVariants.{Node, Query}
 
@@ -13,6 +14,16 @@ abbrev pub IsCaused : {T : Type 0} → ℕ → ℕ → Result T AnswerFault → 
 IsCaused before after (Ok answer) = after ≡ before
 IsCaused before after (Err (Node fault)) = after ≡ before
 IsCaused before after (Err (Query fault)) = Counts before after fault
+
+-- a lock is not passed for its own reasons
+abbrev pub IsPassedOver : ℕ → AnswerFault → Type 0
+IsPassedOver shards (Node fault) = IsRoundRefusal shards fault
+IsPassedOver shards (Query fault) = Unit {0}
+
+-- no object is said to be bad
+abbrev pub IsNoBadAnswer : AnswerFault → Type 0
+IsNoBadAnswer (Node fault) = Unit {0}
+IsNoBadAnswer (Query fault) = NotBad fault
 
 -- that of the fault in it
 abbrev pub answer_refusal_of : AnswerFault → Refusal

@@ -3,6 +3,8 @@ use Rattle.std.specs.Prelude.{◌≡◌, ℕ, ◌+◌, ◌≤◌, List, [], ◌�
 use Rattle.std.specs.Global.{Vec}
 use Rattle.std.specs.Vec.{vec_capacity}
 use Rattle.ing_tally.specs.Books.{ShareState}
+use Rattle.ing_limits.specs.Settings.{StoreSettings}
+use Rattle.ing_durable.specs.Closed.{ClosedContents}
 use Rattle.ing_durable.specs.Contents.{Contents}
 
 -- ---- lists of shares, one for each shard
@@ -40,6 +42,11 @@ pub record IsComplete (place pushing tallies : ℕ) (shard : Contents) : Type 0 
 abbrev pub AreComplete : {H : Type 0} → (H → Contents) → (ℕ → ℕ) → (ℕ → ℕ) → List H → Type 0
 AreComplete {H = H} shard_in pushing tallies helds =
     (i : ℕ) (held : H) → slice_get helds i ≡ Some held → IsComplete i (pushing i) (tallies i) (shard_in held)
+
+-- closed shards: each stands at the place of its number, and has these settings
+abbrev pub StandInPlaces : StoreSettings → List ClosedContents → Type 0
+StandInPlaces settings shards =
+    (i : ℕ) (shard : ClosedContents) → slice_get shards i ≡ Some shard → (shard.settings ≡ settings) × (shard.number ≡ i)
 
 -- each stands at its place
 abbrev pub AreInPlaces : {H : Type 0} → (H → Contents) → List H → Type 0

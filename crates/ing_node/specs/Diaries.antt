@@ -1,13 +1,14 @@
 -- What the pushers of one ingester note, and when the shards are what was noted (own).
-use Rattle.std.specs.Prelude.{◌≡◌, ◌+◌, ◌++◌, ℕ, true, List, [], Option, Some, None, is_some, filter, length, slice_get}
+use Rattle.std.specs.Prelude.{◌≡◌, ◌++◌, ℕ, true, List, [], Option, Some, None, is_some, filter, slice_get}
 use Rattle.std.specs.List.{flat_map}
 use Rattle.std.specs.Option.{option_map}
 use Rattle.ing_rows.specs.declared.entry.Entry.{Entry}
 use Rattle.ing_rows.specs.Rows.{Row, StreamKey}
 use Rattle.ing_tally.specs.Books.{ShareState}
-use Rattle.ing_durable.specs.Contents.{Contents, flying_count, stored_count}
 use Rattle.ing_diary.specs.Notes.{AreNoted, DiaryState, Note, is_in_shard}
-use Rattle.ing_tally.specs.declared.report.ShardReport.{ShardReport}
+use Rattle.ing_diary.specs.Faults.{NamesOther}
+use Rattle.ing_node.specs.declared.report.CloseRefusal.{CloseRefusal}
+use Rattle.ing_node.specs.declared.report.CloseRefusal.TheVariants.{Unsettled}
 
 -- the shares of a pusher, shard by shard, and what it noted, where it keeps a diary
 pub record PusherState : Type 0 where
@@ -40,20 +41,15 @@ notes_at shards shard = flat_map (λ p. filter (is_in_shard shards shard) (notes
 abbrev pub KeepsDiary : PusherState → Type 0
 KeepsDiary p = is_some p.diary ≡ true
 
--- the rows of each shard, at its place, are exactly what was noted of it; a shard is read off what lies under a lock
-abbrev pub HaveNoted : {H : Type 0} → (H → Contents) → (ℕ → List Note) → List H → Type 0
-HaveNoted {H = H} shard_in notes helds =
-    (i : ℕ) (held : H) → slice_get helds i ≡ Some held → AreNoted (shard_in held).state.rows (notes i)
+-- the rows of each shard, without where they stand, are exactly what was noted of it, each once; they are read off what stands at its
+-- place
+abbrev pub HaveNoted : {H : Type 0} → (H → List Row) → (ℕ → List Note) → List H → Type 0
+HaveNoted {H = H} rows_in notes shards =
+    (i : ℕ) (shard : H) → slice_get shards i ≡ Some shard → AreNoted (rows_in shard) (notes i)
 
--- A shard had rows, as many as are accepted or had been there before, so many of them stored and none in flight; without where they stand, they are exactly
--- these notes, each once.
-pub record IsSettled (notes : List Note) (r : ShardReport) : Type 0 where
-  pub rows : List Row
-  pub noted : AreNoted rows notes
-  pub all : r.accepted + r.recovered ≡ length rows
-  pub stored : r.stored ≡ stored_count rows
-  pub landed : flying_count rows ≡ 0
-
--- each shard had
-abbrev pub AreSettled : (ℕ → List Note) → List ShardReport → Type 0
-AreSettled notes reports = (i : ℕ) (report : ShardReport) → slice_get reports i ≡ Some report → IsSettled (notes i) report
+-- what is told of a shard, if it is that an entry differs, is so: the entry stands among its rows or among what was noted of it, and not
+-- exactly once and alike in both
+abbrev pub NamesOtherIn : {H : Type 0} → (H → List Row) → (ℕ → List Note) → List H → CloseRefusal → Type 0
+NamesOtherIn {H = H} rows_in notes shards (Unsettled i why) =
+    (shard : H) → slice_get shards i ≡ Some shard → NamesOther (rows_in shard) (notes i) why
+NamesOtherIn rows_in notes shards _ = Unit {0}

@@ -2,6 +2,7 @@ pub mod Boards
 pub mod Names
 pub mod Pushes
 pub mod Queries
+pub mod Refusals
 pub mod Reports
 pub mod Closing
 pub mod AnswerFaults

@@ -1,10 +1,12 @@
 -- What a query through the locks gives (Loki documentation: HTTP API, query range; own).
-use Rattle.std.specs.Prelude.{◌≡◌, ◌<◌, ◌≤◌, ℕ, Bool, true, List, All, Some, slice_get}
+use Rattle.std.specs.Prelude.{◌≡◌, ◌<◌, ◌≤◌, ℕ, Bool, true, List, All, Some, filter, length, map, slice_get}
+use Rattle.std.specs.List.{flat_map}
 use Rattle.ing_labels.specs.Selectors.{Match}
 use Rattle.ing_parts.specs.declared.found.Found.{Found}
 use Rattle.ing_parts.specs.declared.found.Question.{Question}
 use Rattle.ing_parts.specs.declared.snapshot.Snapshot.{Snapshot}
-use Rattle.ing_parts.specs.Parts.{KeepsInRange, standing}
+use Rattle.ing_parts.specs.Answers.{IsAnswer}
+use Rattle.ing_parts.specs.Parts.{HasRows, KeepsInRange, found_at, standing, within}
 use Rattle.ing_rows.specs.Gauges.{gauges_of}
 use Rattle.ing_rows.specs.Placement.{shard_of}
 use Rattle.ing_rows.specs.Rows.{Row, StreamKey}
@@ -22,12 +24,30 @@ abbrev pub AreSelected : List ℕ → List Match → List Found → Type 0
 AreSelected tenant ms found =
     (picked : StreamKey → Bool) → Picks tenant ms picked → All (λ f. picked (key_named tenant f.name) ≡ true) found
 
--- a snapshot for a question: its range is the question's, which it keeps to, and what stands in it is selected
+-- A snapshot of a shard for a question: it has exactly those of the shard's rows that the matchers select, as many as are told of it
+-- stood there in all, and its range, order and limit are the question's; it keeps to the range, and what stands in it is selected.
 pub record IsAskedOf {R : Type 0} (tenant : List ℕ) (ms : List Match) (q : Question) (s : Snapshot R) : Type 0 where
+  pub rows : List Row
+  pub count : s.front ≡ length rows
+  pub has : (picked : StreamKey → Bool) → Picks tenant ms picked → HasRows (filter (λ r. picked r.stream) rows) s
   pub start : s.start ≡ q.start
   pub end : s.end ≡ q.end
+  pub order : s.best.order ≡ q.order
+  pub limit : s.best.limit ≡ q.limit
   pub kept : KeepsInRange s
   pub selected : AreSelected tenant ms (standing s)
+
+-- what is wanted of a shard's rows: those of picked streams whose stamp is in the question's range
+abbrev pub wanted_of : (StreamKey → Bool) → Question → List Row → List Found
+wanted_of picked q rows = within q.start q.end (map found_at (filter (λ r. picked r.stream) rows))
+
+-- Each shard had rows when it was looked at, as many as is told of it; the entries are the first ones, in the question's order, of all that
+-- is wanted of them, at most so many.
+pub record AreAnswerOf (tenant : List ℕ) (ms : List Match) (q : Question) (fronts : List ℕ) (found : List Found) : Type 0 where
+  pub shards : List (List Row)
+  pub counts : fronts ≡ map length shards
+  pub answer : (picked : StreamKey → Bool) → Picks tenant ms picked
+      → IsAnswer q.order q.limit (flat_map (wanted_of picked q) shards) found
 
 -- of no shard from this one on something stands there
 abbrev pub AreBelow : ℕ → List ℕ → ℕ → List Found → Type 0

@@ -2,7 +2,8 @@
 use Rattle.std.specs.Prelude.{◌≡◌, ◌+◌, ◌<◌, ◌≤◌, ℕ, List, Option, Some, None, Err, length, slice_get}
 use Rattle.ing_refusals.specs.declared.refusal.Refusal.{Refusal}
 use Rattle.ing_refusals.specs.declared.refusal.Refusal.TheVariants as refusal
-use Rattle.ing_durable.specs.Contents.{Contents, flying_count, stored_count}
+use Rattle.ing_rows.specs.Rows.{Row}
+use Rattle.ing_durable.specs.Contents.{flying_count, stored_count}
 use Rattle.ing_flush.specs.Tallies.{amount_at}
 use Rattle.ing_node.specs.Earlier.{EarlierState}
 use Rattle.ing_diary.specs.Faults.{AreCounted, IsNoBadObject, unsettled_refusal_of}
@@ -40,21 +41,23 @@ abbrev pub IsCausedClose : ℕ → ℕ → CloseRefusal → Type 0
 IsCausedClose before after (Unsettled shard why) = AreCounted before after (Err why)
 IsCausedClose before after _ = after ≡ before
 
--- It has as many entries as a shard has rows, as many of them stored, and none in flight.
-pub record CountsRows (shard : Contents) (r : ShardReport) : Type 0 where
-  pub all : r.accepted + r.recovered ≡ length shard.state.rows
-  pub stored : r.stored ≡ stored_count shard.state.rows
-  pub landed : flying_count shard.state.rows ≡ 0
+-- It tells of as many entries as there are rows, of as many of them stored, and none is in flight.
+pub record CountsRows (rows : List Row) (r : ShardReport) : Type 0 where
+  pub all : r.accepted + r.recovered ≡ length rows
+  pub stored : r.stored ≡ stored_count rows
+  pub landed : flying_count rows ≡ 0
 
--- each from a place on has, with the shard at its place; a shard is read off what lies under a lock
-abbrev pub CountRowsFrom : {H : Type 0} → ℕ → (H → Contents) → List H → List ShardReport → Type 0
-CountRowsFrom {H = H} from shard_in helds reports =
-    (i : ℕ) (held : H) (report : ShardReport) → from ≤ i → slice_get helds i ≡ Some held → slice_get reports i ≡ Some report → CountsRows (shard_in held) report
+-- each from a place on does, of the rows of the shard at its place, which are read off what stands there
+abbrev pub CountRowsFrom : {H : Type 0} → ℕ → (H → List Row) → List H → List ShardReport → Type 0
+CountRowsFrom {H = H} from rows_in shards reports =
+    (i : ℕ) (shard : H) (report : ShardReport) → from ≤ i
+    → slice_get shards i ≡ Some shard → slice_get reports i ≡ Some report → CountsRows (rows_in shard) report
 
--- each has
-abbrev pub CountRows : {H : Type 0} → (H → Contents) → List H → List ShardReport → Type 0
-CountRows {H = H} shard_in helds reports =
-    (i : ℕ) (held : H) (report : ShardReport) → slice_get helds i ≡ Some held → slice_get reports i ≡ Some report → CountsRows (shard_in held) report
+-- each does
+abbrev pub CountRows : {H : Type 0} → (H → List Row) → List H → List ShardReport → Type 0
+CountRows {H = H} rows_in shards reports =
+    (i : ℕ) (shard : H) (report : ShardReport)
+    → slice_get shards i ≡ Some shard → slice_get reports i ≡ Some report → CountsRows (rows_in shard) report
 
 -- each shard is, with what it began with, what its pushers were told and what its flushers counted
 abbrev pub AreClosed : EarlierState → (ℕ → ℕ) → (ℕ → ℕ) → List ShardReport → Type 0

@@ -1,6 +1,7 @@
 //! What is read of the shards without a lock.
-ghost use Rattle.std.specs.Prelude.{◌≡◌, ◌≢◌, ◌+◌, ◌<◌, ◌≤◌, ℕ, All, IfOk, slice_get};
+ghost use Rattle.std.specs.Prelude.{◌≡◌, ◌≢◌, ◌+◌, ◌<◌, ◌≤◌, ℕ, All, IfErr, IfOk, slice_get};
 ghost use Rattle.ing_node.specs.Boards.{IsNoLess, known_at, readings_at};
+ghost use Rattle.ing_node.specs.Refusals.{IsRoundRefusal};
 
 use crate::ingester::Ingester;
 use crate::names::NodeName;
@@ -53,6 +54,7 @@ impl<N: NodeName, D: LogDisk, R: Receipt> Ingester<N, D, R> {
     /// `NoMemory`. (Own.)
     pub fn reader<W: Wait>(&self, rt: &W, alloc: Global) -> Result<BoardReader<N>, NodeFault>
         ensures unread { IfOk result (All (λ known. known.readings ≡ 0)) }
+        ensures refused { IfErr result (IsRoundRefusal N.settings.shards) }
     {
         let mut shards = Vec::with_capacity(alloc, self.shards.len())?;
         for place in 0..self.shards.len() {

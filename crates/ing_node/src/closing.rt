@@ -1,9 +1,10 @@
 //! The end of an ingester.
-ghost use Rattle.std.specs.Prelude.{◌≡◌, [], ℕ, ◌+◌, ◌<◌, ◌≤◌, ◌^◌, All, IfOk, IfErr, OnOk, length, sum_by, true, vec_capacity, vec_len};
+ghost use Rattle.std.specs.Prelude.{◌≡◌, [], ℕ, ◌+◌, ◌<◌, ◌≤◌, ◌^◌, All, IfOk, IfErr, OnOk, length, map, sum_by, true, vec_capacity, vec_len};
 ghost use Rattle.ing_tally.specs.Books.{AreOf, amount_of};
+ghost use Rattle.ing_durable.specs.Closed.{closed_of};
 ghost use Rattle.ing_flush.specs.Tallies.{amount_at};
-ghost use Rattle.ing_node.specs.Closing.{AreComplete, HaveRoom, IsComplete, shares_at};
-ghost use Rattle.ing_node.specs.Diaries.{AreSettled, HaveNoted, KeepsDiary, notes_at};
+ghost use Rattle.ing_node.specs.Closing.{AreComplete, HaveRoom, IsComplete, StandInPlaces, shares_at};
+ghost use Rattle.ing_node.specs.Diaries.{HaveNoted, KeepsDiary, NamesOtherIn, notes_at};
 ghost use Rattle.ing_node.specs.Names.{IsTallyOf};
 ghost use Rattle.ing_node.specs.Earlier.{HasNone};
 ghost use Rattle.ing_node.specs.Reports.{AreClosed, AreGathered, AreWithin, CountRows, CountsRows, HasReason, IsGathered, IsCausedClose, IsNoBadClose, IsUnsettled};
@@ -14,9 +15,9 @@ use crate::held::Held;
 use crate::ingester::Ingester;
 use crate::names::NodeName;
 use crate::pusher::Pusher;
-use crate::report::{CloseRefusal, Report};
+use crate::report::{CloseRefusal, Closed, Report};
 use crate::settling::{keep_diaries, settle_all};
-use ing_durable::{Gathered, Missing};
+use ing_durable::{ClosedShard, Gathered, Missing};
 use ing_flush::FlusherTally;
 use ing_store::{Receipt, StoreEnd};
 use ing_tally::{ShardReport, Share, strand_each};
@@ -46,8 +47,9 @@ struct Room<N: NodeName, D: LogDisk, R: Receipt> {
     // For the shares of each shard's books.
     pushing: Vec<Vec<Share>>,
     stored: Vec<Vec<Share>>,
-    // For what is told.
+    // For what is told, and for the shards without their books.
     reports: Vec<ShardReport>,
+    shards: Vec<ClosedShard<R>>,
 }
 
 impl<N: NodeName, D: LogDisk + Drop, R: Receipt> Room<N, D, R> {
@@ -65,10 +67,12 @@ impl<N: NodeName, D: LogDisk + Drop, R: Receipt> Room<N, D, R> {
         ensures stored { IfOk result (λ room. (vec_len room.stored ≡ shards)
             × ((i : ℕ) → shares_at i room.stored.items ≡ []) × HaveRoom tallies room.stored.items) }
         ensures reports { IfOk result (λ room. vec_len room.reports ≡ shards) }
+        ensures shards { IfOk result (λ room. (vec_len room.shards ≡ 0) × (shards ≤ vec_capacity room.shards)) }
     {
         let helds = Vec::with_capacity(alloc, shards)?;
         let locks = Vec::with_capacity(alloc, shards)?;
         let reports = Vec::from_elem(alloc, ShardReport::default(), shards)?;
+        let closed = Vec::with_capacity(alloc, shards)?;
         let pushing = empty_lists(alloc, shards, pushers)?;
         match empty_lists(alloc, shards, tallies) {
             Ok(stored) => Ok(Room {
@@ -77,6 +81,7 @@ impl<N: NodeName, D: LogDisk + Drop, R: Receipt> Room<N, D, R> {
                 pushing,
                 stored,
                 reports,
+                shards: closed,
             }),
             Err(error) => {
                 let_go(pushing);
@@ -89,9 +94,9 @@ impl<N: NodeName, D: LogDisk + Drop, R: Receipt> Room<N, D, R> {
 impl<N: NodeName, D: LogDisk + Drop, R: Receipt> Ingester<N, D, R> {
     /// Closes the ingester with all of its pushers, with the tallies of all of its flushers, and with the shares of what it began with. Of
     /// each shard as many entries were accepted as the pushers were told, as many are stored as the flushers counted and had been stored
-    /// before, and each that was accepted or had been there before is stored or kept: none is lost, and none counts twice. Where every
-    /// pusher kept a diary and no entry had been there before, all entries are read back, by `end`, and the entries of each shard are
-    /// exactly those that the pushers noted, each once.
+    /// before, and each that was accepted or had been there before is stored or kept: none is lost, and none counts twice. The shards are
+    /// handed out with it, to be read. Where every pusher kept a diary and no entry had been there before, all entries are read back, by
+    /// `end`, and the entries of each of these shards are exactly those that the pushers noted, each once.
     ///
     /// `StillOut` where a share is missing, so that a pusher, a flusher or a ticket is still out somewhere or was given up; `Misplaced`;
     /// `Unsettled` as `laws::settle`, and only where every pusher kept a diary; and `NoMemory`. Then everything comes back as it was.
@@ -102,16 +107,21 @@ impl<N: NodeName, D: LogDisk + Drop, R: Receipt> Ingester<N, D, R> {
         earlier: Earlier<N>,
         pushers: Vec<Pusher<N>>,
         tallies: Vec<FlusherTally>,
-    ) -> Result<Report, CloseFault<N, D, R>>
+    ) -> Result<Closed<R>, CloseFault<N, D, R>>
         requires { All (IsTallyOf N.settings.shards N.books) tallies.items }
-        ensures all { IfOk result (λ report. vec_len report.shards ≡ N.settings.shards) }
-        ensures closed { IfOk result (λ report. AreClosed N.earlier (λ i. sum_by (λ p. amount_at i p.told) pushers.items)
-            (λ i. sum_by (amount_at i) tallies.items) report.shards.items) }
+        ensures all { IfOk result (λ closed. (vec_len closed.report.shards ≡ N.settings.shards)
+            × (vec_len closed.shards ≡ N.settings.shards)) }
+        ensures closed { IfOk result (λ closed. AreClosed N.earlier (λ i. sum_by (λ p. amount_at i p.told) pushers.items)
+            (λ i. sum_by (amount_at i) tallies.items) closed.report.shards.items) }
+        ensures placed { IfOk result (λ closed. StandInPlaces N.settings closed.shards.items) }
+        // What is told of a shard is so of the one that is handed out.
+        ensures rows { IfOk result (λ closed.
+            CountRows (λ shard. shard.state.rows) closed.shards.items closed.report.shards.items) }
         ensures pushers { IfErr result (λ fault. fault.pushers ≡ pushers) }
         ensures tallies { IfErr result (λ fault. fault.tallies ≡ tallies) }
-        // Where diaries were kept of all that there is, the shards have exactly the entries that were noted.
-        ensures settled { S.is_honest → IfOk result (λ report. All KeepsDiary pushers.items → HasNone N.earlier →
-            AreSettled (λ i. notes_at N.settings.shards i pushers.items) report.shards.items) }
+        // Where diaries were kept of all that there is, these shards have exactly the entries that were noted.
+        ensures settled { S.is_honest → IfOk result (λ closed. All KeepsDiary pushers.items → HasNone N.earlier →
+            HaveNoted (λ shard. shard.state.rows) (λ i. notes_at N.settings.shards i pushers.items) closed.shards.items) }
         ensures why { IfErr result (λ fault. HasReason fault.why) }
         ensures asked { IfErr result (λ fault. IsUnsettled fault.why → All KeepsDiary pushers.items) }
         ensures honest { S.is_honest → IfErr result (λ fault. IsNoBadClose fault.why) }
@@ -138,6 +148,7 @@ impl<N: NodeName, D: LogDisk + Drop, R: Receipt> Ingester<N, D, R> {
             mut pushing,
             mut stored,
             reports,
+            shards,
         } = room;
         let kept_alloc = self.alloc;
         let helds = self.into_shards(helds);
@@ -157,9 +168,7 @@ impl<N: NodeName, D: LogDisk + Drop, R: Receipt> Ingester<N, D, R> {
         hand_out_pushers(&mut pushing, pushers);
         hand_out_tallies::<N>(&mut stored, tallies);
         hand_out_earlier(&mut pushing, &mut stored, earlier);
-        Ok(Report {
-            shards: gather_all(helds, pushing, stored, reports),
-        })
+        Ok(gather_all(helds, pushing, stored, reports, shards))
     }
 
     /// Its shards, out of their locks, in a list with room for them.
@@ -211,7 +220,9 @@ fn is_closable<N: NodeName, D: LogDisk + Drop, S: StoreEnd>(
     requires all { length helds.now ≡ N.settings.shards }
     ensures complete { OnOk result (AreComplete (λ held. held.shard.memory) (λ _. length pushers.now + 1) (λ _. tallies) helds.now) }
     ensures settled { S.is_honest → is_new ≡ true → OnOk result (All KeepsDiary pushers.now →
-        HaveNoted (λ held. held.shard.memory) (λ i. notes_at N.settings.shards i pushers.now) helds.now) }
+        HaveNoted (λ held. held.shard.memory.state.rows) (λ i. notes_at N.settings.shards i pushers.now) helds.now) }
+    ensures differs { S.is_honest → IfErr result (NamesOtherIn (λ held. held.shard.memory.state.rows)
+        (λ i. notes_at N.settings.shards i pushers.now) helds.now) }
     ensures why { IfErr result HasReason }
     ensures asked { IfErr result (λ why. IsUnsettled why → All KeepsDiary pushers.now) }
     ensures honest { S.is_honest → IfErr result IsNoBadClose }
@@ -255,63 +266,86 @@ fn are_complete<N: NodeName, D: LogDisk + Drop, R: Receipt>(
     Ok(())
 }
 
-/// Gathers the books of each shard, which are complete with these shares. The reports say how many entries each had before.
+/// Gathers the books of each shard, which are complete with these shares, and puts the shards without them into a list with room for
+/// them. The reports say how many entries each had before.
 fn gather_all<N: NodeName, D: LogDisk + Drop, R: Receipt>(
     mut helds: Vec<Held<N, D, R>>,
     mut pushing: Vec<Vec<Share>>,
     mut stored: Vec<Vec<Share>>,
     mut reports: Vec<ShardReport>,
-) -> Vec<ShardReport>
+    mut shards: Vec<ClosedShard<R>>,
+) -> Closed<R>
     requires pushing { vec_len pushing ≡ vec_len helds }
     requires stored { vec_len stored ≡ vec_len helds }
     requires reports { vec_len reports ≡ vec_len helds }
+    requires empty { vec_len shards ≡ 0 }
+    requires room { vec_len helds ≤ vec_capacity shards }
     requires recovered { AreWithin (λ i. amount_of (shares_at i pushing.items)) reports.items }
     requires own_pushing { (i : ℕ) → AreOf (N.books i).accepted (shares_at i pushing.items) }
     requires own_stored { (i : ℕ) → AreOf (N.books i).stored (shares_at i stored.items) }
     requires complete { AreComplete (λ held. held.shard.memory) (λ i. length (shares_at i pushing.items))
         (λ i. length (shares_at i stored.items)) helds.items }
-    ensures all { vec_len result ≡ vec_len reports }
+    ensures all { vec_len result.report.shards ≡ vec_len reports }
     ensures closed { AreGathered reports.items (λ i. amount_of (shares_at i pushing.items))
-        (λ i. amount_of (shares_at i stored.items)) result.items }
-    ensures rows { CountRows (λ held. held.shard.memory) helds.items result.items }
+        (λ i. amount_of (shares_at i stored.items)) result.report.shards.items }
+    ensures shards { result.shards.items ≡ map (λ held. closed_of held.shard.memory) helds.items }
+    ensures rows { CountRows (λ held. held.shard.memory.state.rows) helds.items result.report.shards.items }
 {
     while let Some(held) = helds.pop() {
         let place = helds.len();
         match (pushing.pop(), stored.pop()) {
             (Some(pushers), Some(tallies)) => {
                 let recovered = reports[place].recovered;
-                reports[place] = gather(held, pushers, tallies, recovered);
+                let (report, shard) = gather(held, pushers, tallies, recovered);
+                reports[place] = report;
+                shards.push_reserved(shard);
             }
             _ => unreachable!(),
         }
     }
     pushing.destroy_empty();
     stored.destroy_empty();
-    reports
+    // The last one came first.
+    shards.reverse();
+    Closed {
+        report: Report { shards: reports },
+        shards,
+    }
 }
 
-/// Gathers the books of a shard, which are complete with these shares. So many of its entries had been there before.
+/// Gathers the books of a shard, which are complete with these shares, and gives the shard without them. So many of its entries had been
+/// there before.
 fn gather<N: NodeName, D: LogDisk + Drop, R: Receipt>(
     held: Held<N, D, R>,
     pushing: Vec<Share>,
     tallies: Vec<Share>,
     recovered: u64,
-) -> ShardReport
+) -> (ShardReport, ClosedShard<R>)
     requires own_pushing { AreOf (N.books held.shard.memory.number).accepted pushing.items }
     requires own_tallies { AreOf (N.books held.shard.memory.number).stored tallies.items }
     requires complete { IsComplete held.shard.memory.number (vec_len pushing) (vec_len tallies) held.shard.memory }
     requires recovered { recovered ≤ amount_of pushing.items }
-    ensures closed { IsGathered recovered (amount_of pushing.items) (amount_of tallies.items) result }
-    ensures rows { CountsRows held.shard.memory result }
+    ensures closed { IsGathered recovered (amount_of pushing.items) (amount_of tallies.items) result.0 }
+    ensures shard { result.1 ≡ closed_of held.shard.memory }
+    ensures rows { CountsRows held.shard.memory.state.rows result.0 }
 {
     let (memory, _log) = held.into_shard().into_parts();
     match memory.gather_books(pushing, tallies) {
-        Ok(Gathered { accepted, stored }) => ShardReport {
-            accepted: accepted - recovered,
-            recovered,
-            stored,
-            kept: accepted - stored,
-        },
+        Ok(
+            Gathered {
+                accepted,
+                stored,
+                shard,
+            },
+        ) => {
+            let report = ShardReport {
+                accepted: accepted - recovered,
+                recovered,
+                stored,
+                kept: accepted - stored,
+            };
+            (report, shard)
+        }
         Err((_, pushing, tallies, _)) => {
             strand_each(pushing);
             strand_each(tallies);

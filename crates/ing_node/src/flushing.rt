@@ -1,6 +1,7 @@
 //! What is to be flushed of one ingester.
 ghost use Rattle.std.specs.Prelude.{◌≡◌, [], All, IfOk, IfErr, OnErr, OnOk, false, length, true};
 ghost use Rattle.ing_flush.specs.Tallies.{AreStoredIn};
+ghost use Rattle.ing_node.specs.Refusals.{IsShareRefusal};
 ghost use Rattle.ing_node.specs.Sweeps.{AreQueued, IsFullAt};
 
 use crate::ingester::Ingester;
@@ -114,6 +115,7 @@ impl<N: NodeName> Flushing<N> {
         ensures sweeper { OnOk result
             (sweeper.new.pass ≡ record sweeper.old.pass { alone = false }) }
         ensures back { IfErr result (λ fault. (fault.end ≡ end) × (fault.gate ≡ gate)) }
+        ensures refused { IfErr result (λ fault. IsShareRefusal N.settings.shards fault.why) }
         ensures err { OnErr result (sweeper.new.pass ≡ sweeper.old.pass) }
     {
         let tally = match node.tally(rt, alloc) {

@@ -7,6 +7,7 @@ ghost use Rattle.ing_node.specs.Earlier.{earlier_of};
 ghost use Rattle.ing_node.specs.Diaries.{notes_kept};
 ghost use Rattle.ing_node.specs.Queries.{AreGauges};
 ghost use Rattle.ing_node.specs.Names.{AreAcceptedIn, AreNamed};
+ghost use Rattle.ing_node.specs.Refusals.{IsLockRefusal, IsShareRefusal};
 
 use crate::diaries::new_diary;
 use crate::earlier::Earlier;
@@ -91,6 +92,7 @@ impl<N: NodeName, D: LogDisk, R: Receipt> Ingester<N, D, R> {
         ensures zero { IfOk result (λ pusher. All (λ share. share.amount ≡ 0) pusher.told) }
         ensures diary { IfOk result (λ pusher. is_some pusher.diary ≡ diary) }
         ensures empty { IfOk result (λ pusher. notes_kept pusher.diary ≡ []) }
+        ensures refused { IfErr result (IsShareRefusal N.settings.shards) }
     {
         let places = Places::new(alloc, self.shards.len() as u32)?;
         let mut told = Vec::with_capacity(alloc, self.shards.len())?;
@@ -133,6 +135,7 @@ impl<N: NodeName, D: LogDisk, R: Receipt> Ingester<N, D, R> {
         ensures all { IfOk result (λ tally. length tally ≡ N.settings.shards) }
         ensures own { IfOk result (AreStoredIn N.books) }
         ensures zero { IfOk result (All (λ share. share.amount ≡ 0)) }
+        ensures refused { IfErr result (IsShareRefusal N.settings.shards) }
     {
         let mut shares = Vec::with_capacity(alloc, self.shards.len())?;
         for place in 0..self.shards.len() {
@@ -172,7 +175,8 @@ impl<N: NodeName, D: LogDisk, R: Receipt> Ingester<N, D, R> {
         now: Stamp,
     ) -> Result<Due, NodeFault>
         requires { shard < N.settings.shards }
-        ensures { IfOk result (λ due. All (λ op. op.shard ≡ shard) due.ops.items) }
+        ensures own { IfOk result (λ due. All (λ op. op.shard ≡ shard) due.ops.items) }
+        ensures fault { IfErr result (IsLockRefusal shard) }
     {
         self.shards[shard as usize]
             .lock(rt)
@@ -183,7 +187,8 @@ impl<N: NodeName, D: LogDisk, R: Receipt> Ingester<N, D, R> {
     /// `Shard::seal_all`. `Misplaced`, and `NoMemory`: then nothing is sealed.
     pub fn seal_all<W: Wait>(&self, rt: &W, alloc: Global, shard: u32) -> Result<Due, NodeFault>
         requires { shard < N.settings.shards }
-        ensures { IfOk result (λ due. All (λ op. op.shard ≡ shard) due.ops.items) }
+        ensures own { IfOk result (λ due. All (λ op. op.shard ≡ shard) due.ops.items) }
+        ensures fault { IfErr result (IsLockRefusal shard) }
     {
         self.shards[shard as usize].lock(rt).seal_all(shard, alloc)
     }
@@ -204,8 +209,7 @@ impl<N: NodeName, D: LogDisk, R: Receipt> Ingester<N, D, R> {
     pub fn checkpoint<W: Wait>(&self, rt: &W, alloc: Global, shard: u32) -> Result<bool, NodeFault>
         requires shard { shard < N.settings.shards }
         requires logs { N.has_logs ≡ true }
-        ensures fault { IfErr result (λ fault. (fault ≡ NodeFault.NoMemory)
-            ⊎ (fault ≡ NodeFault.Misplaced shard)) }
+        ensures fault { IfErr result (IsLockRefusal shard) }
     {
         self.shards[shard as usize]
             .lock(rt)
@@ -218,8 +222,7 @@ impl<N: NodeName, D: LogDisk, R: Receipt> Ingester<N, D, R> {
     pub fn save<W: Wait>(&self, rt: &W, alloc: Global, shard: u32) -> Result<bool, NodeFault>
         requires shard { shard < N.settings.shards }
         requires logs { N.has_logs ≡ true }
-        ensures fault { IfErr result (λ fault. (fault ≡ NodeFault.NoMemory)
-            ⊎ (fault ≡ NodeFault.Misplaced shard)) }
+        ensures fault { IfErr result (IsLockRefusal shard) }
     {
         self.shards[shard as usize].lock(rt).save(shard, alloc)
     }

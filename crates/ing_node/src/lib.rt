@@ -12,7 +12,7 @@ mod flushing;
 mod gathering;
 mod held;
 mod ingester;
-mod laws;
+pub mod laws;
 mod names;
 mod no_store;
 mod opening;
@@ -33,15 +33,14 @@ pub use closing::CloseFault;
 pub use earlier::Earlier;
 pub use flushing::{FlusherFault, Flushing, Sweeper};
 pub use ingester::Ingester;
-pub use laws::{push, settle};
 pub use names::NodeName;
 pub use no_store::NoStore;
 pub use pusher::Pusher;
 pub use query::{Answer, AnswerFault};
-pub use report::{CloseRefusal, Report};
+pub use report::{CloseRefusal, Closed, Report};
 pub use shards::Shards;
 pub use swept::Swept;
 
 // What its callers meet of the crates below.
-pub use ing_durable::{NodeFault, Op, RecoverFault};
+pub use ing_durable::{ClosedShard, NodeFault, Op, RecoverFault};
 pub use ing_flush::{FlusherTally, FreeGate, Round, Worker};

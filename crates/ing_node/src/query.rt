@@ -1,12 +1,13 @@
 //! What a query gives through the locks.
-ghost use Rattle.std.specs.Prelude.{◌≡◌, ◌≤◌, All, IfOk, IfErr, length, vec_len};
+ghost use Rattle.std.specs.Prelude.{◌≡◌, ◌≤◌, All, IfOk, IfErr, length, map, vec_len};
 ghost use Rattle.std.specs.List.{AllPass};
 ghost use Rattle.std.specs.List.Sorted.{IsSortedBy};
 ghost use Rattle.ing_parts.specs.Answers.{StandApart, precedes};
 ghost use Rattle.ing_parts.specs.Parts.{is_within};
 ghost use Rattle.ing_diary.specs.Answers.{standing_in};
-ghost use Rattle.ing_node.specs.AnswerFaults.{IsCaused, answer_refusal_of};
-ghost use Rattle.ing_node.specs.Queries.{AreNoLess, AreSelected, IsAskedOf};
+ghost use Rattle.ing_node.specs.AnswerFaults.{IsCaused, IsNoBadAnswer, IsPassedOver, answer_refusal_of};
+ghost use Rattle.ing_node.specs.Queries.{AreAnswerOf, AreNoLess, AreSelected, IsAskedOf};
+ghost use Rattle.ing_node.specs.Refusals.{IsRoundRefusal};
 
 use crate::ingester::Ingester;
 use crate::laws::answers_are_of_snapshots;
@@ -15,7 +16,7 @@ use crate::pusher::Pusher;
 use ing_diary::{QueryFault, run_query};
 use ing_durable::NodeFault;
 use ing_labels::Selector;
-use ing_parts::{Found, Question, Snapshot};
+use ing_parts::{Found, Question, Snapshot, standing_joins};
 use ing_refusals::Refusal;
 use ing_rows::Tenant;
 use ing_store::{Receipt, StoreEnd};
@@ -104,6 +105,11 @@ impl<N: NodeName, D: LogDisk, R: Receipt> Ingester<N, D, R> {
         ensures most { IfOk result (λ answer. length answer.entries.items ≤ question.limit) }
         // No entry is given twice.
         ensures once { IfOk result (λ answer. StandApart answer.entries.items) }
+        // Over an honest end they are exactly the wanted ones of the rows that each shard had then.
+        ensures found { S.is_honest → IfOk result (λ answer.
+            AreAnswerOf tenant.now selector.now question answer.fronts.items answer.entries.items) }
+        ensures honest { S.is_honest → IfErr result IsNoBadAnswer }
+        ensures refused { IfErr result (IsPassedOver N.settings.shards) }
         ensures same { pusher.new ≡ pusher.old }
         // A fault of the store has a cause, and an end that never fails stays such an end.
         ensures count { IsCaused (S.failure_count end.old) (S.failure_count end.new) result }
@@ -111,6 +117,7 @@ impl<N: NodeName, D: LogDisk, R: Receipt> Ingester<N, D, R> {
             × (S.failure_count end.new ≡ S.failure_count end.old) }
     {
         answers_are_of_snapshots::<R>();
+        standing_joins();
         let (snapshots, fronts) = self.look_after(rt, alloc, pusher, tenant, selector, question)?;
         let entries = run_query(alloc, snapshots, end, question)?;
         Ok(Answer { entries, fronts })
@@ -130,6 +137,8 @@ impl<N: NodeName, D: LogDisk, R: Receipt> Ingester<N, D, R> {
             All (IsAskedOf tenant.now selector.now question) looked.0.items) }
         ensures fronts { IfOk result (λ looked. (vec_len looked.1 ≡ N.settings.shards)
             × AreNoLess pusher.old.told looked.1.items) }
+        ensures told { IfOk result (λ looked. looked.1.items ≡ map (λ s. s.front) looked.0.items) }
+        ensures refused { IfErr result (IsRoundRefusal N.settings.shards) }
         ensures once { IfOk result (λ looked. StandApart (standing_in looked.0.items)) }
         ensures same { pusher.new ≡ pusher.old }
     {

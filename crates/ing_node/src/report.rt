@@ -3,8 +3,9 @@ ghost use Rattle.std.specs.Prelude.{◌≡◌};
 ghost use Rattle.ing_node.specs.Reports.{close_refusal_of};
 
 use ing_diary::Unsettled;
-use ing_durable::Missing;
+use ing_durable::{ClosedShard, Missing};
 use ing_refusals::Refusal;
+use ing_store::Receipt;
 use ing_tally::ShardReport;
 
 /// What an ingester had when it was closed: of each shard, by number.
@@ -12,6 +13,25 @@ use ing_tally::ShardReport;
 pub struct Report {
     /// Of each shard, by number.
     pub shards: Vec<ShardReport>,
+}
+
+/// An ingester that was closed: what is told of its shards, and they, to be read.
+#[derive(Drop)]
+pub struct Closed<R: Receipt> {
+    /// What they had.
+    pub report: Report,
+    /// The shards, by number.
+    pub shards: Vec<ClosedShard<R>>,
+}
+
+impl<R: Receipt> Closed<R> {
+    /// What the shards had, without them.
+    pub fn into_report(self) -> Report
+        ensures { result ≡ self.report }
+    {
+        let Closed { report, shards: _ } = self;
+        report
+    }
 }
 
 /// Why an ingester was not closed.

@@ -1,10 +1,11 @@
 //! Rounds over all shards and over all flushers.
-ghost use Rattle.std.specs.Prelude.{◌≡◌, ◌<◌, ◌≤◌, ◌+◌, All, IfOk, OnErr, List, sum_by};
+ghost use Rattle.std.specs.Prelude.{◌≡◌, ◌<◌, ◌≤◌, ◌+◌, All, IfErr, IfOk, OnErr, List, sum_by};
 ghost use Rattle.std.specs.List.{AllZip};
 ghost use Rattle.ing_tally.specs.Books.{amount_of};
 ghost use Rattle.ing_flush.specs.Rounds.{IsRound, IsSumOf, worker_of};
 ghost use Rattle.ing_node.specs.Names.{IsTallyOf};
 ghost use Rattle.ing_durable.specs.Op.{Op};
+ghost use Rattle.ing_node.specs.Refusals.{IsRoundRefusal};
 ghost use Rattle.ing_node.specs.Sweeps.{AreBelow, AreQueued, IsFullAt};
 
 use crate::flushing::{Flushing, Sweeper};
@@ -45,6 +46,7 @@ impl<N: NodeName> Flushing<N> {
             × AreQueued swept.queued given swept.left.items sweeper.old.pass sweeper.new.pass) }
         ensures full { IfOk result (λ swept.
             IsFullAt self.now.queue.capacity swept.left.items sweeper.new.pass) }
+        ensures refused { IfErr result (IsRoundRefusal N.settings.shards) }
         ensures err { OnErr result (sweeper.new.pass ≡ sweeper.old.pass) }
     {
         self.round(rt, alloc, node, sweeper, &Sealing::Due(now))
@@ -64,6 +66,7 @@ impl<N: NodeName> Flushing<N> {
             × AreQueued swept.queued given swept.left.items sweeper.old.pass sweeper.new.pass) }
         ensures full { IfOk result (λ swept.
             IsFullAt self.now.queue.capacity swept.left.items sweeper.new.pass) }
+        ensures refused { IfErr result (IsRoundRefusal N.settings.shards) }
         ensures err { OnErr result (sweeper.new.pass ≡ sweeper.old.pass) }
     {
         self.round(rt, alloc, node, sweeper, &Sealing::Forced)
@@ -83,6 +86,7 @@ impl<N: NodeName> Flushing<N> {
             × AreQueued swept.queued given swept.left.items sweeper.old.pass sweeper.new.pass) }
         ensures full { IfOk result (λ swept.
             IsFullAt self.now.queue.capacity swept.left.items sweeper.new.pass) }
+        ensures refused { IfErr result (IsRoundRefusal N.settings.shards) }
         ensures err { OnErr result (sweeper.new.pass ≡ sweeper.old.pass) }
     {
         let mut sealed: u64 = 0;
@@ -175,7 +179,8 @@ fn seal<N: NodeName, D: LogDisk, R: Receipt, W: Wait>(
     which: &Sealing,
 ) -> Result<Due, NodeFault>
     requires { shard < N.settings.shards }
-    ensures { IfOk result (λ due. AreBelow N.settings.shards due.ops.items) }
+    ensures below { IfOk result (λ due. AreBelow N.settings.shards due.ops.items) }
+    ensures refused { IfErr result (IsRoundRefusal N.settings.shards) }
 {
     match which {
         Sealing::Due(now) => node.sweep(rt, alloc, shard, *now),

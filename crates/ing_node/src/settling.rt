@@ -1,7 +1,7 @@
 //! Whether the shards have exactly the entries that were noted.
 ghost use Rattle.std.specs.Prelude.{◌≡◌, ◌<◌, ◌^◌, ℕ, All, IfErr, OnOk, false, length, true};
 ghost use Rattle.ing_node.specs.Closing.{AreInPlaces};
-ghost use Rattle.ing_node.specs.Diaries.{HaveNoted, KeepsDiary, notes_at};
+ghost use Rattle.ing_node.specs.Diaries.{HaveNoted, KeepsDiary, NamesOtherIn, notes_at};
 ghost use Rattle.ing_node.specs.Reports.{HasReason, IsCausedClose, IsNoBadClose};
 
 use crate::held::Held;
@@ -36,8 +36,10 @@ pub(crate) fn settle_all<N: NodeName, D: LogDisk, S: StoreEnd>(
     requires few { length helds.now < 2 ^ 32 }
     requires all { length helds.now ≡ N.settings.shards }
     requires placed { AreInPlaces (λ held. held.shard.memory) helds.now }
-    ensures settled { S.is_honest → OnOk result
-        (HaveNoted (λ held. held.shard.memory) (λ i. notes_at N.settings.shards i pushers.now) helds.now) }
+    ensures settled { S.is_honest → OnOk result (HaveNoted (λ held. held.shard.memory.state.rows)
+        (λ i. notes_at N.settings.shards i pushers.now) helds.now) }
+    ensures differs { S.is_honest → IfErr result (NamesOtherIn (λ held. held.shard.memory.state.rows)
+        (λ i. notes_at N.settings.shards i pushers.now) helds.now) }
     ensures why { IfErr result HasReason }
     ensures honest { S.is_honest → IfErr result IsNoBadClose }
     ensures count { OnOk result (S.failure_count end.new ≡ S.failure_count end.old) }

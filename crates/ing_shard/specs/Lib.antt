@@ -17,7 +17,9 @@ pub mod Picked
 pub mod Snapshots
 pub mod Sealing
 pub mod Writable
+pub mod Calls
 pub mod Checkpointed
+pub mod Closed
 pub mod OneRecovery
 pub mod Recovered
 pub mod ReplayFaults

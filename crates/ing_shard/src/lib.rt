@@ -4,6 +4,7 @@
 mod books;
 mod checkpoints;
 mod claimed;
+mod closed;
 mod fault;
 mod flushes;
 mod judge;
@@ -25,6 +26,7 @@ mod tenants;
 
 pub use books::{Gathered, Missing};
 pub use claimed::{ClaimedChunk, FinishFault, Finished, Stranger, Stray, Ticket};
+pub use closed::ClosedShard;
 pub use fault::PushFault;
 pub use judge::JudgedPush;
 pub use laws::{an_only_shard_has_all, streams_are_picked};

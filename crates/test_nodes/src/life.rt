@@ -11,7 +11,7 @@ use crate::lots::Lots;
 use crate::plan::Plan;
 use ing_flush::FlusherTally;
 use ing_limits::Settings;
-use ing_node::{Answer, CloseFault, Earlier, Ingester, NodeName, Pusher, Report, Shards};
+use ing_node::{Answer, CloseFault, Closed, Earlier, Ingester, NodeName, Pusher, Report, Shards};
 use ing_refusals::Refusal;
 use ing_tally::Counts;
 use ing_wal::NoLog;
@@ -356,7 +356,7 @@ pub fn closed<N: NodeName + Send + Sync>(
         }
     };
     match closed_over(alloc, &mut KeptEnd::dead(), node, earlier, pushers, tallies) {
-        Ok(report) => Ok((report, None)),
+        Ok(closed) => Ok((closed.into_report(), None)),
         Err(fault) => closed_again(alloc, fault),
     }
 }
@@ -377,7 +377,7 @@ fn closed_again<N: NodeName + Send + Sync>(
     } = fault;
     let mut end = KeptEnd::new(Lots::of(0), 0);
     match closed_over(alloc, &mut end, ingester, earlier, pushers, tallies) {
-        Ok(report) => Ok((report, Some(why.refusal()))),
+        Ok(closed) => Ok((closed.into_report(), Some(why.refusal()))),
         Err(fault) => Err(given_up(fault)),
     }
 }
@@ -390,12 +390,12 @@ fn closed_over<N: NodeName + Send + Sync>(
     earlier: Earlier<N>,
     pushers: Vec<Pusher<N>>,
     tallies: Vec<FlusherTally>,
-) -> Result<Report, CloseFault<N, NoLog, Object>>
+) -> Result<Closed<Object>, CloseFault<N, NoLog, Object>>
     requires { All (IsTallyOf N.settings.shards N.books) tallies.items }
     ensures { IfErr result (λ fault. fault.tallies ≡ tallies) }
 {
     let fault = match node.close(alloc, end, earlier, pushers, tallies) {
-        Ok(report) => return Ok(report),
+        Ok(closed) => return Ok(closed),
         Err(fault) => fault,
     };
     if fault.why.refusal() != Refusal::NoMemory {

@@ -91,7 +91,11 @@ fn apart(
 }
 
 /// What the books of a shard have with these shares; nothing where shares are missing.
-fn whole<R: Receipt>(shard: Shard<R>, pushes: Vec<Share>, tallies: Vec<Share>) -> Option<Gathered>
+fn whole<R: Receipt>(
+    shard: Shard<R>,
+    pushes: Vec<Share>,
+    tallies: Vec<Share>,
+) -> Option<Gathered<R>>
     requires pushes { AreOf shard.books.accepted.name pushes.items }
     requires tallies { AreOf shard.books.stored.name tallies.items }
 {
@@ -106,7 +110,7 @@ fn whole<R: Receipt>(shard: Shard<R>, pushes: Vec<Share>, tallies: Vec<Share>) -
 }
 
 /// What the books of a shard have with its shares.
-fn gathered<R: Receipt>(alloc: Global, one: Owned<R>) -> Result<Gathered, Fail> {
+fn gathered<R: Receipt>(alloc: Global, one: Owned<R>) -> Result<Gathered<R>, Fail> {
     let Owned {
         shard,
         tenant: _,
@@ -122,7 +126,7 @@ fn told<'a, R: Wait + Abort>(
     rt: &'a R,
     alloc: Global,
     store: &'a MemoryStore,
-) -> Result<([Missing; 3], Gathered), Fail> {
+) -> Result<([Missing; 3], Gathered<MemoryReceipt<'a>>), Fail> {
     let mut one = Owned::fresh(alloc, "t", "", 0)?;
     match work(rt, alloc, store, &mut one) {
         Ok(missing) => Ok((missing, gathered(alloc, one)?)),
@@ -139,5 +143,6 @@ fn books_are_gathered(rt: HostRuntime) -> Result<(), Fail> {
     let (missing, whole) = told(&rt, rt.alloc(), &store)?;
     assert!(rt; missing == MISSING);
     assert!(rt; whole.accepted == 3 && whole.stored == 2);
+    assert!(rt; whole.shard.number() == 0 && whole.shard.totals() == (3, 2));
     Ok(())
 }

@@ -16,6 +16,8 @@ mod queries;
 #[cfg(test)]
 mod refused;
 #[cfg(test)]
+mod settling;
+#[cfg(test)]
 mod strangers;
 #[cfg(test)]
 mod tasks;

@@ -3,6 +3,7 @@ use crate::flushes::stores_after;
 use crate::owned::Owned;
 use crate::queries::{fetches, shares_closed_blocks};
 use crate::refused::goes_through;
+use crate::settling::settles;
 use crate::strangers::refuses_both;
 use ing_store::{Fuse, MemoryReceipt, MemoryStore};
 use std::alloc::Global;
@@ -30,13 +31,15 @@ pub(crate) enum Task {
     GoesThrough,
     /// Tickets of another shard are refused.
     RefusesTickets,
+    /// What is noted is compared.
+    Settles,
 }
 
 impl Task {
     /// The shard's tenant, settings and number.
     fn shard(self) -> (&'static str, &'static str, u32) {
         match self {
-            Task::StoresAfter(_) => ("t", "", 0),
+            Task::StoresAfter(_) | Task::Settles => ("t", "", 0),
             Task::Fetches | Task::SharesBlocks => ("t", SMALL, 0),
             Task::GoesThrough => ("t", SOON_IDLE, 0),
             Task::RefusesTickets => ("v", "shards = 2\n", 1),
@@ -57,6 +60,7 @@ fn done<'a, R: Wait + Abort>(
         Task::SharesBlocks => shares_closed_blocks(rt, alloc, one),
         Task::GoesThrough => goes_through(rt, alloc, store, one),
         Task::RefusesTickets => refuses_both(rt, alloc, store, one),
+        Task::Settles => settles(rt, alloc, store, one),
     }
 }
 

@@ -1,5 +1,6 @@
 use Rattle.std.proofs.Common.{◌≡◌, arith}
-use Rattle.ing_node.proofs.ClosingLaws.{complete_next, get_below}
+use Rattle.ing_node.proofs.ClosingLaws.{get_below, next_too}
+use Rattle.ing_node.specs.Closing.{IsComplete}
 use Rattle.ing_node.proofs.closing.are_complete.Goals as goal
 
 pub loop-place-preserved : goal.loop-place-preserved
@@ -16,7 +17,7 @@ loop-place-preserved g c = record {
       let is_a = m.accepted in
       let is_f = m.flight in
       let is_s = m.stored in
-      complete_next (λ h. h.shard.memory) c.args.helds.now c.loop-place.place c.args.pushers c.args.tallies c.index-helds-place.result c.loop-place-test.true c.index-helds-place.is
+      next_too (λ n h. IsComplete n c.args.pushers c.args.tallies h.shard.memory) c.args.helds.now c.loop-place.place c.index-helds-place.result c.loop-place-test.true c.index-helds-place.is
       (record { number = m.number; accepted = omega (arith, no_a, is_a); flight = omega (arith, no_f, is_f); stored = omega (arith, no_s, is_s) })
       (c.loop-place.invariant.complete none_a none_f none_s) i held below at;
 }

@@ -5,8 +5,8 @@ use Rattle.ing_node.specs.Reports.{CountsRows}
 use Rattle.ing_node.proofs.ClosingLaws.{counted_by, gathered_by, same_state}
 use Rattle.ing_node.proofs.closing.gather.Goals as goal
 
-pub overflow_sub-result : goal.overflow_sub-result
-overflow_sub-result g c =
+pub overflow_sub-report : goal.overflow_sub-report
+overflow_sub-report g c =
     let whole = c.in-Ok.ensures in
     let shard = c.into_parts-memory.result.0 in
     let all = (whole.accepted shard.state (same_state shard.state)).1 in
@@ -32,5 +32,5 @@ returns-clause-rows g c =
     let stored = c.in-Ok.field-0.stored in
     let all = (whole.accepted shard.state same).1 in
     let before = c.requires.recovered in
-    subst (λ (s : Contents). CountsRows s (record { accepted = accepted - recovered; recovered = recovered; stored = stored; kept = accepted - stored })) (c.into_parts-memory.ensures.0 ∙ ap (λ s. s.memory) c.into_shard.ensures)
-    (counted_by shard recovered accepted stored (omega (arith, all, before)) (whole.accepted shard.state same).0 (whole.stored shard.state same).0 (whole.landed shard.state same))
+    subst (λ (s : Contents). CountsRows s.state.rows (record { accepted = accepted - recovered; recovered = recovered; stored = stored; kept = accepted - stored })) (c.into_parts-memory.ensures.0 ∙ ap (λ s. s.memory) c.into_shard.ensures)
+    (counted_by shard.state.rows recovered accepted stored (omega (arith, all, before)) (whole.accepted shard.state same).0 (whole.stored shard.state same).0 (whole.landed shard.state same))

@@ -1,4 +1,6 @@
-use Rattle.std.proofs.Common.{◌≡◌, ◌≤◌, ◌<◌, ℕ, Some, length, slice_get, vec_len}
+use Rattle.std.proofs.Common.{◌≡◌, ◌≤◌, ◌<◌, ◌+◌, ◌++◌, ℕ, Some, length, map, reverse, slice_get, vec_len}
+use Rattle.std.specs.Vec.{vec_capacity}
+use Rattle.ing_durable.specs.Closed.{closed_of}
 use Rattle.ing_tally.specs.Books.{amount_of}
 use Rattle.ing_tally.specs.declared.report.ShardReport.{ShardReport}
 use Rattle.ing_node.specs.Closing.{AreComplete, shares_at}
@@ -20,7 +22,9 @@ invariant-loop-held g l = record {
       → IsGathered (recovered_at i l.initial.reports.items) (amount_of (shares_at i l.initial.pushing.items)) (amount_of (shares_at i l.initial.stored.items)) report;
   before : (i : ℕ) → i < vec_len l.helds → slice_get l.reports.items i ≡ slice_get l.initial.reports.items i;
   same_helds : (i : ℕ) → i < vec_len l.helds → slice_get l.helds.items i ≡ slice_get l.initial.helds.items i;
-  rows : CountRowsFrom (vec_len l.helds) (λ held. held.shard.memory) l.initial.helds.items l.reports.items;
+  rows : CountRowsFrom (vec_len l.helds) (λ held. held.shard.memory.state.rows) l.initial.helds.items l.reports.items;
+  room : vec_len l.helds + vec_len l.shards ≤ vec_capacity l.shards;
+  handed : map (λ held. closed_of held.shard.memory) l.helds.items ++ reverse l.shards.items ≡ map (λ held. closed_of held.shard.memory) l.initial.helds.items;
 }
 
 abbrev pub decreases-loop-held : goal.decreases-loop-held

@@ -2,6 +2,7 @@ use Rattle.std.proofs.Common.{◌≡◌, ◌≤◌, ◌∙◌, ap, length, arith
 use Rattle.std.proofs.lemmas.List.Sorted.{IsPermutation-refl}
 use Rattle.ing_rows.specs.Rows.{IsSame}
 use Rattle.ing_durable.specs.Contents.{Contents, Stands}
+use Rattle.ing_node.proofs.ClosingLaws.{same_state}
 use Rattle.ing_node.proofs.held.Held.snapshot.Goals as goal
 
 pub returns-clause-front : goal.returns-clause-front
@@ -16,6 +17,17 @@ returns-clause-front g c =
 
 pub returns-clause-asked : goal.returns-clause-asked
 returns-clause-asked g c =
-    let range = c.in_ok-snapshot.ensures.range in
-    let law = c.snapshots_are_selected.ensures c.args.tenant.now c.args.selector.now c.memory.result.now.state.rows c.in_ok-snapshot.field-0 c.in_ok-snapshot.ensures.rows in
-    record { start = range.0; end = range.1; kept = law.1; selected = law.0 }
+    let snapshot = c.in_ok-snapshot.ensures in
+    let rows = c.memory.result.now.state.rows in
+    let law = c.snapshots_are_selected.ensures c.args.tenant.now c.args.selector.now rows c.in_ok-snapshot.field-0 snapshot.rows in
+    record {
+      rows = rows;
+      count = snapshot.front c.memory.result.now.state (same_state c.memory.result.now.state);
+      has = snapshot.rows;
+      start = snapshot.range.0;
+      end = snapshot.range.1;
+      order = snapshot.best.0;
+      limit = snapshot.best.1;
+      kept = law.1;
+      selected = law.0;
+    }

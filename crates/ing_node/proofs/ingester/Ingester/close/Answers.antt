@@ -1,9 +1,11 @@
 use Rattle.std.proofs.Common.{◌≡◌, ◌<◌, ◌+◌, ap, arith, List, length, refl, sym, subst, ◌∙◌, slice_get, vec_len}
 use Rattle.std.specs.Prelude.{All, sum_by}
 use Rattle.ing_tally.specs.Books.{amount_of}
+use Rattle.std.proofs.lemmas.List.{length-map}
+use Rattle.ing_durable.specs.Closed.{closed_of}
 use Rattle.ing_flush.specs.Tallies.{amount_at}
 use Rattle.ing_node.specs.Closing.{shares_at}
-use Rattle.ing_node.proofs.ClosingLaws.{closed_by, complete_as, gathered_as, get_below, is_yes, there}
+use Rattle.ing_node.proofs.ClosingLaws.{closed_by, closed_counted, closed_noted, closed_placed, complete_as, gathered_as, get_below, is_yes}
 use Rattle.ing_diary.specs.Notes.{AreNoted}
 use Rattle.ing_node.specs.Diaries.{KeepsDiary, PusherState, notes_at}
 use Rattle.ing_node.proofs.ingester.Ingester.close.Goals as goal
@@ -39,29 +41,42 @@ gather_all-requires-clause-complete g c i held at =
     complete_as i i (length c.deref-2.result.now + 1) (c.len-2.result + 1) (length (shares_at i c.hand_out_earlier.new.pushing.items)) (length (shares_at i c.hand_out_earlier.new.stored.items)) held.shard.memory refl
     told counted (c.in_default-is_closable.ensures.complete i held (ap (λ l. slice_get l i) c.deref.ensures.value ∙ at))
 
+pub returns-clause-all : goal.returns-clause-all
+returns-clause-all g c =
+    let helds = c.into_shards-helds.result in
+    let made = ap length c.gather_all.ensures.shards ∙ length-map helds.items (λ held. closed_of held.shard.memory) in (
+      omega (arith, c.gather_all.ensures.all, c.note-reports.ensures.all),
+      omega (arith, made, c.gather_all.result.shards.ok.0, helds.ok.0, c.into_shards-helds.ensures, c.args.self.all),
+    )
+
 pub returns-clause-closed : goal.returns-clause-closed
 returns-clause-closed g c i report at =
-    let here : i < g.N.NodeName.settings.shards = omega (arith, get_below c.gather_all.result.items i report at, c.gather_all.result.ok.0, c.gather_all.ensures.all, c.note-reports.ensures.all) in
+    let reports = c.gather_all.result.report.shards in
+    let here : i < g.N.NodeName.settings.shards = omega (arith, get_below reports.items i report at, reports.ok.0, c.gather_all.ensures.all, c.note-reports.ensures.all) in
     closed_by (amount_at i g.N.NodeName.earlier.told) (amount_at i g.N.NodeName.earlier.stored) (sum_by (λ p. amount_at i p.told) c.args.pushers.items) (sum_by (amount_at i) c.args.tallies.items)
     (amount_of (shares_at i c.hand_out_earlier.new.pushing.items)) (amount_of (shares_at i c.hand_out_earlier.new.stored.items)) report
     (c.hand_out_earlier.ensures.pushing_sum i ∙ ap (λ n. n + amount_at i g.N.NodeName.earlier.told) (c.hand_out_pushers.ensures.sum i))
     (c.hand_out_earlier.ensures.stored_sum i ∙ ap (λ n. n + amount_at i g.N.NodeName.earlier.stored) (c.hand_out_tallies.ensures.sum i))
     (gathered_as _ _ _ _ _ _ report (c.note-reports.ensures.noted i here) refl refl (c.gather_all.ensures.closed i report at))
 
-pub returns-clause-settled : goal.returns-clause-settled
-returns-clause-settled g c honest keep none i report at =
-    let shards = g.N.NodeName.settings.shards in
+pub returns-clause-placed : goal.returns-clause-placed
+returns-clause-placed g c =
     let helds = c.into_shards-helds.result in
-    let reported = get_below c.gather_all.result.items i report at in
-    let below : i < length helds.items = omega (arith, reported, c.gather_all.result.ok.0, c.gather_all.ensures.all, c.note-reports.ensures.all, c.in-Ok.ensures.reports, c.len.ensures, c.into_shards-helds.ensures, helds.ok.0, c.args.self.all) in
-    let mine = there helds.items i below in
+    closed_placed (λ held. held.shard.memory) helds.items c.gather_all.result.shards.items c.gather_all.ensures.shards g.N.NodeName.settings
+    (λ held. held.judges)
+    (λ i held at. (c.in_default-is_closable.ensures.complete i held (ap (λ l. slice_get l i) c.deref.ensures.value ∙ at)).number)
+
+pub returns-clause-rows : goal.returns-clause-rows
+returns-clause-rows g c =
+    closed_counted (λ held. held.shard.memory) c.into_shards-helds.result.items c.gather_all.result.shards.items c.gather_all.ensures.shards
+    c.gather_all.result.report.shards.items c.gather_all.ensures.rows
+
+pub returns-clause-settled : goal.returns-clause-settled
+returns-clause-settled g c honest keep none =
+    let shards = g.N.NodeName.settings.shards in
     let fresh = is_yes c.is_none-is_new.result (λ no. c.is_none-is_new.ensures.no no none) in
-    let noted = c.in_default-is_closable.ensures.settled honest fresh (subst (All KeepsDiary) (sym c.deref-2.ensures.value) keep) i mine.0 (ap (λ l. slice_get l i) c.deref.ensures.value ∙ mine.1) in
-    let counts = c.gather_all.ensures.rows i mine.0 report mine.1 at in
-    record {
-      rows = mine.0.shard.memory.state.rows;
-      noted = subst (λ (ps : List PusherState). AreNoted mine.0.shard.memory.state.rows (notes_at shards i ps)) c.deref-2.ensures.value noted;
-      all = counts.all;
-      stored = counts.stored;
-      landed = counts.landed;
-    }
+    let noted = c.in_default-is_closable.ensures.settled honest fresh (subst (All KeepsDiary) (sym c.deref-2.ensures.value) keep) in
+    closed_noted (λ held. held.shard.memory) c.into_shards-helds.result.items c.gather_all.result.shards.items c.gather_all.ensures.shards
+    (λ i. notes_at shards i c.args.pushers.items)
+    (λ i held at. subst (λ (ps : List PusherState). AreNoted held.shard.memory.state.rows (notes_at shards i ps)) c.deref-2.ensures.value
+    (noted i held (ap (λ l. slice_get l i) c.deref.ensures.value ∙ at)))

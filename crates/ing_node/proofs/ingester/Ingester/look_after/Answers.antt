@@ -1,5 +1,6 @@
 use Rattle.std.proofs.Common.{rules, ◌≡◌, ◌≤◌, ◌<◌, ◌∙◌, ◌+◌, ◌++◌, ℕ, List, [], ◌∷◌, ap, arith, length, slice_set, subst, sym}
-use Rattle.std.specs.Prelude.{All}
+use Rattle.std.specs.Prelude.{All, map}
+use Rattle.std.proofs.lemmas.List.{map-append}
 use Rattle.std.proofs.lemmas.List.Elements.{All-append, All-cons, All-nil}
 use Rattle.ing_parts.specs.declared.snapshot.Snapshot.{Snapshot}
 use Rattle.ing_tally.specs.Books.{ShareState}
@@ -48,6 +49,9 @@ loop-place-preserved g c =
           (All-append P c.loop-place.snapshots.items (new ∷ []) at.snapshots (All-cons P new [] c.in_ok-snapshot.ensures.asked (All-nil P)));
       fronts = subst (λ (ns : List ℕ). AreNoLess told ns) (sym c.push_reserved.ensures.items)
           (no_less_push (λ i. amount_at i told) c.loop-place.fronts.items new.front at.fronts here);
+      told = c.push_reserved.ensures.items ∙ ap (λ ns. ns ++ new.front ∷ []) at.told
+          ∙ sym (map-append (λ (s : Snapshot g.row.R.Denot). s.front) c.loop-place.snapshots.items (new ∷ []))
+          ∙ ap (map (λ (s : Snapshot g.row.R.Denot). s.front)) (sym c.push_reserved-in-loop-place.ensures.items);
       made = (omega (arith, c.push_reserved-in-loop-place.ensures.len, at.made.0), omega (arith, c.push_reserved.ensures.len, at.made.1));
       room = (omega (arith, c.push_reserved-in-loop-place.ensures.capacity, at.room.0), omega (arith, c.push_reserved.ensures.capacity, at.room.1));
     }

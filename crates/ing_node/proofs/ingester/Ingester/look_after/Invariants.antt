@@ -1,5 +1,5 @@
 use Rattle.std.proofs.Common.{◌≡◌, ◌≤◌, vec_len}
-use Rattle.std.specs.Prelude.{All}
+use Rattle.std.specs.Prelude.{All, map}
 use Rattle.std.specs.Vec.{vec_capacity}
 use Rattle.ing_node.specs.Names.{AreAcceptedIn}
 use Rattle.ing_node.specs.Queries.{AreBelow, AreNoLess, IsAskedOf}
@@ -17,6 +17,7 @@ invariant-loop-place g l = record {
   places : l.pusher-inside.places ≡ g.N.NodeName.settings.shards;
   snapshots : All (IsAskedOf l.tenant l.selector l.question) l.snapshots.items;
   fronts : AreNoLess l.fn.pusher.told l.fronts.items;
+  told : l.fronts.items ≡ map (λ s. s.front) l.snapshots.items;
   once : StandApart (standing_in l.snapshots.items);
   below : AreBelow g.N.NodeName.settings.shards l.tenant l.place (standing_in l.snapshots.items);
   made : (vec_len l.snapshots ≡ l.place) × (vec_len l.fronts ≡ l.place);

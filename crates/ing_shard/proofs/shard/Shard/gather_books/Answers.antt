@@ -7,7 +7,7 @@ use Rattle.ing_shard.proofs.shard.Shard.gather_books.Goals as goal
 
 pub returns-clause-stored : goal.returns-clause-stored
 returns-clause-stored g c = λ state stands. (
-  c.total_of-2.ensures.number ∙ ap (λ (b : BookStates). b.stored.number) c.into_books-books.ensures ∙ c.totals.ensures.books.stored
+  c.total_of-2.ensures.number ∙ ap (λ (b : BookStates). b.stored.number) c.into_closed-shard.ensures.books ∙ c.totals.ensures.books.stored
       ∙ reordered (λ (r : Row). is_stored r.place) c.args.self.state.rows state.rows stands.rows,
   c.total_of-2.ensures.sum,
 )
@@ -23,7 +23,7 @@ returns-clause-landed g c = λ state stands.
 
 pub returns-clause-accepted : goal.returns-clause-accepted
 returns-clause-accepted g c = λ state stands. (
-  c.total_of.ensures.number ∙ ap (λ (b : BookStates). b.accepted.number) c.into_books-books.ensures ∙ c.totals.ensures.books.accepted
+  c.total_of.ensures.number ∙ ap (λ (b : BookStates). b.accepted.number) c.into_closed-shard.ensures.books ∙ c.totals.ensures.books.accepted
       ∙ sym (length_permutation c.args.self.state.rows state.rows stands.rows),
   c.total_of.ensures.sum,
 )

@@ -1,0 +1,39 @@
+use Rattle.std.proofs.Common.{◌∙◌, ℕ, List, arith, subst, sym}
+use Rattle.ing_rows.specs.Rows.{Row}
+use Rattle.ing_diary.specs.Faults.{NamesOther}
+use Rattle.ing_diary.specs.Notes.{AreNoted}
+use Rattle.ing_node.specs.Diaries.{notes_at}
+use Rattle.ing_node.proofs.ClosingLaws.{get_below, next_too, same_there, so_there}
+use Rattle.ing_node.proofs.settling.settle_all.Goals as goal
+
+pub returns-in-Err-clause-differs : goal.returns-in-Err-clause-differs
+returns-in-Err-clause-differs g c honest held at =
+    let helds = c.args.helds.now in
+    let place = c.loop-place.place in
+    let one = c.index-helds-place.result in
+    let shards = g.N.NodeName.settings.shards in
+    let F = λ (rows : List Row) (n k : ℕ). NamesOther rows (notes_at n k c.args.pushers.now) c.in-Err.why in
+    subst (λ h. F h.shard.memory.state.rows shards place) (sym (same_there helds place one held c.loop-place-test.true c.index-helds-place.is at))
+    (so_there (λ h. h.shard.memory) helds place one c.memory.result.now shards F c.loop-place-test.true c.index-helds-place.is c.memory.ensures c.requires.placed c.requires.all
+    (c.in-Err.ensures.differs honest))
+
+pub loop-place-preserved : goal.loop-place-preserved
+loop-place-preserved g c =
+    let helds = c.args.helds.now in
+    let place = c.loop-place.place in
+    let one = c.index-helds-place.result in
+    let shards = g.N.NodeName.settings.shards in
+    let F = λ (rows : List Row) (n k : ℕ). AreNoted rows (notes_at n k c.args.pushers.now) in
+    record {
+      settled = λ honest. next_too (λ k h. F h.shard.memory.state.rows shards k) helds place one c.loop-place-test.true c.index-helds-place.is
+          (so_there (λ h. h.shard.memory) helds place one c.memory.result.now shards F c.loop-place-test.true c.index-helds-place.is c.memory.ensures c.requires.placed c.requires.all
+          (c.in_default.ensures.settled honest))
+          (c.loop-place.invariant.settled honest);
+      count = c.in_default.ensures.count ∙ c.loop-place.invariant.count;
+      sure = λ never. (c.settle.ensures.sure (c.loop-place.invariant.sure never)).0;
+    }
+
+pub returns-clause-settled : goal.returns-clause-settled
+returns-clause-settled g c honest i held at =
+    let there = get_below c.args.helds.now i held at in
+    c.loop-place.invariant.settled honest i held (omega (arith, there, c.loop-place-test.false)) at
