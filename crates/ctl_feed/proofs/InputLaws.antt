@@ -37,14 +37,14 @@ AreOf-append read now last [] ms (e ∷ es) fs h k = absurd h
 AreOf-append read now last (l ∷ ls) ms [] fs h k = absurd h
 AreOf-append read now last (l ∷ ls) ms (e ∷ es) fs h k = (h.0, h.1, AreOf-append read now (Some e.stamp) ls ms es fs h.2 k)
 
-AreCommands-append : (tenant : List ℕ) (now : ℕ) (labels : List (List ℕ × List ℕ)) (cs ds : List (List ℕ)) (gs hs : List (List Entry)) → AreCommands tenant now labels cs gs → AreCommands tenant now labels ds hs
+pub AreCommands-append : (tenant : List ℕ) (now : ℕ) (labels : List (List ℕ × List ℕ)) (cs ds : List (List ℕ)) (gs hs : List (List Entry)) → AreCommands tenant now labels cs gs → AreCommands tenant now labels ds hs
     → AreCommands tenant now labels (cs ++ ds) (gs ++ hs)
 AreCommands-append tenant now labels [] ds [] hs h k = k
 AreCommands-append tenant now labels [] ds (g ∷ gs) hs h k = absurd h
 AreCommands-append tenant now labels (c ∷ cs) ds [] hs h k = absurd h
 AreCommands-append tenant now labels (c ∷ cs) ds (g ∷ gs) hs h k = (h.0, AreCommands-append tenant now labels cs ds gs hs h.1 k)
 
-whole_both : (a e f g h b c : List Entry) → a ++ e ≡ g ++ b → b ++ f ≡ h ++ c → a ++ (e ++ f) ≡ (g ++ h) ++ c
+pub whole_both : (a e f g h b c : List Entry) → a ++ e ≡ g ++ b → b ++ f ≡ h ++ c → a ++ (e ++ f) ≡ (g ++ h) ++ c
 whole_both a e f g h b c first second =
     sym (append_assoc a e f) ∙ ap (λ l. l ++ f) first ∙ append_assoc g b f ∙ ap (λ l. g ++ l) second ∙ sym (append_assoc g h c)
 

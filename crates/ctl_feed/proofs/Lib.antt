@@ -11,3 +11,5 @@ pub mod LineLaws
 pub mod BodyLaws
 pub mod ReadingLaws
 pub mod PartLaws
+pub mod CanonicalLaws
+pub mod FeedLaws

@@ -1,13 +1,16 @@
 -- The labels of a stream: as arguments spell them, and as an object of a push has them.
-use Rattle.std.specs.Prelude.{ℕ, suc, ◌==◌, List, [], ◌∷◌, Bool, bytes_eq, if◌then◌else◌, Option, Some, None, Result, Ok, Err}
+use Rattle.std.specs.Prelude.{◌≡◌, ℕ, suc, ◌==◌, List, [], ◌∷◌, Bool, bytes_eq, if◌then◌else◌, Option, Some, None, Result, Ok, Err}
 use Rattle.std.specs.List.{list_any, before_first, after_first}
 use Rattle.std.specs.Option.{ok_or}
 use Rattle.std.specs.Result.{result_unwrap_or}
 use Rattle.std.specs.Cmp.Lexicographic.{slice_cmp}
 use Rattle.std.specs.Ordering.{nat_cmp}
 use Rattle.std.specs.BTreeMap.{insert_entry}
+use Rattle.std.specs.FinMap.{entries}
 use Rattle.serde_json.specs.Data.{Data, string, object, Members, no_members, member}
 use Rattle.serde_json.specs.Find.{as_object}
+use Rattle.ing_labels.specs.Canonical.{canonical_of}
+use Rattle.ing_labels.specs.Labels.{IsLabelSet, LabelMap}
 use Rattle.ing_refusals.specs.Results.{◌>>=◌}
 use Rattle.ing_commands.specs.declared.fault.LineFault.{LineFault}
 use Rattle.ing_commands.specs.declared.fault.LineFault.TheVariants.{BadCommand}
@@ -44,6 +47,15 @@ with_arguments at labels (argument ∷ arguments) = with_argument at labels argu
 -- the labels of arguments, in byte order of their names, or the first fault
 abbrev pub labels_of : List (List ℕ) → Result (List (List ℕ × List ℕ)) LabelFault
 labels_of arguments = with_arguments 0 [] arguments
+
+-- ---- canonical names
+
+-- These are the labels of a stream of this canonical name, in byte order of their names.
+pub record IsNamed (name : List ℕ) (labels : List (List ℕ × List ℕ)) : Type 0 where
+  pub set : LabelMap
+  pub is_set : IsLabelSet set
+  pub named : name ≡ canonical_of set
+  pub all : labels ≡ entries set
 
 -- ---- the object
 

@@ -4,5 +4,6 @@ pub mod Wraps
 pub mod Loads
 pub mod Times
 pub mod Inputs
+pub mod Feeds
 pub mod Lines
 pub mod Readings

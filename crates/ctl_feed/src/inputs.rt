@@ -1,6 +1,8 @@
 //! Inputs made into push commands, line by line.
-ghost use Rattle.std.specs.Prelude.{◌≡◌, Ok, Err, Some, None, IfSome, OnOk, List, ℕ, Option, [], ◌∷◌};
+ghost use Rattle.std.specs.Prelude.{◌≡◌, ◌≤◌, Ok, Err, Some, None, IfSome, OnOk, List, ℕ};
+ghost use Rattle.std.specs.Prelude.{Option, [], ◌∷◌, length};
 ghost use Rattle.std.specs.Io.KnownBytes.{Appends};
+ghost use Rattle.ctl_feed.specs.Feeds.{Feeds};
 ghost use Rattle.ctl_feed.specs.Inputs.{Loads, LoadsAll, LoadsUntil};
 ghost use Rattle.ctl_feed.specs.Lines.{with_feed};
 ghost use Rattle.ctl_feed.specs.Loads.{entry_of};
@@ -110,6 +112,8 @@ pub fn load_rest<W: Write>(
     ensures none_waits { OnOk result (loader.new.entries ≡ []) }
     ensures written { (read : List ℕ → Option ℕ × List ℕ) → OnOk result
         (Loads read loader.old loader.new [] (W.contents writer.old) (W.contents writer.new)) }
+    ensures fed { (most : ℕ) → length loader.old.entries ≤ most → OnOk result
+        (Feeds most loader.old loader.new [] (W.contents writer.old) (W.contents writer.new)) }
 {
     match loader.finish(alloc)? {
         Some(command) => put(writer, command),

@@ -1,11 +1,15 @@
 //! The labels of the stream that lines go to.
-ghost use Rattle.std.specs.Prelude.{◌≡◌, OnOk, is_ok, true};
+ghost use Rattle.std.specs.Prelude.{◌≡◌, Ok, OnOk, is_ok, true};
+ghost use Rattle.std.specs.BTreeMap.{insert_entry};
+ghost use Rattle.std.specs.Cmp.Lexicographic.{slice_cmp};
 ghost use Rattle.std.specs.Option.{ok_or};
+ghost use Rattle.std.specs.Ordering.{nat_cmp};
 ghost use Rattle.serde_json.specs.View.{members_view};
 ghost use Rattle.ing_refusals.specs.Results.{Gives, Returns};
 ghost use Rattle.ctl_feed.specs.Labels.{label_of, members_labels, with_argument};
 ghost use Rattle.ing_commands.specs.PushCommands.{raw_labels};
 
+use ing_labels::TextFault;
 use serde_json::{Map, Value, put};
 use std::alloc::{AllocError, Global};
 use std::marker::Model;
@@ -51,10 +55,11 @@ impl Model for Labels {
 }
 
 impl Labels {
-    ghost use Rattle.std.specs.Prelude.{◌≡◌, map};
+    ghost use Rattle.std.specs.Prelude.{◌≡◌, IfErr, IfOk, map};
     ghost use Rattle.serde_json.specs.View.{view};
+    ghost use Rattle.ing_labels.specs.CanonicalTexts.{IsCanonicalFault};
     ghost use Rattle.ing_refusals.specs.Results.{Gives};
-    ghost use Rattle.ctl_feed.specs.Labels.{labels_data, labels_of};
+    ghost use Rattle.ctl_feed.specs.Labels.{IsNamed, labels_data, labels_of};
 
     /// The labels of arguments such as `job=app`, each with the name before its first equals sign and the
     /// value after it. The first fault: `NoEquals` where an argument has no such sign, `TwiceNamed` where its
@@ -67,6 +72,22 @@ impl Labels {
         let mut members = Map::new(alloc);
         for (at, argument) in arguments.iter().enumerate() {
             add(alloc, &mut members, at, argument)?;
+        }
+        Ok(Labels {
+            object: Value::Object(members),
+        })
+    }
+
+    /// The labels of a stream of this canonical name. `NotCanonical` exactly where no labels have
+    /// it, `NoMemory` where memory runs out. (Loki documentation: labels; the name is own.)
+    pub fn of_canonical(alloc: Global, name: &str) -> Result<Labels, TextFault>
+        ensures named { IfOk result (IsNamed name.now) }
+        ensures fault { IfErr result (IsCanonicalFault name.now) }
+    {
+        let labels = ing_labels::Labels::parse_canonical(alloc, name)?;
+        let mut members = Map::new(alloc);
+        for (name, value) in labels.pairs() {
+            put_label(alloc, &mut members, name, value)?;
         }
         Ok(Labels {
             object: Value::Object(members),
@@ -97,6 +118,22 @@ fn add(
     if members.contains_key(name) {
         return Err(LabelFault::TwiceNamed(at));
     }
+    put_label(alloc, members, name, value)?;
+    Ok(())
+}
+
+/// Puts a label among those that are there, in the place of one of its name.
+fn put_label(
+    alloc: Global,
+    members: &mut Map<String, Value>,
+    name: &str,
+    value: &str,
+) -> Result<(), AllocError>
+    requires { is_ok (raw_labels (members_view members.old.entries)) ≡ true }
+    ensures { let before = members_labels (members_view members.old.entries) in
+        OnOk result (raw_labels (members_view members.new.entries)
+        ≡ Ok (insert_entry (slice_cmp nat_cmp) before name.now value.now)) }
+{
     put(members, alloc, name, Value::try_from_str(alloc, value)?)?;
     Ok(())
 }

@@ -2,6 +2,7 @@
 #![tactic(auto)]
 
 mod bodies;
+mod entries;
 mod inputs;
 mod labels;
 mod lines;
@@ -16,6 +17,7 @@ mod tally;
 mod wrap;
 
 pub use bodies::{Wrapped, wrap_input};
+pub use entries::{EntryFault, feed_entries};
 pub use inputs::{FeedEnding, Loaded, load_input, load_rest};
 pub use labels::{LabelFault, Labels};
 pub use load_fault::LoadFault;

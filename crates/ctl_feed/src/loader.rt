@@ -118,6 +118,32 @@ impl Loader {
         Ok(command)
     }
 
+    /// Takes an entry as it is, with its own stamp, which need not be above that of the one before.
+    /// Gives the line of a push as `take` does.
+    ///
+    /// `TooLong` exactly where the entry takes more than `MAX_BYTES` of a command by itself. Then
+    /// all is as before. After `NoMemory` entries may be lost. (Own.)
+    pub fn take_entry(&mut self, alloc: Global, entry: Entry) -> Result<Option<Vec<u8>>, LoadFault>
+        ensures taken { IfOk result (λ command.
+            Takes self.old self.new entry (option_map (λ text. text.items) command)) }
+        ensures fault { IfErr result (λ fault. fault ≢ LoadFault.NoMemory
+            → (fault ≡ LoadFault.TooLong) × (MAX_BYTES < size_of entry) × (self.new ≡ self.old)) }
+    {
+        let Some(size) = size_in_bounds(&entry) else {
+            return Err(LoadFault::TooLong);
+        };
+        let command = self.make_room(alloc, size)?;
+        self.add(entry, size)?;
+        Ok(command)
+    }
+
+    /// How many entries wait for a command. Takes no memory.
+    pub fn waiting(&self) -> usize
+        ensures { result ≡ length self.entry.now.entries }
+    {
+        self.entries.len()
+    }
+
     /// The line of a push, without a line feed, of the entries that wait, or `None` where none does. None
     /// waits then. It fails only where memory runs out, and then the entries are lost. (Own.)
     pub fn finish(&mut self, alloc: Global) -> Result<Option<Vec<u8>>, AllocError>

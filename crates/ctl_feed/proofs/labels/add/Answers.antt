@@ -1,14 +1,9 @@
 use Rattle.std.proofs.Common.{◌≡◌, [], Ok, true, false, sym, ap, ◌∙◌}
 use Rattle.std.specs.Prelude.{is_ok}
-use Rattle.std.specs.BTreeMap.{insert_entry}
-use Rattle.std.specs.Cmp.Lexicographic.{slice_cmp}
-use Rattle.std.specs.Ordering.{nat_cmp}
 use Rattle.std.specs.Result.{result_unwrap_or}
-use Rattle.serde_json.specs.Data.{put}
 use Rattle.serde_json.specs.View.{members_view}
-use Rattle.ing_commands.specs.PushCommands.{raw_labels}
 use Rattle.ctl_feed.specs.Labels.{is_named, members_labels}
-use Rattle.ctl_feed.proofs.LabelLaws.{name_found, named_twice, one_more, put_read}
+use Rattle.ctl_feed.proofs.LabelLaws.{name_found, named_twice, one_more}
 use Rattle.ctl_feed.proofs.labels.add.Goals as goal
 
 pub returns-then-contains_key-clause-labels : goal.returns-then-contains_key-clause-labels
@@ -17,18 +12,12 @@ returns-then-contains_key-clause-labels c =
     let twice : is_named c.in_ok-name.name.now labels ≡ true = sym (name_found c.in_ok-name.name.now c.args.members.now.entries c.requires) ∙ sym c.contains_key.ensures ∙ c.if-contains_key.true in
     λ other. named_twice c.args.at labels c.args.argument.now (c.in_ok-name.name.now, c.in_ok-name.value.now) c.in_ok-name.ensures twice
 
-read_after : (c : goal.In_ok-put)
-    → raw_labels (members_view c.put.new.map.entries) ≡ Ok (insert_entry (slice_cmp nat_cmp) (members_labels (members_view c.args.members.now.entries)) c.in_ok-name.name.now c.in_ok-name.value.now)
-read_after c =
-    ap raw_labels (c.in_ok-put.ensures.ok ∙ ap (λ d. put c.in_ok-name.name.now d (members_view c.args.members.now.entries)) c.in_ok-try_from_str.ensures)
-    ∙ put_read c.in_ok-name.name.now c.in_ok-name.value.now (members_view c.args.members.now.entries) c.requires
-
 pub returns-clause-labels : goal.returns-clause-labels
 returns-clause-labels c =
     let labels = members_labels (members_view c.args.members.now.entries) in
     let new : is_named c.in_ok-name.name.now labels ≡ false = sym (name_found c.in_ok-name.name.now c.args.members.now.entries c.requires) ∙ sym c.contains_key.ensures ∙ c.if-contains_key.false in
     one_more c.args.at labels c.args.argument.now (c.in_ok-name.name.now, c.in_ok-name.value.now) c.in_ok-name.ensures new
-    ∙ ap Ok (sym (ap (λ r. result_unwrap_or r []) (read_after c)))
+    ∙ ap Ok (sym (ap (λ r. result_unwrap_or r []) c.in_ok-put_label.ensures))
 
 pub returns-clause-texts : goal.returns-clause-texts
-returns-clause-texts c = ap is_ok (read_after c)
+returns-clause-texts c = ap is_ok c.in_ok-put_label.ensures
