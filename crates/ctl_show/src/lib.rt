@@ -8,11 +8,11 @@ mod objects;
 mod shown;
 mod words;
 
-pub use check::{Checked, check_log};
+pub use check::{Checked, Restored, check_log, restore_log};
 pub use logs::{begun_words, log_words, other_version, record_words};
 pub use mend::{Mended, mend_log};
 pub use objects::{chunk_words, row_words};
 pub use shown::{Kind, ShowFault, Shown, kind_of, show};
 
 // What its callers meet of the crates below.
-pub use ing_durable::{RecoverFault, RelistFault};
+pub use ing_durable::{RecoverFault, RelistFault, Shard};
