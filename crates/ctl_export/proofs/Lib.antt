@@ -1,0 +1,2 @@
+mod ReadLaws
+mod ExportLaws
