@@ -6,3 +6,4 @@ pub mod Streams
 pub mod Walks
 pub mod Words
 pub mod Notes
+pub mod StreamNotes

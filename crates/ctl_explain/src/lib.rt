@@ -13,6 +13,7 @@ mod notes;
 mod settings_refusal;
 mod shape;
 mod stream;
+mod stream_notes;
 mod table;
 mod walk;
 
@@ -25,4 +26,5 @@ pub use member::{Field, Member, Part};
 pub use notes::{Note, notes_of};
 pub use settings_refusal::SettingsRefusal;
 pub use stream::StreamFault;
+pub use stream_notes::{StreamNote, stream_notes_of};
 pub use table::Page;
