@@ -30,6 +30,7 @@ pub fn command<'a>(alloc: Global) -> Result<Command<'a>, AllocError> {
         .subcommand(show(alloc)?)?
         .subcommand(check(alloc)?)?
         .subcommand(mend(alloc)?)?
+        .subcommand(export(alloc)?)?
         .subcommand(refusals(alloc)?)?
         .subcommand(tick(alloc)?)?
         .subcommand(query(alloc)?)
@@ -144,6 +145,20 @@ fn mend<'a>(alloc: Global) -> Result<Command<'a>, AllocError> {
         .arg(folder)?
         .arg(settings)?
         .arg(cut)
+}
+
+fn export<'a>(alloc: Global) -> Result<Command<'a>, AllocError> {
+    let folder = Arg::new(alloc, "folder")
+        .value_name("FOLDER")
+        .required(true)
+        .help("The folder that ingestd is given; no byte of it is changed");
+    let settings = Arg::new(alloc, "settings")
+        .value_name("SETTINGS")
+        .help("The settings file; without it all defaults hold");
+    Command::new(alloc, "export")
+        .about("All entries of a folder, each once, as push commands that ingestd takes again.")
+        .arg(folder)?
+        .arg(settings)
 }
 
 fn refusals<'a>(alloc: Global) -> Result<Command<'a>, AllocError> {

@@ -93,7 +93,7 @@ pub fn looked_at(rt: &HostRuntime, folder: &str, settings: &Settings) -> Result<
 }
 
 /// Writes what is to be known of how the folder is kept; whether it was begun with these settings, as far as anything tells.
-fn check_kept<O: Write>(looked: Looked, output: &mut O) -> Result<bool> {
+pub fn check_kept<O: Write>(looked: Looked, output: &mut O) -> Result<bool> {
     if looked.is_in_use {
         put(
             output,
@@ -110,7 +110,11 @@ fn check_kept<O: Write>(looked: Looked, output: &mut O) -> Result<bool> {
 }
 
 /// Writes that the folder was begun and lacks the log of this shard, of which nothing is made.
-fn missing_log<O: Write>(alloc: Global, number: u32, output: &mut O) -> Result<Option<Checked>> {
+pub fn missing_log<O: Write>(
+    alloc: Global,
+    number: u32,
+    output: &mut O,
+) -> Result<Option<Checked>> {
     let (code, name) = (Refusal::MissingLog.number(), Refusal::MissingLog.name());
     let text = format!(in alloc;
         "wal-{number}: {code} {name}: the folder was begun, and this log is not in it\n"
@@ -152,7 +156,7 @@ pub fn mended(
 }
 
 /// Writes what would be made again of a shard, or why nothing would; and gives it.
-fn check_shard<O: Write>(
+pub fn check_shard<O: Write>(
     rt: &HostRuntime,
     folder: &str,
     settings: &Settings,
@@ -218,7 +222,7 @@ pub fn fault_words(
 }
 
 /// What is wrong with the chunk of a key, of which the log says that it is stored.
-fn object_words(rt: &HostRuntime, folder: &str, key: &[u8; 32]) -> Result<String> {
+pub fn object_words(rt: &HostRuntime, folder: &str, key: &[u8; 32]) -> Result<String> {
     let alloc = rt.alloc();
     let name = chunk_name(alloc, key)?;
     let path = format!(in alloc; "{folder}/objects/{name}")?;

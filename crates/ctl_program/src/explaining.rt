@@ -4,7 +4,7 @@ use crate::output::put;
 use crate::status::Status;
 use anyhow::Result;
 use clap::ArgMatches;
-use ctl_explain::{explain, notes_of};
+use ctl_explain::{explain, notes_of, stream_notes_of};
 use ing_commands::{LineFault, read_value};
 use std::alloc::{AllocError, Global};
 use std::io::{BufRead, Write};
@@ -41,7 +41,7 @@ pub fn explain_lines<I: BufRead, O: Write>(
     Ok(Status::of(is_right))
 }
 
-/// Writes a note on each member of a line that its command does not have.
+/// Writes a note on each member of a line that its command, or a stream of its push, does not have.
 fn note<O: Write>(alloc: Global, number: u64, line: &[u8], output: &mut O) -> Result<()> {
     let value = match read_value(alloc, line) {
         Ok(value) => value,
@@ -49,6 +49,12 @@ fn note<O: Write>(alloc: Global, number: u64, line: &[u8], output: &mut O) -> Re
         Err(_) => return Ok(()),
     };
     for note in notes_of(alloc, &value)? {
+        put(
+            output,
+            format!(in alloc; "line {number}: note: {note}\n")?.as_str(),
+        )?;
+    }
+    for note in stream_notes_of(alloc, &value)? {
         put(
             output,
             format!(in alloc; "line {number}: note: {note}\n")?.as_str(),

@@ -4,6 +4,7 @@
 mod arguments;
 mod checking;
 mod explaining;
+mod exporting;
 mod feeding;
 mod given;
 mod in_force;
@@ -85,6 +86,7 @@ fn run_chosen<I: BufRead, O: Write, E: Write>(
         Some(("show", given)) => showing::show_files(rt, given, output),
         Some(("check", given)) => checking::check_folder(rt, given, output),
         Some(("mend", given)) => mending::mend_folder(rt, given, output),
+        Some(("export", given)) => exporting::export_folder(rt, given, output, errors),
         Some(("refusals", given)) => refusals::show_refusals(rt, given, output),
         Some(("tick", given)) => ticking::tick(rt, given, output),
         Some(("query", given)) => querying::query(rt, given, output),
