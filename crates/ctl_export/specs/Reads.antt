@@ -1,5 +1,5 @@
 -- All entries of a stream, in the order of their numbers (own).
-use Rattle.std.specs.Prelude.{◌≡◌, ℕ, List, map, IsPermutation}
+use Rattle.std.specs.Prelude.{ℕ, List, map, IsPermutation}
 use Rattle.std.specs.List.Sorted.{IsNonDecreasingBy}
 use Rattle.ing_rows.specs.Rows.{Row, StreamKey, rows_of}
 use Rattle.ing_chunk.specs.declared.numbered.Numbered.{Numbered}

@@ -1,5 +1,5 @@
-use Rattle.std.proofs.Common.{ap, ◌∙◌, map, subst, sym}
-use Rattle.std.specs.Prelude.{IsPermutation, slice_get}
+use Rattle.std.proofs.Common.{map, subst}
+use Rattle.std.specs.Prelude.{IsPermutation}
 use Rattle.ing_rows.specs.Rows.{StreamKey, rows_of}
 use Rattle.ing_parts.specs.Parts.{found_among, found_at}
 use Rattle.ctl_export.specs.Reads.{numbered_of}
