@@ -9,14 +9,15 @@ use Rattle.ing_limits.specs.Settings.{StoreSettings, Refusal, not_toml, unknown_
 use Rattle.ing_limits.specs.Faults as limits
 use Rattle.ing_limits.specs.declared.fault.SettingsFault.{SettingsFault}
 use Rattle.ing_limits.specs.declared.fault.SettingsFault.TheVariants.{NoMemory, NotToml, UnknownSetting, BadSetting}
+use Rattle.ing_session.specs.ByRows.{by_rows}
+use Rattle.ing_session.specs.Held.{Begun, BeginsOver}
 use Rattle.ing_session.specs.Manners.{Manner}
 use Rattle.ing_session.specs.declared.ending.Ending.{Ending}
 use Rattle.ing_session.specs.declared.ending.Ending.TheVariants.{NotOpened, NotRecovered}
 use Rattle.ing_node.specs.RecoverFault.{RecoverFault}
-use Rattle.ing_node.specs.RecoverFault.TheVariants as recover
-use Rattle.ing_session.specs.RelistFault.TheVariants as relist
+use Rattle.ing_session.proofs.EndingsLaws.{recover_ending, same_ending}
 use Rattle.ing_session.specs.Endings.{IsNotOpened, IsNotRecovered, ending_of_recover, ending_of_settings, is_of_run, refusal_of}
-use Rattle.ing_program.specs.Starting.{BeginSettings, GiveSettings, InManner, IsOverFolder, NamesFile, is_alone, manner_in, manner_of, started_by}
+use Rattle.ing_program.specs.Starting.{BeginSettings, GiveSettings, InManner, IsInFolder, IsOverFolder, NamesFile, is_alone, manner_in, manner_of, started_by}
 
 -- bytes that are no UTF-8 are no TOML
 pub started_unread : (file : List ℕ) → (IsUtf8 file → ⊥) → started_by file ≡ Err not_toml
@@ -48,6 +49,14 @@ refused_text file fault (Err e) text refused passed =
 pub at_manner : (P : Manner → Type 0) (settings : StoreSettings) (b : Bool) → is_alone settings ≡ b → P (manner_in b settings.shards) → P (manner_of settings)
 at_manner P settings b is p = subst (λ x. P (manner_in x settings.shards)) (sym is) p
 
+-- and over a folder
+pub in_folder : (honest : Type 0) (settings : StoreSettings) (b : Bool) → is_alone settings ≡ b → (P : Manner → ℕ → Type 0) → IsInFolder b honest settings.shards P → IsOverFolder honest settings P
+in_folder honest settings b is P p = subst (λ x. IsInFolder x honest settings.shards P) (sym is) p
+
+-- over one log, from whatever that was
+pub as_in_folder : {D : Type 0} {text : List ℕ} (honest : Type 0) (shards last : ℕ) (P : Manner → ℕ → Type 0) → ((b : Begun) × BeginsOver D text b × P (by_rows honest b) last) → IsInFolder true honest shards P
+as_in_folder honest shards last P (b, begins, p) = (b, begins.logged, last, p)
+
 -- ---- an end of the store that never failed
 
 pub at_zero : (P : ℕ → ℕ → Type 0) (a b : ℕ) → a ≡ 0 → b ≡ 0 → P a b → P 0 0
@@ -55,28 +64,28 @@ at_zero P a b first last p = subst (λ x. P x 0) first (subst (λ x. P a x) last
 
 -- ---- what is said by the bytes of a file
 
-module _ (words : List (List ℕ)) (file bytes : List ℕ) (named : NamesFile words file) (same : bytes ≡ file) where
-  in_manner : (settings : StoreSettings) (P : Manner → ℕ → Type 0) → length words ≤ 1 → P (manner_of settings) 0 → InManner words settings P
+module _ (honest : Type 0) (words : List (List ℕ)) (file bytes : List ℕ) (named : NamesFile words file) (same : bytes ≡ file) where
+  in_manner : (settings : StoreSettings) (P : Manner → ℕ → Type 0) → length words ≤ 1 → P (manner_of settings) 0 → InManner honest words settings P
   in_manner settings P few p = by_words words few where
-    by_words : (ws : List (List ℕ)) → length ws ≤ 1 → InManner ws settings P
+    by_words : (ws : List (List ℕ)) → length ws ≤ 1 → InManner honest ws settings P
     by_words [] few = p
     by_words (path ∷ []) few = p
     by_words (path ∷ folder ∷ more) few = absurd (omega (arith, few))
 
-  over_manner : (settings : StoreSettings) (P : Manner → ℕ → Type 0) → 1 < length words → IsOverFolder settings P → InManner words settings P
+  over_manner : (settings : StoreSettings) (P : Manner → ℕ → Type 0) → 1 < length words → IsOverFolder honest settings P → InManner honest words settings P
   over_manner settings P some p = by_words words some where
-    by_words : (ws : List (List ℕ)) → 1 < length ws → InManner ws settings P
+    by_words : (ws : List (List ℕ)) → 1 < length ws → InManner honest ws settings P
     by_words [] some = absurd (omega (arith, some))
     by_words (path ∷ []) some = absurd (omega (arith, some))
     by_words (path ∷ folder ∷ more) some = p
 
   -- it is said by the words that name the file
   pub give_memory : (P : Manner → StoreSettings → ℕ → Type 0) → length words ≤ 1
-      → ((x : StoreSettings) × (started_by bytes ≡ Ok x) × P (manner_of x) x 0) → GiveSettings words P
+      → ((x : StoreSettings) × (started_by bytes ≡ Ok x) × P (manner_of x) x 0) → GiveSettings honest words P
   give_memory P few (x, is, p) = (file, named, x, subst (λ b. started_by b ≡ Ok x) same is, in_manner x (λ m failed. P m x failed) few p)
 
   pub give_over : (P : Manner → StoreSettings → ℕ → Type 0) → 1 < length words
-      → ((x : StoreSettings) × (started_by bytes ≡ Ok x) × IsOverFolder x (λ m failed. P m x failed)) → GiveSettings words P
+      → ((x : StoreSettings) × (started_by bytes ≡ Ok x) × IsOverFolder honest x (λ m failed. P m x failed)) → GiveSettings honest words P
   give_over P some (x, is, p) = (file, named, x, subst (λ b. started_by b ≡ Ok x) same is, over_manner x (λ m failed. P m x failed) some p)
 
   pub give_begun : ((x : StoreSettings) × (started_by bytes ≡ Ok x)) → BeginSettings words
@@ -84,12 +93,12 @@ module _ (words : List (List ℕ)) (file bytes : List ℕ) (named : NamesFile wo
 
   -- where the input is known
   pub known_memory : (P : List ℕ → Manner → StoreSettings → ℕ → Type 0) → length words ≤ 1 → (known : Option (List ℕ))
-      → IfSome known (λ input. (x : StoreSettings) × (started_by bytes ≡ Ok x) × P input (manner_of x) x 0) → IfSome known (λ input. GiveSettings words (P input))
+      → IfSome known (λ input. (x : StoreSettings) × (started_by bytes ≡ Ok x) × P input (manner_of x) x 0) → IfSome known (λ input. GiveSettings honest words (P input))
   known_memory P few None said = tt
   known_memory P few (Some input) said = give_memory (P input) few said
 
   pub known_over : (P : List ℕ → Manner → StoreSettings → ℕ → Type 0) → 1 < length words → (known : Option (List ℕ))
-      → IfSome known (λ input. (x : StoreSettings) × (started_by bytes ≡ Ok x) × IsOverFolder x (λ m failed. P input m x failed)) → IfSome known (λ input. GiveSettings words (P input))
+      → IfSome known (λ input. (x : StoreSettings) × (started_by bytes ≡ Ok x) × IsOverFolder honest x (λ m failed. P input m x failed)) → IfSome known (λ input. GiveSettings honest words (P input))
   known_over P some None said = tt
   known_over P some (Some input) said = give_over (P input) some said
 
@@ -100,41 +109,17 @@ pub of_run_opened : (e : Ending) → IsTrue (is_of_run e) → IsNotOpened e → 
 of_run_opened e run (fault, is) = let wrong : false ≡ true = subst (λ x. is_of_run x ≡ true) is run in absurd cc
 
 -- how a recovery that is refused ends
-pub recover_ending : (fault : RecoverFault) → IsTrue (is_of_run (ending_of_recover fault)) ⊎ IsNotOpened (ending_of_recover fault) ⊎ IsNotRecovered (ending_of_recover fault)
-recover_ending recover.NoMemory = inl refl
-recover_ending recover.LogFault = inr (inr (recover.LogFault, refl))
-recover_ending (recover.Damaged at) = inr (inr (recover.Damaged at, refl))
-recover_ending recover.OtherSettings = inr (inr (recover.OtherSettings, refl))
-recover_ending (recover.Relist relist.NoMemory) = inl refl
-recover_ending (recover.Relist (relist.Failed key)) = inr (inr (recover.Relist (relist.Failed key), refl))
-recover_ending (recover.Relist (relist.Damaged key)) = inr (inr (recover.Relist (relist.Damaged key), refl))
-recover_ending (recover.Relist (relist.Missing key)) = inr (inr (recover.Relist (relist.Missing key), refl))
-recover_ending (recover.Relist (relist.BadObject key)) = inr (inr (recover.Relist (relist.BadObject key), refl))
-
--- and of which fault a shard is not made again
-pub not_recovered : (told fault : RecoverFault) → ending_of_recover told ≡ NotRecovered fault → (told ≡ fault) × (told ≢ recover.NoMemory)
-not_recovered recover.NoMemory fault is = absurd (cc)
-not_recovered recover.LogFault fault is = (cc, λ none. cc)
-not_recovered (recover.Damaged at) fault is = (cc, λ none. cc)
-not_recovered recover.OtherSettings fault is = (cc, λ none. cc)
-not_recovered (recover.Relist relist.NoMemory) fault is = absurd (cc)
-not_recovered (recover.Relist (relist.Failed key)) fault is = (cc, λ none. cc)
-not_recovered (recover.Relist (relist.Damaged key)) fault is = (cc, λ none. cc)
-not_recovered (recover.Relist (relist.Missing key)) fault is = (cc, λ none. cc)
-not_recovered (recover.Relist (relist.BadObject key)) fault is = (cc, λ none. cc)
-
--- the ending is what it is told to be
-pub same_ending : {X : Type 0} (e told : Ending) → IsErrOf {T = X} (Err e) told → e ≡ told
-same_ending {X} e told is = let both : ◌≡◌ {A = Result X Ending} (Err e) (Err told) = is in search (both)
+pub recover_ends : (fault : RecoverFault) → IsTrue (is_of_run (ending_of_recover fault)) ⊎ IsNotOpened (ending_of_recover fault) ⊎ IsNotRecovered (ending_of_recover fault)
+recover_ends fault = elim (recover_ending fault) [ inl run ↦ inl run | inr not ↦ inr (inr not) ]
 
 -- a run has no such ending
-pub not_of_run : {X : Type 0} (r : Result X Ending) (fault : RecoverFault) → IfErr r (λ e. IsTrue (is_of_run e) ⊎ IsNotOpened e) → IsErrOf r (NotRecovered fault) → ⊥
-not_of_run {X} (Ok x) fault of is = let both : ◌≡◌ {A = Result X Ending} (Ok x) (Err (NotRecovered fault)) = is in cc
-not_of_run {X} (Err e) fault (inl run) is =
+pub not_opened_or_run : {X : Type 0} (r : Result X Ending) (fault : RecoverFault) → IfErr r (λ e. IsTrue (is_of_run e) ⊎ IsNotOpened e) → IsErrOf r (NotRecovered fault) → ⊥
+not_opened_or_run {X} (Ok x) fault of is = let both : ◌≡◌ {A = Result X Ending} (Ok x) (Err (NotRecovered fault)) = is in cc
+not_opened_or_run {X} (Err e) fault (inl run) is =
     let here : e ≡ NotRecovered fault = same_ending {X = X} e (NotRecovered fault) is in
     let wrong : false ≡ true = subst (λ x. is_of_run x ≡ true) here run in
     cc
-not_of_run {X} (Err e) fault (inr opened) is =
+not_opened_or_run {X} (Err e) fault (inr opened) is =
     let here : e ≡ NotRecovered fault = same_ending {X = X} e (NotRecovered fault) is in
     let other : NotOpened opened.0 ≡ NotRecovered fault = sym opened.1 ∙ here in
     cc

@@ -4,6 +4,7 @@ use Rattle.std.specs.Str.{is_utf8}
 use Rattle.ing_limits.specs.Settings.{StoreSettings, Refusal, not_toml, settings_of}
 use Rattle.ing_session.specs.ByRows.{by_rows}
 use Rattle.ing_session.specs.Endings.{IsNotRecovered}
+use Rattle.ing_session.specs.Held.{Begun, begun_new}
 use Rattle.ing_session.specs.Manners.{Manner}
 use Rattle.ing_session.specs.declared.ending.Ending.{Ending}
 use Rattle.ing_session.specs.declared.ending.Ending.TheVariants.{NoFolder, NoObjects, FolderInUse, MissingLog}
@@ -19,7 +20,7 @@ is_alone settings = settings.shards == 1 && settings.flushers == 1
 
 -- A shard with one flusher is nobody else's, and all that it holds is known; others lie behind locks.
 abbrev pub manner_in : Bool → ℕ → Manner
-manner_in true shards = by_rows ⊤
+manner_in true shards = by_rows ⊤ begun_new
 manner_in false shards = by_ledger began_new shards
 
 abbrev pub manner_of : StoreSettings → Manner
@@ -40,19 +41,24 @@ AreBad (path ∷ []) = ⊥
 AreBad (path ∷ folder ∷ []) = folder ≡ []
 AreBad (path ∷ folder ∷ next ∷ more) = ⊤
 
--- over a folder: what the shards begin with is what lies there, which no contract knows, and no more how often its store fails
-abbrev pub IsOverFolder : StoreSettings → (Manner → ℕ → Type 0) → Type 0
-IsOverFolder settings P = (began : Began) × (began.logs ≡ true) × (failed : ℕ) × P (by_ledger began settings.shards) failed
+-- Over a folder whose store is honest or not: what the shards begin with is what lies there, which no contract knows, and no more how often
+-- the store fails. A shard with one flusher is nobody else's there too.
+abbrev pub IsInFolder : Bool → Type 0 → ℕ → (Manner → ℕ → Type 0) → Type 0
+IsInFolder true honest shards P = (begun : Begun) × (begun.logged ≡ true) × (failed : ℕ) × P (by_rows honest begun) failed
+IsInFolder false honest shards P = (began : Began) × (began.logs ≡ true) × (failed : ℕ) × P (by_ledger began shards) failed
+
+abbrev pub IsOverFolder : Type 0 → StoreSettings → (Manner → ℕ → Type 0) → Type 0
+IsOverFolder honest settings P = IsInFolder (is_alone settings) honest settings.shards P
 
 -- the words have a folder, or it is as the settings say, over a store that does not fail
-abbrev pub InManner : List (List ℕ) → StoreSettings → (Manner → ℕ → Type 0) → Type 0
-InManner (path ∷ folder ∷ more) settings P = IsOverFolder settings P
-InManner words settings P = P (manner_of settings) 0
+abbrev pub InManner : Type 0 → List (List ℕ) → StoreSettings → (Manner → ℕ → Type 0) → Type 0
+InManner honest (path ∷ folder ∷ more) settings P = IsOverFolder honest settings P
+InManner honest words settings P = P (manner_of settings) 0
 
 -- these argument words name a settings file, and its bytes give settings with which this is said of a run
-abbrev pub GiveSettings : List (List ℕ) → (Manner → StoreSettings → ℕ → Type 0) → Type 0
-GiveSettings words P =
-    (file : List ℕ) × NamesFile words file × (settings : StoreSettings) × (started_by file ≡ Ok settings) × InManner words settings (λ m failed. P m settings failed)
+abbrev pub GiveSettings : Type 0 → List (List ℕ) → (Manner → StoreSettings → ℕ → Type 0) → Type 0
+GiveSettings honest words P =
+    (file : List ℕ) × NamesFile words file × (settings : StoreSettings) × (started_by file ≡ Ok settings) × InManner honest words settings (λ m failed. P m settings failed)
 
 -- they begin so, whatever the run comes to
 abbrev pub BeginSettings : List (List ℕ) → Type 0

@@ -15,4 +15,4 @@ pub use program::{start, start_on};
 pub use shards::{run_locked, run_recovered, run_shards};
 
 // What its callers meet of the crates below.
-pub use ing_session::{Ending, conclude, run};
+pub use ing_session::{Ending, conclude, run, run_over};

@@ -36,20 +36,20 @@ pub fn start<
     W: Write,
 >(rt: &H, folders: &X, words: &[String], reader: &mut R, writer: &mut W) -> Result<(), Ending>
     ensures output { OnOk result (IfSome (R.remaining reader.old) (λ input.
-        GiveSettings (map string_bytes words.now) (λ manner settings failed.
+        GiveSettings E.is_honest (map string_bytes words.now) (λ manner settings failed.
         AnswersAll manner settings input 0 failed (W.contents writer.old) (W.contents writer.new)))) }
     ensures input_fault { IsErrOf result Ending.InputFault →
         IfSome (R.remaining reader.old) (λ input.
-        GiveSettings (map string_bytes words.now) (λ manner settings failed.
+        GiveSettings E.is_honest (map string_bytes words.now) (λ manner settings failed.
         AnswersWhatWasRead manner settings input (R.remaining reader.new) 0 failed
         (W.contents writer.old) (W.contents writer.new))) }
     ensures no_memory { IsErrOf result Ending.NoMemory → (writer.new ≡ writer.old)
         ⊎ IfSome (R.remaining reader.old) (λ input.
-        GiveSettings (map string_bytes words.now) (λ manner settings failed.
+        GiveSettings E.is_honest (map string_bytes words.now) (λ manner settings failed.
         AnswersFirstLines manner settings input 0 failed (W.contents writer.old) (W.contents writer.new))) }
     ensures output_fault { IsErrOf result Ending.OutputFault →
         IfSome (R.remaining reader.old) (λ input.
-        GiveSettings (map string_bytes words.now) (λ manner settings failed.
+        GiveSettings E.is_honest (map string_bytes words.now) (λ manner settings failed.
         AnswersFront manner settings input 0 failed (W.contents writer.old) (W.contents writer.new))) }
     ensures begun { IsErrOf result Ending.OutputFault → BeginSettings (map string_bytes words.now) }
     ensures refused { IfErr result (λ e. IfSome (refusal_of e) (λ refusal.
@@ -142,7 +142,7 @@ pub fn start_on<T: AllocGlobal + Threads + Wait + Sync, R: Read, W: Write>(
 }
 
 /// Whether there are one shard and one flusher.
-fn is_alone(settings: &Settings) -> bool
+pub(crate) fn is_alone(settings: &Settings) -> bool
     ensures both { result ≡ is_alone settings.now }
     ensures one { result ≡ true → settings.now.shards ≡ 1 }
 {

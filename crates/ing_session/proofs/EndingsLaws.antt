@@ -1,10 +1,14 @@
 -- Faults as the endings that they become.
-use Rattle.std.proofs.Common.{◌≡◌, ◌≢◌, Result, Err}
+use Rattle.std.proofs.Common.{◌≡◌, ◌≢◌, ◌⊎◌, inl, inr, false, true, refl, subst, Result, Ok, Err}
+use Rattle.std.specs.Prelude.{IfErr, IsErrOf, IsTrue}
+use Rattle.ing_shard.specs.declared.recover_fault.RecoverFault.{RecoverFault}
+use Rattle.ing_shard.specs.declared.recover_fault.RecoverFault.TheVariants as recover
+use Rattle.ing_shard.specs.RelistFault.TheVariants as relist
 use Rattle.ing_session.specs.declared.lines.LineError.{LineError}
 use Rattle.ing_session.specs.declared.lines.LineError.TheVariants as lines
 use Rattle.ing_session.specs.declared.ending.Ending.{Ending}
-use Rattle.ing_session.specs.declared.ending.Ending.TheVariants.{NoMemory, InputFault, OutputFault}
-use Rattle.ing_session.specs.Endings.{ending_of_line}
+use Rattle.ing_session.specs.declared.ending.Ending.TheVariants.{NoMemory, InputFault, OutputFault, NotRecovered}
+use Rattle.ing_session.specs.Endings.{IsNotRecovered, ending_of_line, ending_of_recover, is_of_run}
 
 -- want of memory is no fault of the input
 pub of_no_memory : {T : Type 0} (r : Result T Ending) (fault : LineError) (ending : Ending) → r ≡ Err ending → ending ≡ ending_of_line fault → r ≡ Err InputFault → fault ≢ lines.NoMemory
@@ -27,3 +31,43 @@ no_line_output lines.NoMemory is = absurd cc
 -- a fault of the input is none of the output
 pub no_output_read : (fault : Ending) → fault ≡ InputFault → fault ≢ OutputFault
 no_output_read fault is other = absurd (cc (is, other))
+
+-- how a recovery that is refused ends
+pub recover_ending : (fault : RecoverFault) → IsTrue (is_of_run (ending_of_recover fault)) ⊎ IsNotRecovered (ending_of_recover fault)
+recover_ending recover.NoMemory = inl refl
+recover_ending recover.LogFault = inr (recover.LogFault, refl)
+recover_ending (recover.Damaged at) = inr (recover.Damaged at, refl)
+recover_ending recover.OtherSettings = inr (recover.OtherSettings, refl)
+recover_ending (recover.Relist relist.NoMemory) = inl refl
+recover_ending (recover.Relist (relist.Failed key)) = inr (recover.Relist (relist.Failed key), refl)
+recover_ending (recover.Relist (relist.Damaged key)) = inr (recover.Relist (relist.Damaged key), refl)
+recover_ending (recover.Relist (relist.Missing key)) = inr (recover.Relist (relist.Missing key), refl)
+recover_ending (recover.Relist (relist.BadObject key)) = inr (recover.Relist (relist.BadObject key), refl)
+
+-- and of which fault a shard is not made again
+pub not_recovered : (told fault : RecoverFault) → ending_of_recover told ≡ NotRecovered fault → (told ≡ fault) × (told ≢ recover.NoMemory)
+not_recovered recover.NoMemory fault is = absurd (cc)
+not_recovered recover.LogFault fault is = (cc, λ none. cc)
+not_recovered (recover.Damaged at) fault is = (cc, λ none. cc)
+not_recovered recover.OtherSettings fault is = (cc, λ none. cc)
+not_recovered (recover.Relist relist.NoMemory) fault is = absurd (cc)
+not_recovered (recover.Relist (relist.Failed key)) fault is = (cc, λ none. cc)
+not_recovered (recover.Relist (relist.Damaged key)) fault is = (cc, λ none. cc)
+not_recovered (recover.Relist (relist.Missing key)) fault is = (cc, λ none. cc)
+not_recovered (recover.Relist (relist.BadObject key)) fault is = (cc, λ none. cc)
+
+-- the ending is what it is told to be
+pub same_ending : {X : Type 0} (e told : Ending) → IsErrOf {T = X} (Err e) told → e ≡ told
+same_ending {X} e told is = let both : ◌≡◌ {A = Result X Ending} (Err e) (Err told) = is in search (both)
+
+-- a run that began has no such ending
+pub not_of_run : {X : Type 0} (r : Result X Ending) (fault : RecoverFault) → IfErr r (λ e. IsTrue (is_of_run e)) → IsErrOf r (NotRecovered fault) → ⊥
+not_of_run {X} (Ok x) fault of is = let both : ◌≡◌ {A = Result X Ending} (Ok x) (Err (NotRecovered fault)) = is in cc
+not_of_run {X} (Err e) fault run is =
+    let here : e ≡ NotRecovered fault = same_ending {X = X} e (NotRecovered fault) is in
+    let wrong : false ≡ true = subst (λ x. is_of_run x ≡ true) here run in
+    cc
+
+-- and so none of those of a shard that was not made again
+pub of_run_recovered : (e : Ending) → IsTrue (is_of_run e) → IsNotRecovered e → ⊥
+of_run_recovered e run (fault, is) = let wrong : false ≡ true = subst (λ x. is_of_run x ≡ true) is run in absurd cc

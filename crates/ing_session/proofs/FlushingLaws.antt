@@ -1,13 +1,12 @@
 -- The operations of a flush, one after another.
-use Rattle.std.proofs.Common.{◌≡◌, ◌≢◌, ℕ, ◌+◌, ◌<◌, ◌≤◌, List, [], ◌∷◌, ◌++◌, length, get_or, take, refl, sym, ap, subst, ◌∙◌, arith, None, Some, Err}
+use Rattle.std.proofs.Common.{◌≡◌, ◌≢◌, ℕ, ◌+◌, ◌<◌, ◌≤◌, List, [], ◌∷◌, ◌++◌, length, get_or, take, refl, sym, ap, subst, ◌∙◌, arith, Some, Err}
 use Rattle.std.specs.Prelude.{Option, slice_get}
 use Rattle.std.proofs.lemmas.List.{take_more}
-use Rattle.std.proofs.lemmas.List.Sorted.{IsPermutation-refl, IsPermutation-trans}
+use Rattle.std.proofs.lemmas.List.Sorted.{IsPermutation-refl}
 use Rattle.std.proofs.lemmas.List.Sums.{sum_by_push}
 use Rattle.ing_limits.specs.Ranges.{rules_for}
 use Rattle.ing_limits.specs.Settings.{StoreSettings}
 use Rattle.ing_rows.specs.declared.rules.Rules.{Rules}
-use Rattle.ing_rows.specs.Flushes.{FlushesHaveNoOrder}
 use Rattle.ing_rows.specs.Rows.{StreamKey, State, IsSame}
 use Rattle.ing_rows.specs.Steps.{Claims, Finishes, GivesBack}
 use Rattle.ing_store.specs.declared.fault.StoreFault.{StoreFault}
@@ -21,31 +20,8 @@ use Rattle.ing_session.proofs.CausesLaws.{one_failure}
 use Rattle.ing_session.specs.Causes.{HaveCause}
 use Rattle.ing_session.specs.Flushing.{Outcome, NoneWaited, GaveBack, Stored, Ends, EndSo, failed_by, stored_by, failed_among, stored_among}
 
-same_refl : (a : State) → IsSame a a
+pub same_refl : (a : State) → IsSame a a
 same_refl a = record { rows = IsPermutation-refl a.rows; marks = IsPermutation-refl a.marks }
-
-same_trans : (a b c : State) → IsSame a b → IsSame b c → IsSame a c
-same_trans a b c h k = record { rows = IsPermutation-trans a.rows b.rows c.rows h.rows k.rows; marks = IsPermutation-trans a.marks b.marks c.marks h.marks k.marks }
-
-module _ (order : FlushesHaveNoOrder) (rules : List ℕ → Rules) where
-  -- from a state that is the same, an operation ends alike
-  ends_from : (s : Option StreamKey) (o : Outcome) (a b c : State) → IsSame a c → Ends rules s o a b → Ends rules s o c b
-  ends_from None NoneWaited a b c same h = same_trans b a c h same
-  ends_from None (GaveBack x) a b c same h = absurd h
-  ends_from None (Stored x) a b c same h = absurd h
-  ends_from (Some s) NoneWaited a b c same h = order.none s a b c b same (same_refl b) h
-  ends_from (Some s) (GaveBack x) a b c same h =
-      (h.0, (h.1.0, order.claims (key_in x) x.chunk.first x.flight a h.1.0 c h.1.0 same (same_refl h.1.0) h.1.1, h.1.2))
-  ends_from (Some s) (Stored x) a b c same h =
-      (h.0, (h.1.0, order.claims (key_in x) x.chunk.first x.flight a h.1.0 c h.1.0 same (same_refl h.1.0) h.1.1, h.1.2))
-
-  -- and so do all of them, but that the state is left as it was where there is none
-  pub end_from : (listed : List StreamKey) (ops : List Op) (os : List Outcome) (a b c : State) → IsSame a c → EndSo rules listed ops os a b
-      → (d : State) × EndSo rules listed ops os c d × IsSame b d
-  end_from listed [] [] a b c same h = (c, refl, subst (λ x. IsSame x c) (sym h) same)
-  end_from listed (op ∷ ops) (o ∷ os) a b c same h = (b, (h.0, ends_from (slice_get listed op.stream) o a h.0 c same h.1, h.2), same_refl b)
-  end_from listed [] (o ∷ os) a b c same h = absurd h
-  end_from listed (op ∷ ops) [] a b c same h = absurd h
 
 -- a chunk is claimed, and then stored or given back
 module _ (rules : List ℕ → Rules) (s : Option StreamKey) (x : Flown) (a b c : State) (is : s ≡ Some (key_in x)) (claims : Claims (key_in x) x.chunk.first x.flight a b) where

@@ -8,5 +8,6 @@ pub mod NameLaws
 pub mod RunsLaws
 pub mod ObeyLaws
 pub mod StreamsLaws
-mod EndingsLaws
+pub mod EndingsLaws
 pub mod QueryLaws
+mod AloneLaws

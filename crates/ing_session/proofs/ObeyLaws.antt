@@ -1,22 +1,20 @@
 -- What a command does, from what it is made of.
-use Rattle.std.proofs.Common.{◌≡◌, ◌≢◌, ℕ, Bool, true, false, List, [], ◌++◌, append-nil, refl, subst, sym, ◌∙◌, Result, Ok, Err}
-use Rattle.std.specs.Prelude.{if◌then◌else◌, IfOk, OnOk, IsErr}
+use Rattle.std.proofs.Common.{◌≡◌, ◌≢◌, ℕ, true, false, List, [], ◌++◌, append-nil, refl, subst, sym, ◌∙◌, Result, Ok, Err}
+use Rattle.std.specs.Prelude.{IfOk, OnOk, IsErr}
 use Rattle.std.specs.declared.alloc.AllocError.{AllocError}
 use Rattle.serde_json.specs.Data.{Data}
 use Rattle.ing_limits.specs.Settings.{StoreSettings}
 use Rattle.ing_commands.specs.declared.fault.LineFault.{LineFault}
-use Rattle.ing_store.specs.declared.store_end.Receipt.{Ghosts}
 use Rattle.ing_commands.specs.declared.fault.LineFault.TheVariants.{NoMemory}
 use Rattle.ing_session.specs.declared.reply.Reply.{Reply}
-use Rattle.ing_session.specs.declared.one_shard.OneShard.{OneShard}
 use Rattle.ing_commands.specs.Commands.{Command, Flush, command_of}
 use Rattle.ing_commands.specs.FlushCommands.{FlushCommand}
-use Rattle.ing_session.specs.Held.{Held, IsHeld}
+use Rattle.ing_session.specs.Held.{Begun, Held}
 use Rattle.ing_session.specs.Replies.{flush_data, line_text}
 use Rattle.ing_session.specs.Flushed.{IsFlushed}
 use Rattle.ing_session.specs.Manners.{Manner, Obeys, is_blank, is_long, line_fault}
 use Rattle.ing_session.specs.Runs.{Answers, IsObeyed}
-use Rattle.ing_session.specs.ByRows.{Flushes, after_flush, by_rows, growing_in, to_flush}
+use Rattle.ing_session.specs.ByRows.{BeginsFlush, Flushes, ObeysCommand, by_rows}
 use Rattle.ing_session.specs.Views.{reply_data}
 use Rattle.ing_session.proofs.CausesLaws.{no_failure}
 
@@ -25,37 +23,34 @@ pub obeyed : (m : Manner) (settings : StoreSettings) (old left : m.Held) (now_ho
     → IsObeyed m settings said old now_holds n n reply
 obeyed m settings old left now_holds said n reply holds obeys = record { failed = 0; left = left; obeys = obeys; causes = no_failure n; holds = holds }
 
-module _ {R : Type 0} {g : Ghosts R} (honest : Type 0) (settings : StoreSettings) (old : Held) (new : OneShard R g) where
-  -- a flush, by whether it was forced
-  pub obeys_flush : (now : StoreSettings) (flush : FlushCommand) (forced : Bool) (before after failed sealed stored : ℕ) → now ≡ settings → flush.forced ≡ forced
-      → IsFlushed now (to_flush forced old) new before after failed stored → sealed ≡ (if forced then growing_in old else 0)
-      → IsObeyed (by_rows honest) settings (Ok (Flush flush)) old (IsHeld new) before after (flush_data failed sealed stored)
-  obeys_flush now flush forced before after failed sealed stored same is_forced worked counted =
+module _ (honest : Type 0) (begun : Begun) (settings : StoreSettings) (old new : Held) where
+  -- what works nothing off and asks no store, from what is held
+  pub obeys : (command : Command) (n : ℕ) (reply : Data) → ObeysCommand honest begun.logged settings old new 0 reply command → (held : Held) → held ≡ old
+      → IsObeyed (by_rows honest begun) settings (Ok command) held (λ left. left ≡ new) n n reply
+  obeys command n reply does held is =
+      subst (λ h. IsObeyed (by_rows honest begun) settings (Ok command) h (λ left. left ≡ new) n n reply) (sym is)
+      (obeyed (by_rows honest begun) settings old new (λ left. left ≡ new) (Ok command) n reply refl does)
+
+  -- a flush
+  pub obeys_flush : (flush : FlushCommand) (sealed : ℕ) (mid : Held) (before after failed stored : ℕ) → BeginsFlush settings flush.forced sealed old mid
+      → IsFlushed begun.logged settings mid new before after failed stored
+      → IsObeyed (by_rows honest begun) settings (Ok (Flush flush)) old (λ left. left ≡ new) before after (flush_data failed sealed stored)
+  obeys_flush flush sealed mid before after failed stored begins worked =
       record {
         failed = failed;
-        left = after_flush flushed.left old;
+        left = new;
         obeys = Flushes (record {
-          outcomes = flushed.outcomes;
-          rows = flushed.left;
-          may_be = flushed.may_be;
-          told = rw (flushed.failures, flushed.successes, is) refl;
-          left = refl;
-          failures = flushed.failures;
+          sealed = sealed;
+          mid = mid;
+          begins = begins;
+          outcomes = worked.outcomes;
+          works = worked.works;
+          told = rw (worked.failures, worked.successes) refl;
+          failures = worked.failures;
         });
-        causes = flushed.causes;
-        holds = held flush.forced flushed.holds;
-      } where
-        flushed : IsFlushed settings (to_flush flush.forced old) new before after failed stored
-        flushed =
-            subst (λ s. IsFlushed s (to_flush flush.forced old) new before after failed stored) same
-            (subst (λ b. IsFlushed now (to_flush b old) new before after failed stored) (sym is_forced) worked)
-
-        is : sealed ≡ (if flush.forced then growing_in old else 0)
-        is = subst (λ b. sealed ≡ (if b then growing_in old else 0)) (sym is_forced) counted
-
-        held : (b : Bool) → IsHeld new (after_flush flushed.left (to_flush b old)) → IsHeld new (after_flush flushed.left old)
-        held true h = h
-        held false h = h
+        causes = worked.causes;
+        holds = refl;
+      }
 
 -- what is replied to a fault that is no want of memory
 pub obeys_fault : (m : Manner) (settings : StoreSettings) (now_holds : m.Held → Type 0) (said : Result Command LineFault) (n : ℕ) (fault : LineFault) (r : Result Reply AllocError)

@@ -19,13 +19,11 @@ use Rattle.ing_query.specs.Fetched.{Counts, NotBad}
 use Rattle.ing_query.specs.declared.fault.QueryFault.{QueryFault}
 use Rattle.ing_query.specs.declared.fault.QueryFault.TheVariants.{NoMemory, StoreFault, BadObject}
 use Rattle.ing_rows.specs.Rows.{Row, StreamKey}
-use Rattle.ing_store.specs.declared.store_end.Receipt.{Ghosts}
 use Rattle.ing_session.specs.declared.reply.Reply.{Reply}
-use Rattle.ing_session.specs.declared.one_shard.OneShard.{OneShard}
 use Rattle.ing_commands.specs.Commands.{Query}
 use Rattle.ing_query.specs.QueryFaults.{query_refusal_of}
 use Rattle.ing_session.specs.Causes.{HaveCause}
-use Rattle.ing_session.specs.Held.{Held, IsHeld}
+use Rattle.ing_session.specs.Held.{Begun, Held}
 use Rattle.ing_session.specs.Queries.{Answer, Refused, Failed, Damaged, QueryMayBe, Reads, IsFound, failed_of}
 use Rattle.ing_commands.specs.QueryCommands.{QueryCommand}
 use Rattle.ing_session.specs.Replies.{fault_data}
@@ -64,35 +62,36 @@ risen before after NoMemory counted = counted
 risen before after (StoreFault key) counted = counted.0
 risen before after (BadObject key) counted = omega (arith, counted)
 
-module _ {R : Type 0} {g : Ghosts R} (honest : Type 0) (settings : StoreSettings) (query : QueryCommand) (one : OneShard R g) where
+module _ (honest : Type 0) (begun : Begun) (settings : StoreSettings) (query : QueryCommand) (held : Held) where
   -- a query that came to this is obeyed
-  pub obeys_query : (old : Held) (answer : Answer) (before after : ℕ) (reply : Data) → IsHeld one old → QueryMayBe honest query answer old.state.rows
-      → reply ≡ query_reply answer old → HaveCause before after (failed_of answer) → IsObeyed (by_rows honest) settings (Ok (Query query)) old (IsHeld one) before after reply
-  obeys_query old answer before after reply holds may_be told causes =
+  pub obeys_query : (answer : Answer) (before after : ℕ) (reply : Data) → QueryMayBe honest query answer held.state.rows
+      → reply ≡ query_reply answer held → HaveCause before after (failed_of answer)
+      → IsObeyed (by_rows honest begun) settings (Ok (Query query)) held (λ left. left ≡ held) before after reply
+  obeys_query answer before after reply may_be told causes =
       record {
         failed = failed_of answer;
-        left = old;
+        left = held;
         obeys = Queries (record { answer = answer; may_be = may_be; told = told; left = refl; failures = refl });
         causes = causes;
-        holds = holds;
+        holds = refl;
       }
 
   -- its text is refused
   pub refused : (n : ℕ) (fault : TextFault) (r : Result Reply AllocError) → IsSelectorFault query.text fault → (fault ≡ texts.NoMemory → IsErr r)
       → IfOk r (λ reply. reply_data reply ≡ fault_data (text_refusal_of fault) (text_fault_place fault))
-      → IfOk r (λ reply. (old : Held) → IsHeld one old → IsObeyed (by_rows honest) settings (Ok (Query query)) old (IsHeld one) n n (reply_data reply))
+      → IfOk r (λ reply. IsObeyed (by_rows honest begun) settings (Ok (Query query)) held (λ left. left ≡ held) n n (reply_data reply))
   refused n fault (Err e) is memory told = tt
-  refused n fault (Ok reply) is memory told = λ old holds.
+  refused n fault (Ok reply) is memory told =
       let other : fault ≢ texts.NoMemory = λ none. (let no = memory none in absurd cc) in
-      obeys_query old (Refused fault) n n (reply_data reply) holds (is, other) told (no_failure n)
+      obeys_query (Refused fault) n n (reply_data reply) (is, other) told (no_failure n)
 
   -- the store does not let it be answered
   pub not_answered : (before after : ℕ) (fault : QueryFault) (r : Result Reply AllocError) → Reads query.text → (honest → NotBad fault) → Counts before after fault
       → (fault ≡ NoMemory → IsErr r) → IfOk r (λ reply. reply_data reply ≡ fault_data (query_refusal_of fault) None)
-      → IfOk r (λ reply. (old : Held) → IsHeld one old → IsObeyed (by_rows honest) settings (Ok (Query query)) old (IsHeld one) before after (reply_data reply))
+      → IfOk r (λ reply. IsObeyed (by_rows honest begun) settings (Ok (Query query)) held (λ left. left ≡ held) before after (reply_data reply))
   not_answered before after fault (Err e) reads good counted memory told = tt
   not_answered before after NoMemory (Ok reply) reads good counted memory told = let no = memory refl in absurd cc
-  not_answered before after (StoreFault key) (Ok reply) reads good counted memory told = λ old holds.
-      obeys_query old Failed before after (reply_data reply) holds reads told (one_failure before after counted.0 counted.1)
-  not_answered before after (BadObject key) (Ok reply) reads good counted memory told = λ old holds.
-      obeys_query old Damaged before after (reply_data reply) holds (reads, good) told (same_count before after counted)
+  not_answered before after (StoreFault key) (Ok reply) reads good counted memory told =
+      obeys_query Failed before after (reply_data reply) reads told (one_failure before after counted.0 counted.1)
+  not_answered before after (BadObject key) (Ok reply) reads good counted memory told =
+      obeys_query Damaged before after (reply_data reply) (reads, good) told (same_count before after counted)

@@ -1,72 +1,90 @@
 -- One more stream of a push.
-use Rattle.std.proofs.Common.{◌≡◌, ◌≢◌, ℕ, ◌<◌, ◌≤◌, true, false, List, [], ◌∷◌, ◌++◌, length, refl, sym, ap, subst, arith, inl, inr, Ok, Err, None}
+use Rattle.std.proofs.Common.{◌≡◌, ◌≢◌, ◌∙◌, ℕ, ◌-◌, ◌<◌, ◌≤◌, min, take, Bool, true, false, List, [], ◌∷◌, ◌++◌, length, refl, sym, ap, subst, arith, inl, inr, Ok, Err, None}
 use Rattle.std.specs.Prelude.{◌⊎◌, ◌↔◌, IsErrOf, Result, IfOk, OnOk, IsErr}
 use Rattle.std.proofs.lemmas.Bool.{false_from_ne_true}
+use Rattle.std.proofs.lemmas.List.{length-take, take_min}
 use Rattle.std.proofs.lemmas.Result.{IfOk-from_err}
+use Rattle.ing_limits.specs.Settings.{StoreSettings}
+use Rattle.ing_shard.specs.declared.sealing.Op.{Op}
 use Rattle.std.proofs.lemmas.Bool.Decides.{nat_tests}
 use Rattle.ing_labels.specs.declared.fault.LabelFault.{LabelFault}
 use Rattle.ing_labels.specs.declared.fault.LabelFault.TheVariants as labels
 use Rattle.ing_labels.specs.Labels.{LabelMap, labels_of}
-use Rattle.ing_labels.specs.Canonical.{canonical_of}
 use Rattle.ing_shard.specs.declared.fault.PushFault.{PushFault}
 use Rattle.ing_shard.specs.declared.fault.PushFault.TheVariants.{NoMemory, CounterFull, TooManyEntries}
 use Rattle.ing_shard.specs.Faults.{refusal_of}
 use Rattle.ing_shard.specs.Contents.{stream_of}
 use Rattle.ing_rows.specs.Events.{is_full}
-use Rattle.ing_rows.specs.Steps.{verdicts_of}
-use Rattle.ing_session.specs.Replies.{fault_data, judged_data}
+use Rattle.serde_json.specs.Data.{Data}
+use Rattle.ing_session.specs.Replies.{fault_data}
 use Rattle.ing_rows.specs.declared.rules.Rules.{Rules}
 use Rattle.ing_session.specs.Held.{Held}
 use Rattle.ing_commands.specs.PushCommands.{StreamEntries}
-use Rattle.ing_session.specs.ByRows.{limits_of, is_too_many, with_pushed, stream_reply, after_stream, stream_replies, after_streams}
+use Rattle.ing_session.specs.ByRows.{JudgesStream, MayTear, PushesStream, PushesStreams, RefusesStream, limits_of, is_too_many, room_for}
 
-module _ (rules : Rules) (tenant : List ℕ) (now : ℕ) where
-  pub after_more : (ss : List StreamEntries) (s : StreamEntries) (held : Held) → after_streams rules tenant now (ss ++ s ∷ []) held ≡ after_stream rules tenant now s (after_streams rules tenant now ss held)
-  after_more [] s held = refl
-  after_more (x ∷ ss) s held = after_more ss s (after_stream rules tenant now x held)
-
-  pub replies_more : (ss : List StreamEntries) (s : StreamEntries) (held : Held)
-      → stream_replies rules tenant now (ss ++ s ∷ []) held ≡ stream_replies rules tenant now ss held ++ stream_reply rules tenant now s (after_streams rules tenant now ss held) ∷ []
-  replies_more [] s held = refl
-  replies_more (x ∷ ss) s held = ap (λ l. stream_reply rules tenant now x held ∷ l) (replies_more ss s (after_stream rules tenant now x held))
+module _ (rules : List ℕ → Rules) (tenant : List ℕ) (now : ℕ) where
+  pub pushes_more : (ss : List StreamEntries) (s : StreamEntries) (a b c : Held) (replies : List Data) (reply : Data) → PushesStreams rules tenant now ss a b replies
+      → PushesStream rules tenant now s b c reply → PushesStreams rules tenant now (ss ++ s ∷ []) a c (replies ++ reply ∷ [])
+  pushes_more [] s a b c replies reply so_far this =
+      (c, reply, [], subst (λ x. PushesStream rules tenant now s x c reply) so_far.0 this, (refl, refl), ap (λ l. l ++ reply ∷ []) so_far.1)
+  pushes_more (x ∷ ss) s a b c replies reply so_far this =
+      (so_far.0, so_far.1, so_far.2 ++ reply ∷ [], so_far.3, pushes_more ss s so_far.0 b c so_far.2 reply so_far.4 this, ap (λ l. l ++ reply ∷ []) so_far.5)
 
 -- ---- what a shard answers, as the model's reply
 
-module _ (rules : Rules) (tenant : List ℕ) (now : ℕ) (s : StreamEntries) (held : Held) (labels : LabelMap) (read : labels_of (limits_of rules) s.labels ≡ Ok labels) (n : ℕ) (counted : n ≡ length s.entries) where
+module _ (rules : List ℕ → Rules) (tenant : List ℕ) (now : ℕ) (s : StreamEntries) (old new : Held) (reply : Data) (labels : LabelMap) (read : labels_of (limits_of (rules tenant)) s.labels ≡ Ok labels) (n : ℕ) (counted : n ≡ length s.entries) where
   abbrev pub TooMany : {T : Type 0} → Result T PushFault → Type 0
-  TooMany r = IsErrOf r TooManyEntries ↔ (rules.max_entries_per_push < n)
+  TooMany r = IsErrOf r TooManyEntries ↔ ((rules tenant).max_entries_per_push < n)
 
   abbrev pub Full : {T : Type 0} → Result T PushFault → Type 0
-  Full r = IsErrOf r CounterFull ↔ ((n ≤ rules.max_entries_per_push) × (is_full held.state (stream_of tenant labels) n ≡ true))
+  Full r = IsErrOf r CounterFull ↔ ((n ≤ (rules tenant).max_entries_per_push) × (is_full old.state (stream_of tenant labels) n ≡ true))
 
-  few : (rules.max_entries_per_push < n → ⊥) → is_too_many rules s ≡ false
-  few not_many = false_from_ne_true (is_too_many rules s) (λ is. not_many (grind (arith, nat_tests, is, counted)))
+  few : ((rules tenant).max_entries_per_push < n → ⊥) → is_too_many (rules tenant) s ≡ false
+  few not_many = false_from_ne_true (is_too_many (rules tenant) s) (λ is. not_many (grind (arith, nat_tests, is, counted)))
 
   -- the entries are judged
-  pub judged : {T : Type 0} (x : T) → TooMany {T = T} (Ok x) → Full {T = T} (Ok x)
-      → (stream_reply rules tenant now s held ≡ judged_data (canonical_of labels) false (verdicts_of rules (stream_of tenant labels) now s.entries held.state))
-      × (after_stream rules tenant now s held ≡ with_pushed rules (stream_of tenant labels) now s.entries held)
-  judged x many full =
-      let not_many : rules.max_entries_per_push < n → ⊥ = λ more. absurd (cc (many.1 more)) in
+  pub judged : {T : Type 0} (x : T) → TooMany {T = T} (Ok x) → Full {T = T} (Ok x) → JudgesStream rules (stream_of tenant labels) now s.entries old new reply
+      → PushesStream rules tenant now s old new reply
+  judged x many full judges =
+      let not_many : (rules tenant).max_entries_per_push < n → ⊥ = λ more. absurd (cc (many.1 more)) in
       let few_entries = few not_many in
-      let at_most : n ≤ rules.max_entries_per_push = omega (arith, not_many) in
-      let room : is_full held.state (stream_of tenant labels) (length s.entries) ≡ false =
-      false_from_ne_true _ (λ is. absurd (cc (full.1 (at_most, subst (λ k. is_full held.state (stream_of tenant labels) k ≡ true) (sym counted) is)))) in
-      rw (read, few_entries, room) (refl, refl)
+      let at_most : n ≤ (rules tenant).max_entries_per_push = omega (arith, not_many) in
+      let room : is_full old.state (stream_of tenant labels) (length s.entries) ≡ false =
+      false_from_ne_true _ (λ is. absurd (cc (full.1 (at_most, subst (λ k. is_full old.state (stream_of tenant labels) k ≡ true) (sym counted) is)))) in
+      rw (read, few_entries, room) judges
 
   -- they are refused
-  pub refused : {T : Type 0} (fault : PushFault) → TooMany {T = T} (Err fault) → Full {T = T} (Err fault) → fault ≢ NoMemory
-      → (stream_reply rules tenant now s held ≡ fault_data (refusal_of fault) None) × (after_stream rules tenant now s held ≡ held)
-  refused NoMemory many full other = absurd (other refl)
-  refused TooManyEntries many full other =
+  pub refused : {T : Type 0} (fault : PushFault) → TooMany {T = T} (Err fault) → Full {T = T} (Err fault) → fault ≢ NoMemory → RefusesStream (fault_data (refusal_of fault) None) old new reply
+      → PushesStream rules tenant now s old new reply
+  refused NoMemory many full other refuses = absurd (other refl)
+  refused TooManyEntries many full other refuses =
       let more = many.0 refl in
-      let too_many : is_too_many rules s ≡ true = grind (arith, nat_tests, more, counted) in
-      rw (read, too_many) (refl, refl)
-  refused CounterFull many full other =
+      let too_many : is_too_many (rules tenant) s ≡ true = grind (arith, nat_tests, more, counted) in
+      rw (read, too_many) refuses
+  refused CounterFull many full other refuses =
       let is = full.0 refl in
       let few_entries = few (λ more. omega (arith, more, is.0)) in
-      let filled = subst (λ k. is_full held.state (stream_of tenant labels) k ≡ true) counted is.1 in
-      rw (read, few_entries, filled) (refl, refl)
+      let filled = subst (λ k. is_full old.state (stream_of tenant labels) k ≡ true) counted is.1 in
+      rw (read, few_entries, filled) refuses
+
+-- what is torn stays so
+pub may_tear : (old new : Bool) → (old ≡ true → new ≡ true) → MayTear old new
+may_tear true new stays = stays refl
+may_tear false new stays = tt
+
+pub tears_on : (a b c : Bool) → MayTear a b → MayTear b c → MayTear a c
+tears_on true b c first then = subst (λ x. MayTear x c) first then
+tears_on false b c first then = tt
+
+-- what finds room in a queue, and how many these are
+module _ (settings : StoreSettings) (queued due ops : List Op) (room : ℕ) (same : due ≡ ops) (is : room ≡ min (settings.flush_queue_length - length queued) (length due)) where
+  pub room_taken : take room due ≡ room_for settings queued ops
+  room_taken =
+      ap (λ n. take n due) is ∙ take_min (settings.flush_queue_length - length queued) due ∙ ap (take (settings.flush_queue_length - length queued)) same
+
+  pub room_counted : room ≡ length (room_for settings queued ops)
+  room_counted =
+      is ∙ ap (λ l. min (settings.flush_queue_length - length queued) (length l)) same ∙ sym (length-take (settings.flush_queue_length - length queued) ops)
 
 -- ---- results
 

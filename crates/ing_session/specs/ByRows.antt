@@ -1,17 +1,17 @@
 -- What each command does to one shard that nobody shares, by the model alone.
-use Rattle.std.specs.Prelude.{◌≡◌, ℕ, ◌-◌, List, [], ◌∷◌, ◌++◌, length, Bool, false, nat_lt, if◌then◌else◌, None, Result, Ok, Err}
+use Rattle.std.specs.Prelude.{◌≡◌, ◌⊎◌, ⊤, ℕ, ◌-◌, List, [], ◌∷◌, ◌++◌, length, take, Bool, true, false, not, nat_lt, if◌then◌else◌, MatchBool, None, Result, Ok, Err}
 use Rattle.serde_json.specs.Data.{Data}
 use Rattle.ing_labels.specs.declared.fault.LabelLimits.{LabelLimits}
 use Rattle.ing_labels.specs.declared.fault.LabelFault.{LabelFault}
 use Rattle.ing_labels.specs.Labels.{LabelMap, labels_of}
 use Rattle.ing_labels.specs.Faults as label_faults
 use Rattle.ing_labels.specs.TextFaults.{text_refusal_of, text_fault_place}
-use Rattle.ing_labels.specs.Canonical.{canonical_of}
 use Rattle.ing_rows.specs.declared.entry.Entry.{Entry}
 use Rattle.ing_rows.specs.declared.rules.Rules.{Rules}
 use Rattle.ing_rows.specs.Rows.{StreamKey, State}
-use Rattle.ing_rows.specs.Events.{is_full, sealed_count}
-use Rattle.ing_rows.specs.Steps.{verdicts_of, after_push, due_by, forced, sealed_by, swept}
+use Rattle.ing_rows.specs.Events as events
+use Rattle.ing_rows.specs.Events.{Event, Judged, SealAll, Sealed, Step, is_full}
+use Rattle.ing_rows.specs.Steps.{verdicts_of}
 use Rattle.ing_rows.specs.Gauges.{gauges_of}
 use Rattle.ing_rows.specs.Turns.{accepted_among}
 use Rattle.ing_limits.specs.Settings.{StoreSettings}
@@ -25,7 +25,7 @@ use Rattle.ing_refusals.specs.declared.refusal.Refusal.TheVariants.{TooManyEntri
 use Rattle.ing_refusals.specs.declared.refusal.Refusal.TheVariants as refusals
 use Rattle.ing_commands.specs.Commands.{Command, Push, Sweep, Flush, Gauges, Board, Checkpoint, Query}
 use Rattle.ing_session.specs.Flushing.{Outcome, EndSo, failed_among, stored_among}
-use Rattle.ing_session.specs.Held.{Held, nothing_held, shard_number}
+use Rattle.ing_session.specs.Held.{Begun, Held, shard_number}
 use Rattle.ing_session.specs.Manners.{Manner}
 use Rattle.ing_commands.specs.FlushCommands.{FlushCommand}
 use Rattle.ing_commands.specs.GaugesCommands.{GaugesCommand}
@@ -42,119 +42,113 @@ limits_of rules = record { names = rules.max_label_names; name_bytes = rules.max
 abbrev pub is_too_many : Rules → StreamEntries → Bool
 is_too_many rules s = nat_lt rules.max_entries_per_push (length s.entries)
 
+-- ---- the log
+
+-- a torn log stays torn; a whole one may tear
+abbrev pub MayTear : Bool → Bool → Type 0
+MayTear true now = now ≡ true
+MayTear false now = ⊤
+
 -- ---- one stream of a push
+
+-- the stream is refused with this reply, and changes nothing
+pub record RefusesStream (fault : Data) (old new : Held) (reply : Data) : Type 0 where
+  pub told : reply ≡ fault
+  pub left : new ≡ old
+
+-- The entries of a stream are judged, and the accepted ones kept: durable where the log is not torn then. A stream is listed with its
+-- first accepted entry.
+pub record JudgesStream (rules : List ℕ → Rules) (s : StreamKey) (now : ℕ) (es : List Entry) (old new : Held) (reply : Data) : Type 0 where
+  pub told : reply ≡ judged_data s.name (not new.torn) (verdicts_of (rules s.tenant) s now es old.state)
+  pub step : Step rules old.state (events.Push s now es) (Judged (verdicts_of (rules s.tenant) s now es old.state)) new.state
+  pub listed : new.listed ≡ listed_after s (accepted_among es (verdicts_of (rules s.tenant) s now es old.state)) old.listed
+  pub ops : new.ops ≡ old.ops
+  pub tears : MayTear old.torn new.torn
 
 abbrev pub label_fault : LabelFault → Data
 label_fault fault = fault_data (label_faults.refusal_of fault) (label_faults.fault_place fault)
 
--- by what its labels are found to be
-abbrev pub reply_for : Rules → List ℕ → ℕ → StreamEntries → Held → Result LabelMap LabelFault → Data
-reply_for rules tenant now s held (Err fault) = label_fault fault
-reply_for rules tenant now s held (Ok labels) =
-    if is_too_many rules s then fault_data TooManyEntries None
-    else if is_full held.state (stream_of tenant labels) (length s.entries) then fault_data CounterFull None
-    else judged_data (canonical_of labels) false (verdicts_of rules (stream_of tenant labels) now s.entries held.state)
+-- by what its labels are found to be, by the rules of its tenant
+abbrev pub PushesLabelled : (List ℕ → Rules) → List ℕ → ℕ → StreamEntries → Held → Held → Data → Result LabelMap LabelFault → Type 0
+PushesLabelled rules tenant now s old new reply (Err fault) = RefusesStream (label_fault fault) old new reply
+PushesLabelled rules tenant now s old new reply (Ok labels) =
+    MatchBool (is_too_many (rules tenant) s)
+    (RefusesStream (fault_data TooManyEntries None) old new reply)
+    (MatchBool (is_full old.state (stream_of tenant labels) (length s.entries))
+    (RefusesStream (fault_data CounterFull None) old new reply)
+    (JudgesStream rules (stream_of tenant labels) now s.entries old new reply))
 
-abbrev pub stream_reply : Rules → List ℕ → ℕ → StreamEntries → Held → Data
-stream_reply rules tenant now s held = reply_for rules tenant now s held (labels_of (limits_of rules) s.labels)
-
--- with entries that were pushed to a stream
-abbrev pub with_pushed : Rules → StreamKey → ℕ → List Entry → Held → Held
-with_pushed rules s now es held =
-    record held {
-      listed = listed_after s (accepted_among es (verdicts_of rules s now es held.state)) held.listed;
-      state = after_push rules s now es held.state;
-    }
-
--- a refused stream changes nothing
-abbrev pub left_for : Rules → List ℕ → ℕ → StreamEntries → Held → Result LabelMap LabelFault → Held
-left_for rules tenant now s held (Err fault) = held
-left_for rules tenant now s held (Ok labels) =
-    if is_too_many rules s then held
-    else if is_full held.state (stream_of tenant labels) (length s.entries) then held
-    else with_pushed rules (stream_of tenant labels) now s.entries held
-
-abbrev pub after_stream : Rules → List ℕ → ℕ → StreamEntries → Held → Held
-after_stream rules tenant now s held = left_for rules tenant now s held (labels_of (limits_of rules) s.labels)
+abbrev pub PushesStream : (List ℕ → Rules) → List ℕ → ℕ → StreamEntries → Held → Held → Data → Type 0
+PushesStream rules tenant now s old new reply = PushesLabelled rules tenant now s old new reply (labels_of (limits_of (rules tenant)) s.labels)
 
 -- ---- the streams of a push, one after another
 
-abbrev pub stream_replies : Rules → List ℕ → ℕ → List StreamEntries → Held → List Data
-stream_replies rules tenant now [] held = []
-stream_replies rules tenant now (s ∷ ss) held =
-    stream_reply rules tenant now s held ∷ stream_replies rules tenant now ss (after_stream rules tenant now s held)
-
-abbrev pub after_streams : Rules → List ℕ → ℕ → List StreamEntries → Held → Held
-after_streams rules tenant now [] held = held
-after_streams rules tenant now (s ∷ ss) held = after_streams rules tenant now ss (after_stream rules tenant now s held)
+abbrev pub PushesStreams : (List ℕ → Rules) → List ℕ → ℕ → List StreamEntries → Held → Held → List Data → Type 0
+PushesStreams rules tenant now [] old new replies = (new ≡ old) × (replies ≡ [])
+PushesStreams rules tenant now (s ∷ ss) old new replies =
+    (mid : Held) × (reply : Data) × (others : List Data) × PushesStream rules tenant now s old mid reply
+    × PushesStreams rules tenant now ss mid new others × (replies ≡ reply ∷ others)
 
 -- a push is obeyed
 pub record ObeysPush (settings : StoreSettings) (push : PushCommand) (old new : Held) (failed : ℕ) (reply : Data) : Type 0 where
-  pub told : reply ≡ push_data (stream_replies (rules_for settings push.tenant) push.tenant push.now push.streams old)
-  pub left : new ≡ after_streams (rules_for settings push.tenant) push.tenant push.now push.streams old
+  pub replies : List Data
+  pub pushes : PushesStreams (rules_for settings) push.tenant push.now push.streams old new replies
+  pub told : reply ≡ push_data replies
   pub failures : failed ≡ 0
+
+-- ---- seals
+
+-- So many growing chunks are sealed by this event; no stream is listed by it.
+pub record Seals (settings : StoreSettings) (event : Event) (sealed : ℕ) (old new : Held) : Type 0 where
+  pub step : Step (rules_for settings) old.state event (Sealed sealed) new.state
+  pub listed : new.listed ≡ old.listed
+  pub tears : MayTear old.torn new.torn
+
+-- the operations that there are where this is held: one for each sealed chunk that waits
+abbrev pub ops_in : Held → List Op
+ops_in held = ops_from shard_number 0 held.listed held.state
 
 -- ---- a sweep
 
--- how many chunks are due at this time
-abbrev pub due_at : StoreSettings → ℕ → Held → ℕ
-due_at settings now held = sealed_count (due_by (rules_for settings) now held.state.rows) held.state.marks
+-- those of them that find room in the queue behind these operations
+abbrev pub room_for : StoreSettings → List Op → List Op → List Op
+room_for settings queued ops = take (settings.flush_queue_length - length queued) ops
 
--- the operations that there are once they are sealed: one for each sealed chunk that waits
-abbrev pub ops_at : StoreSettings → ℕ → Held → List Op
-ops_at settings now held = ops_from shard_number 0 held.listed (swept (rules_for settings) now held.state)
-
-abbrev pub sweep_reply : StoreSettings → ℕ → Held → Data
-sweep_reply settings now held = sweep_data (length (ops_at settings now held)) (due_at settings now held)
-
--- they are queued behind those of earlier sweeps
-abbrev pub after_sweep : StoreSettings → ℕ → Held → Held
-after_sweep settings now held =
-    record held { state = swept (rules_for settings) now held.state; ops = held.ops ++ ops_at settings now held }
-
--- a sweep is obeyed
+-- A sweep is obeyed: what is due is sealed, and the operations are queued behind those of earlier sweeps, as many as find room.
 pub record ObeysSweep (settings : StoreSettings) (sweep : SweepCommand) (old new : Held) (failed : ℕ) (reply : Data) : Type 0 where
-  pub told : reply ≡ sweep_reply settings sweep.now old
-  pub left : new ≡ after_sweep settings sweep.now old
+  pub sealed : ℕ
+  pub seals : Seals settings (events.Sweep sweep.now) sealed old new
+  pub queued : new.ops ≡ old.ops ++ room_for settings old.ops (ops_in new)
+  pub told : reply ≡ sweep_data (length (room_for settings old.ops (ops_in new))) sealed
   pub failures : failed ≡ 0
 
 -- ---- a flush
 
--- how many chunks are growing
-abbrev pub growing_in : Held → ℕ
-growing_in held = sealed_count forced held.state.marks
-
--- with each of them sealed, and an operation for each sealed chunk that waits
-abbrev pub with_sealed : Held → Held
-with_sealed held =
-    record held {
-      state = sealed_by forced held.state;
-      ops = held.ops ++ ops_from shard_number 0 held.listed (sealed_by forced held.state);
-    }
+-- each growing chunk is sealed, and there is an operation for each sealed chunk that waits
+pub record SealsAll (settings : StoreSettings) (sealed : ℕ) (old new : Held) : Type 0 where
+  pub seals : Seals settings SealAll sealed old new
+  pub queued : new.ops ≡ old.ops ++ ops_in new
 
 -- what is held when its operations begin
-abbrev pub to_flush : Bool → Held → Held
-to_flush is_forced held = if is_forced then with_sealed held else held
+abbrev pub BeginsFlush : StoreSettings → Bool → ℕ → Held → Held → Type 0
+BeginsFlush settings is_forced sealed old new = MatchBool is_forced (SealsAll settings sealed old new) ((sealed ≡ 0) × (new ≡ old))
 
-abbrev pub flush_reply : Bool → List Outcome → Held → Data
-flush_reply is_forced outcomes held =
-    flush_data (failed_among outcomes) (if is_forced then growing_in held else 0) (stored_among outcomes)
+-- The operations are worked off, and ended so. Each is of one chunk at most. The log may tear, or be replaced by a checkpoint where it is
+-- torn and something was stored.
+pub record WorksOff (logged : Bool) (settings : StoreSettings) (outcomes : List Outcome) (old new : Held) : Type 0 where
+  pub ended : EndSo (rules_for settings) old.listed old.ops outcomes old.state new.state
+  pub listed : new.listed ≡ old.listed
+  pub ops : new.ops ≡ []
+  pub tears : (logged ≡ false) ⊎ (stored_among outcomes ≡ 0) → MayTear old.torn new.torn
 
--- the operations may end so, and leave these rows and marks
-abbrev pub FlushMayBe : StoreSettings → List Outcome → State → Held → Type 0
-FlushMayBe settings outcomes left held = EndSo (rules_for settings) held.listed held.ops outcomes held.state left
-
--- no operation is left; the rows and marks are these
-abbrev pub after_flush : State → Held → Held
-after_flush left held = record held { state = left; ops = [] }
-
--- a flush is obeyed: its operations ended so, and left these rows and marks
-pub record ObeysFlush (settings : StoreSettings) (flush : FlushCommand) (old new : Held) (failed : ℕ) (reply : Data) : Type 0 where
+-- a flush is obeyed
+pub record ObeysFlush (logged : Bool) (settings : StoreSettings) (flush : FlushCommand) (old new : Held) (failed : ℕ) (reply : Data) : Type 0 where
+  pub sealed : ℕ
+  pub mid : Held
+  pub begins : BeginsFlush settings flush.forced sealed old mid
   pub outcomes : List Outcome
-  pub rows : State
-  pub may_be : FlushMayBe settings outcomes rows (to_flush flush.forced old)
-  pub told : reply ≡ flush_reply flush.forced outcomes old
-  pub left : new ≡ after_flush rows old
+  pub works : WorksOff logged settings outcomes mid new
+  pub told : reply ≡ flush_data (failed_among outcomes) sealed (stored_among outcomes)
   pub failures : failed ≡ failed_among outcomes
 
 -- ---- a question for gauges
@@ -185,14 +179,13 @@ pub record ObeysBoard (old new : Held) (failed : ℕ) (reply : Data) : Type 0 wh
 
 -- ---- a checkpoint
 
--- a shard without a log has none that a checkpoint replaces
-abbrev pub checkpoint_reply : Data
-checkpoint_reply = checkpoint_data (false ∷ [])
-
--- it is answered, and changes nothing
-pub record ObeysCheckpoint (old new : Held) (failed : ℕ) (reply : Data) : Type 0 where
-  pub told : reply ≡ checkpoint_reply
-  pub left : new ≡ old
+-- Where there is a log, a checkpoint is put in the place of all that it has, and it is not torn then, or it is torn; without one nothing is
+-- published, and nothing changes.
+pub record ObeysCheckpoint (logged : Bool) (old new : Held) (failed : ℕ) (reply : Data) : Type 0 where
+  pub published : Bool
+  pub without : logged ≡ false → published ≡ false
+  pub told : reply ≡ checkpoint_data (published ∷ [])
+  pub left : new ≡ (if logged then record old { torn = not published } else old)
   pub failures : failed ≡ 0
 
 -- ---- a query
@@ -214,37 +207,39 @@ pub record ObeysQuery (honest : Type 0) (query : QueryCommand) (old new : Held) 
 
 -- ---- one command, by the rules of the tenant that it names
 
--- From old, a command may be obeyed, with this reply and so many failed uploads and queries, and leave new.
-pub data ObeysCommand (honest : Type 0) (settings : StoreSettings) (old new : Held) (failed : ℕ) (reply : Data) : Command → Type 0 where
-  Pushes : {push : PushCommand} → ObeysPush settings push old new failed reply → ObeysCommand honest settings old new failed reply (Push push)
-  Sweeps : {sweep : SweepCommand} → ObeysSweep settings sweep old new failed reply → ObeysCommand honest settings old new failed reply (Sweep sweep)
-  Flushes : {flush : FlushCommand} → ObeysFlush settings flush old new failed reply → ObeysCommand honest settings old new failed reply (Flush flush)
-  AsksGauges : {gauges : GaugesCommand} → ObeysGauges gauges old new failed reply → ObeysCommand honest settings old new failed reply (Gauges gauges)
-  AsksBoard : ObeysBoard old new failed reply → ObeysCommand honest settings old new failed reply Board
-  Checkpoints : ObeysCheckpoint old new failed reply → ObeysCommand honest settings old new failed reply Checkpoint
-  Queries : {query : QueryCommand} → ObeysQuery honest query old new failed reply → ObeysCommand honest settings old new failed reply (Query query)
+-- From old, a command may be obeyed, over an end of the store that is honest or not, with a log or without one, with this reply and so many
+-- failed uploads and queries, and leave new.
+pub data ObeysCommand (honest : Type 0) (logged : Bool) (settings : StoreSettings) (old new : Held) (failed : ℕ) (reply : Data) : Command → Type 0 where
+  Pushes : {push : PushCommand} → ObeysPush settings push old new failed reply → ObeysCommand honest logged settings old new failed reply (Push push)
+  Sweeps : {sweep : SweepCommand} → ObeysSweep settings sweep old new failed reply → ObeysCommand honest logged settings old new failed reply (Sweep sweep)
+  Flushes : {flush : FlushCommand} → ObeysFlush logged settings flush old new failed reply → ObeysCommand honest logged settings old new failed reply (Flush flush)
+  AsksGauges : {gauges : GaugesCommand} → ObeysGauges gauges old new failed reply → ObeysCommand honest logged settings old new failed reply (Gauges gauges)
+  AsksBoard : ObeysBoard old new failed reply → ObeysCommand honest logged settings old new failed reply Board
+  Checkpoints : ObeysCheckpoint logged old new failed reply → ObeysCommand honest logged settings old new failed reply Checkpoint
+  Queries : {query : QueryCommand} → ObeysQuery honest query old new failed reply → ObeysCommand honest logged settings old new failed reply (Query query)
 
 -- ---- the report
 
--- what is reported of the shard at the end: nothing is recovered, and what is not stored is kept
-abbrev pub shard_report : State → ShardReport
-shard_report st = record {
-  accepted = length st.rows;
+-- What is reported of the shard at the end, which began with so many entries: those that were accepted since, and what is not stored is
+-- kept.
+abbrev pub shard_report : ℕ → State → ShardReport
+shard_report recovered st = record {
+  accepted = length st.rows - recovered;
   kept = length st.rows - stored_count st.rows;
-  recovered = 0;
+  recovered = recovered;
   stored = stored_count st.rows;
 }
 
 -- there is one shard
-abbrev pub report_of : State → Data
-report_of st = report_data (shard_report st ∷ [])
+abbrev pub report_of : ℕ → State → Data
+report_of recovered st = report_data (shard_report recovered st ∷ [])
 
 -- ---- one shard that nobody shares, over an end of the store that is honest or not: all that it holds is known
 
-abbrev pub by_rows : Type 0 → Manner
-by_rows honest = record {
+abbrev pub by_rows : Type 0 → Begun → Manner
+by_rows honest begun = record {
   Held = Held;
-  nothing = nothing_held;
-  obeys = ObeysCommand honest;
-  reports = λ held report. report ≡ report_of held.state;
+  nothing = begun.held;
+  obeys = ObeysCommand honest begun.logged;
+  reports = λ held report. report ≡ report_of (length begun.held.state.rows) held.state;
 }

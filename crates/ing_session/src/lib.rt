@@ -2,6 +2,7 @@
 //! and over any reader and writer.
 #![tactic(auto)]
 
+mod alone;
 mod answer;
 mod concluding;
 mod ending;
@@ -13,6 +14,7 @@ mod reply;
 mod service;
 mod transport;
 
+pub use alone::{run, run_over};
 pub use concluding::conclude;
 pub use ending::Ending;
 pub use faults::{label_fault, label_limits, query_fault, selector_fault};
@@ -20,4 +22,4 @@ pub use laws::lines_end_at_line_feeds;
 pub use lines::{LineError, Lines, NextLine, Part};
 pub use reply::{Reply, StreamReply};
 pub use service::Service;
-pub use transport::{run, serve_all};
+pub use transport::serve_all;

@@ -2,7 +2,6 @@
 ghost use Rattle.std.specs.Prelude.{◌≡◌, ◌≢◌, ◌<◌, ◌≤◌, [], ℕ, List, Option, IfOk, IfErr, OnOk, OnErr, IsErrOf, IfSome, IsTrue, MatchBool, Err, true, false, vec_len};
 ghost use Rattle.std.specs.Io.KnownBytes.{Appends, Consumes, Keeps, IsAtEnd};
 ghost use Rattle.ing_limits.specs.Settings.{StoreSettings};
-ghost use Rattle.ing_session.specs.ByRows.{by_rows};
 ghost use Rattle.ing_session.specs.Endings.{is_of_run};
 ghost use Rattle.ing_session.specs.Causes.{GoesOn};
 ghost use Rattle.ing_session.specs.FlushCalls.{FlushesSo};
@@ -15,12 +14,9 @@ ghost use Rattle.ing_session.specs.Unread.{left, is_ended, progress};
 use crate::answer::{answer, refuse_long};
 use crate::ending::Ending;
 use crate::lines::{Lines, MAX_LINE, NextLine, Part, found};
-use crate::one_shard::OneShard;
 use crate::reply::{Reply, add_line};
 use crate::service::Service;
 use ing_commands::Flush;
-use ing_limits::Settings;
-use ing_store::StoreEnd;
 use json::Scratch;
 use std::alloc::{AllocError, Global};
 use std::io;
@@ -28,40 +24,6 @@ use std::io::{Error, ErrorKind, Read, Write};
 
 /// How many bytes of replies are enough to be written out, though a further line is at hand.
 const ENOUGH: usize = 65_536;
-
-/// Reads commands line by line, answers each in a line, and writes a report at the end of input; flushes put into the store
-/// by `end`. The settings are of one shard. As `serve_all`, of which it is the run over a shard that nobody shares. (Own.)
-pub fn run<R: Read, W: Write, S: StoreEnd>(
-    alloc: Global,
-    reader: &mut R,
-    writer: &mut W,
-    end: &mut S,
-    settings: Settings,
-) -> Result<(), Ending>
-    requires one { settings.shards ≡ 1 }
-    // What is written is, line for line, what the model answers to the lines read, by how the uploads ended; and each that
-    // failed has a cause of its own.
-    ensures output { OnOk result (IfSome (R.remaining reader.old) (λ input.
-        AnswersAll (by_rows S.is_honest) settings input (S.failure_count end.old) (S.failure_count end.new)
-        (W.contents writer.old) (W.contents writer.new))) }
-    ensures input_fault { IsErrOf result Ending.InputFault → IfSome (R.remaining reader.old) (λ input.
-        AnswersWhatWasRead (by_rows S.is_honest) settings input (R.remaining reader.new)
-        (S.failure_count end.old) (S.failure_count end.new)
-        (W.contents writer.old) (W.contents writer.new)) }
-    ensures no_memory { IsErrOf result Ending.NoMemory → IfSome (R.remaining reader.old) (λ input.
-        AnswersFirstLines (by_rows S.is_honest) settings input (S.failure_count end.old) (S.failure_count end.new)
-        (W.contents writer.old) (W.contents writer.new)) }
-    ensures output_fault { IsErrOf result Ending.OutputFault →
-        IfSome (R.remaining reader.old) (λ input.
-        AnswersFront (by_rows S.is_honest) settings input (S.failure_count end.old) (S.failure_count end.new)
-        (W.contents writer.old) (W.contents writer.new)) }
-    ensures end { GoesOn S.never_fails S.failure_count end.old end.new }
-    ensures ending { IfErr result (λ e. IsTrue (is_of_run e)) }
-{
-    let one: OneShard<S::Receipt> = OneShard::new(alloc, settings)?;
-    let flush = |one: &mut OneShard<S::Receipt>, end: &mut S, said: Flush| one.flush(end, said);
-    serve_all(alloc, reader, writer, end, one, &flush)
-}
 
 /// Reads commands line by line, has each obeyed by the service, answers it in a line, and writes the service's report at the end
 /// of input. Replies are held back while they have fewer than 64 KiB together and a whole further line is at hand: so the memory

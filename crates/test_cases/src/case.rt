@@ -1,7 +1,11 @@
 //! One case: what goes in, and what has to come out.
 use crate::summed::are_summed;
-use anyhow::Result;
-use ing_program::{conclude, start_on};
+use anyhow::{Context, Result};
+use ing_limits::Settings;
+use ing_program::{conclude, run_over, start_on};
+use ing_store::{Fuse, MemoryStore};
+use ing_wal::MemoryLog;
+use std::alloc::Global;
 use std::rt::Files;
 use std::sync::Wait;
 use std::thread::Threads;
@@ -15,6 +19,8 @@ pub struct Case {
     output: Vec<u8>,
     /// The exit status, a line feed, and what is written to standard error.
     ending: Vec<u8>,
+    /// Whether it ends well.
+    ends_well: bool,
     /// Whether it may be run over several shards: it ends well, its settings do not say how many, and no file `alone` says why not.
     has_summed: bool,
 }
@@ -27,6 +33,7 @@ impl Case {
         let is_alone = !bytes_or(rt, name, "alone", b"")?.is_empty();
         let ends_well = ending.as_slice() == b"0\n".as_slice();
         Ok(Case {
+            ends_well,
             has_summed: ends_well && !is_alone && !names_shards(&settings),
             settings,
             input: bytes_at(rt, name, "input.jsonl")?,
@@ -35,14 +42,54 @@ impl Case {
         })
     }
 
-    /// What differs from what has to come out, if anything does: as it is, and over four shards, where it may be run so, summed.
+    /// What differs from what has to come out, if anything does: as it is, over a log, and over four shards, where it may be run so,
+    /// summed.
     pub fn difference<F: AllocGlobal + Threads + Wait + Sync>(
         &self,
         rt: &F,
     ) -> Result<Option<&'static str>> {
-        match self.own_difference(rt)? {
-            None if self.has_summed => self.difference_of_four(rt),
-            difference => Ok(difference),
+        let mut difference = self.own_difference(rt)?;
+        if difference.is_none() && self.ends_well {
+            difference = self.difference_over_a_log(rt)?;
+        }
+        if difference.is_none() && self.has_summed {
+            difference = self.difference_of_four(rt)?;
+        }
+        Ok(difference)
+    }
+
+    /// What differs over a log, of one shard with one flusher: all is told durable and published there, and nothing else is another.
+    fn difference_over_a_log<F: AllocGlobal + Wait>(&self, rt: &F) -> Result<Option<&'static str>> {
+        let alloc = rt.alloc();
+        let settings = Settings::from_toml(
+            alloc,
+            str::from_utf8(&self.settings).ok().context("text")?,
+        )?;
+        if settings.shards() != 1 || settings.flushers() != 1 {
+            return Ok(None);
+        }
+        let store = MemoryStore::new(alloc)?;
+        let (mut end, mut finder) = (store.end(rt, Fuse::None), store.end(rt, Fuse::None));
+        let mut reader = self.input.as_slice();
+        let mut output = Vec::new(alloc);
+        let log = MemoryLog::new(alloc);
+        if run_over(
+            alloc,
+            &mut reader,
+            &mut output,
+            &mut end,
+            settings,
+            log,
+            &mut finder,
+        )
+        .is_err()
+        {
+            return Ok(Some("ending over a log"));
+        }
+        if output.as_slice() == durable(alloc, &self.output)?.as_bytes() {
+            Ok(None)
+        } else {
+            Ok(Some("output over a log"))
         }
     }
 
@@ -109,4 +156,11 @@ fn names_shards(settings: &[u8]) -> bool {
     settings
         .split(|byte| *byte == b'\n')
         .any(|line| line.starts_with(b"shards"))
+}
+
+/// What has to come out over a log, by what comes out without one.
+fn durable(alloc: Global, output: &[u8]) -> Result<String> {
+    let output = str::from_utf8(output).ok().context("text")?;
+    let pushed = output.replace(alloc, "\"durable\":false", "\"durable\":true")?;
+    Ok(pushed.replace(alloc, "{\"checkpoint\":[false]}", "{\"checkpoint\":[true]}")?)
 }

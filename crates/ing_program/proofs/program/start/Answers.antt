@@ -16,7 +16,7 @@ returns-clause-output g c =
     let some : 1 < length c.args.words.now = omega (arith, c.if-words-lt2.false) in
     let size : 1 < length (map string_bytes c.args.words.now) = omega (arith, length-map c.args.words.now string_bytes, some) in
     on_ok_weaker c.start_over.result
-    (known_over (map string_bytes c.args.words.now) c.in_ok-file.file.items c.deref-2.result.now c.in_ok-file.ensures.file c.deref-2.ensures.value (λ input m x failed. AnswersAll m x input 0 failed old new) size (g.R.Read.remaining c.args.reader.now))
+    (known_over g.E.StoreEnd.is_honest (map string_bytes c.args.words.now) c.in_ok-file.file.items c.deref-2.result.now c.in_ok-file.ensures.file c.deref-2.ensures.value (λ input m x failed. AnswersAll m x input 0 failed old new) size (g.R.Read.remaining c.args.reader.now))
     c.start_over.ensures.output
 
 pub returns-clause-input_fault : goal.returns-clause-input_fault
@@ -25,7 +25,7 @@ returns-clause-input_fault g c = λ is.
     let new = g.W.Write.contents c.start_over.new.writer in
     let some : 1 < length c.args.words.now = omega (arith, c.if-words-lt2.false) in
     let size : 1 < length (map string_bytes c.args.words.now) = omega (arith, length-map c.args.words.now string_bytes, some) in
-    known_over (map string_bytes c.args.words.now) c.in_ok-file.file.items c.deref-2.result.now c.in_ok-file.ensures.file c.deref-2.ensures.value (λ input m x failed. AnswersWhatWasRead m x input (g.R.Read.remaining c.start_over.new.reader) 0 failed old new) size (g.R.Read.remaining c.args.reader.now)
+    known_over g.E.StoreEnd.is_honest (map string_bytes c.args.words.now) c.in_ok-file.file.items c.deref-2.result.now c.in_ok-file.ensures.file c.deref-2.ensures.value (λ input m x failed. AnswersWhatWasRead m x input (g.R.Read.remaining c.start_over.new.reader) 0 failed old new) size (g.R.Read.remaining c.args.reader.now)
     (c.start_over.ensures.input_fault is)
 
 pub returns-clause-no_memory : goal.returns-clause-no_memory
@@ -34,7 +34,7 @@ returns-clause-no_memory g c = λ is.
     let new = g.W.Write.contents c.start_over.new.writer in
     let some : 1 < length c.args.words.now = omega (arith, c.if-words-lt2.false) in
     let size : 1 < length (map string_bytes c.args.words.now) = omega (arith, length-map c.args.words.now string_bytes, some) in
-    let said = known_over (map string_bytes c.args.words.now) c.in_ok-file.file.items c.deref-2.result.now c.in_ok-file.ensures.file c.deref-2.ensures.value (λ input m x failed. AnswersFirstLines m x input 0 failed old new) size (g.R.Read.remaining c.args.reader.now) in
+    let said = known_over g.E.StoreEnd.is_honest (map string_bytes c.args.words.now) c.in_ok-file.file.items c.deref-2.result.now c.in_ok-file.ensures.file c.deref-2.ensures.value (λ input m x failed. AnswersFirstLines m x input 0 failed old new) size (g.R.Read.remaining c.args.reader.now) in
     elim (c.start_over.ensures.no_memory is) [ inl same ↦ inl same | inr run ↦ inr (said run) ]
 
 pub returns-clause-output_fault : goal.returns-clause-output_fault
@@ -43,12 +43,12 @@ returns-clause-output_fault g c = λ is.
     let new = g.W.Write.contents c.start_over.new.writer in
     let some : 1 < length c.args.words.now = omega (arith, c.if-words-lt2.false) in
     let size : 1 < length (map string_bytes c.args.words.now) = omega (arith, length-map c.args.words.now string_bytes, some) in
-    known_over (map string_bytes c.args.words.now) c.in_ok-file.file.items c.deref-2.result.now c.in_ok-file.ensures.file c.deref-2.ensures.value (λ input m x failed. AnswersFront m x input 0 failed old new) size (g.R.Read.remaining c.args.reader.now)
+    known_over g.E.StoreEnd.is_honest (map string_bytes c.args.words.now) c.in_ok-file.file.items c.deref-2.result.now c.in_ok-file.ensures.file c.deref-2.ensures.value (λ input m x failed. AnswersFront m x input 0 failed old new) size (g.R.Read.remaining c.args.reader.now)
     (c.start_over.ensures.output_fault is)
 
 pub returns-clause-begun : goal.returns-clause-begun
 returns-clause-begun g c = λ is.
-    give_begun (map string_bytes c.args.words.now) c.in_ok-file.file.items c.deref-2.result.now c.in_ok-file.ensures.file c.deref-2.ensures.value (c.start_over.ensures.begun is)
+    give_begun g.E.StoreEnd.is_honest (map string_bytes c.args.words.now) c.in_ok-file.file.items c.deref-2.result.now c.in_ok-file.ensures.file c.deref-2.ensures.value (c.start_over.ensures.begun is)
 
 pub returns-then-words-lt2-clause-output : goal.returns-then-words-lt2-clause-output
 returns-then-words-lt2-clause-output g c =
@@ -57,7 +57,7 @@ returns-then-words-lt2-clause-output g c =
     let few : length c.args.words.now ≤ 1 = omega (arith, c.if-words-lt2.true) in
     let size : length (map string_bytes c.args.words.now) ≤ 1 = omega (arith, length-map c.args.words.now string_bytes, few) in
     on_ok_weaker c.start_on.result
-    (known_memory (map string_bytes c.args.words.now) c.in_ok-file.file.items c.deref.result.now c.in_ok-file.ensures.file c.deref.ensures.value (λ input m x failed. AnswersAll m x input 0 failed old new) size (g.R.Read.remaining c.args.reader.now))
+    (known_memory g.E.StoreEnd.is_honest (map string_bytes c.args.words.now) c.in_ok-file.file.items c.deref.result.now c.in_ok-file.ensures.file c.deref.ensures.value (λ input m x failed. AnswersAll m x input 0 failed old new) size (g.R.Read.remaining c.args.reader.now))
     c.start_on.ensures.output
 
 pub returns-then-words-lt2-clause-input_fault : goal.returns-then-words-lt2-clause-input_fault
@@ -66,7 +66,7 @@ returns-then-words-lt2-clause-input_fault g c = λ is.
     let new = g.W.Write.contents c.start_on.new.writer in
     let few : length c.args.words.now ≤ 1 = omega (arith, c.if-words-lt2.true) in
     let size : length (map string_bytes c.args.words.now) ≤ 1 = omega (arith, length-map c.args.words.now string_bytes, few) in
-    known_memory (map string_bytes c.args.words.now) c.in_ok-file.file.items c.deref.result.now c.in_ok-file.ensures.file c.deref.ensures.value (λ input m x failed. AnswersWhatWasRead m x input (g.R.Read.remaining c.start_on.new.reader) 0 failed old new) size (g.R.Read.remaining c.args.reader.now)
+    known_memory g.E.StoreEnd.is_honest (map string_bytes c.args.words.now) c.in_ok-file.file.items c.deref.result.now c.in_ok-file.ensures.file c.deref.ensures.value (λ input m x failed. AnswersWhatWasRead m x input (g.R.Read.remaining c.start_on.new.reader) 0 failed old new) size (g.R.Read.remaining c.args.reader.now)
     (c.start_on.ensures.input_fault is)
 
 pub returns-then-words-lt2-clause-no_memory : goal.returns-then-words-lt2-clause-no_memory
@@ -75,7 +75,7 @@ returns-then-words-lt2-clause-no_memory g c = λ is.
     let new = g.W.Write.contents c.start_on.new.writer in
     let few : length c.args.words.now ≤ 1 = omega (arith, c.if-words-lt2.true) in
     let size : length (map string_bytes c.args.words.now) ≤ 1 = omega (arith, length-map c.args.words.now string_bytes, few) in
-    let said = known_memory (map string_bytes c.args.words.now) c.in_ok-file.file.items c.deref.result.now c.in_ok-file.ensures.file c.deref.ensures.value (λ input m x failed. AnswersFirstLines m x input 0 failed old new) size (g.R.Read.remaining c.args.reader.now) in
+    let said = known_memory g.E.StoreEnd.is_honest (map string_bytes c.args.words.now) c.in_ok-file.file.items c.deref.result.now c.in_ok-file.ensures.file c.deref.ensures.value (λ input m x failed. AnswersFirstLines m x input 0 failed old new) size (g.R.Read.remaining c.args.reader.now) in
     elim (c.start_on.ensures.no_memory is) [ inl same ↦ inl same | inr run ↦ inr (said run) ]
 
 pub returns-then-words-lt2-clause-output_fault : goal.returns-then-words-lt2-clause-output_fault
@@ -84,12 +84,12 @@ returns-then-words-lt2-clause-output_fault g c = λ is.
     let new = g.W.Write.contents c.start_on.new.writer in
     let few : length c.args.words.now ≤ 1 = omega (arith, c.if-words-lt2.true) in
     let size : length (map string_bytes c.args.words.now) ≤ 1 = omega (arith, length-map c.args.words.now string_bytes, few) in
-    known_memory (map string_bytes c.args.words.now) c.in_ok-file.file.items c.deref.result.now c.in_ok-file.ensures.file c.deref.ensures.value (λ input m x failed. AnswersFront m x input 0 failed old new) size (g.R.Read.remaining c.args.reader.now)
+    known_memory g.E.StoreEnd.is_honest (map string_bytes c.args.words.now) c.in_ok-file.file.items c.deref.result.now c.in_ok-file.ensures.file c.deref.ensures.value (λ input m x failed. AnswersFront m x input 0 failed old new) size (g.R.Read.remaining c.args.reader.now)
     (c.start_on.ensures.output_fault is)
 
 pub returns-then-words-lt2-clause-begun : goal.returns-then-words-lt2-clause-begun
 returns-then-words-lt2-clause-begun g c = λ is.
-    give_begun (map string_bytes c.args.words.now) c.in_ok-file.file.items c.deref.result.now c.in_ok-file.ensures.file c.deref.ensures.value (c.start_on.ensures.begun is)
+    give_begun g.E.StoreEnd.is_honest (map string_bytes c.args.words.now) c.in_ok-file.file.items c.deref.result.now c.in_ok-file.ensures.file c.deref.ensures.value (c.start_on.ensures.begun is)
 
 pub returns-clause-refused : goal.returns-clause-refused
 returns-clause-refused g c =

@@ -9,7 +9,8 @@ use Rattle.ing_session.proofs.KnownLaws.{if_some_then}
 use Rattle.ing_session.specs.Endings.{IsNotOpened, IsNotRecovered, is_of_run}
 use Rattle.ing_session.specs.declared.ending.Ending.TheVariants.{NotRecovered}
 use Rattle.ing_program.proofs.BeganLaws.{began_over}
-use Rattle.ing_program.proofs.StartingLaws.{not_of_run, not_recovered, recover_ending, same_ending}
+use Rattle.ing_session.proofs.EndingsLaws.{not_recovered, same_ending}
+use Rattle.ing_program.proofs.StartingLaws.{not_opened_or_run, recover_ends}
 use Rattle.ing_program.specs.ByLedger.{Began, BeginsOver, began_with, by_ledger}
 use Rattle.ing_program.proofs.shards.run_recovered.Goals as goal
 
@@ -87,7 +88,7 @@ returns-in-Ok-clause-output_fault g c = λ is.
 
 pub returns-in-Err-clause-ending : goal.returns-in-Err-clause-ending
 returns-in-Err-clause-ending g c =
-    subst (λ e. IsTrue (is_of_run e) ⊎ IsNotOpened e ⊎ IsNotRecovered e) (sym c.from.ensures) (recover_ending c.in-Err.fault)
+    subst (λ e. IsTrue (is_of_run e) ⊎ IsNotOpened e ⊎ IsNotRecovered e) (sym c.from.ensures) (recover_ends c.in-Err.fault)
 
 pub returns-in-Err-clause-not_recovered : goal.returns-in-Err-clause-not_recovered
 returns-in-Err-clause-not_recovered g c = λ fault is.
@@ -98,4 +99,4 @@ returns-in-Err-clause-not_recovered g c = λ fault is.
     (backs, subst (λ f. IsLowestRefused D.is_honest D.seen D.failure_count c.args.settings c.args.logs.items f backs) told.0 (c.in-Err.ensures.refused told.1))
 
 pub returns-in-Ok-clause-not_recovered : goal.returns-in-Ok-clause-not_recovered
-returns-in-Ok-clause-not_recovered g c = λ fault is. absurd (not_of_run c.run_locked.result fault c.run_locked.ensures.ending is)
+returns-in-Ok-clause-not_recovered g c = λ fault is. absurd (not_opened_or_run c.run_locked.result fault c.run_locked.ensures.ending is)

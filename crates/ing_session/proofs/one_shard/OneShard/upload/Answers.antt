@@ -12,20 +12,20 @@ use Rattle.ing_session.proofs.one_shard.OneShard.upload.Goals as goal
 pub returns-in-Ok-finish-clause-ended : goal.returns-in-Ok-finish-clause-ended
 returns-in-Ok-finish-clause-ended g c =
     let x = c.in-Some.ticket.claimed in
-    let old = c.args.self.now.shard in
+    let old = c.args.self.now.shard.memory in
     let step = rw c.in-Some.is at c.in_ok-ticket.ensures.step in
     let is : slice_get old.listed c.args.op.stream ≡ Some (key_in x) =
     ap (λ l. slice_get l c.args.op.stream) (sym c.in_ok-ticket.ensures.listed) ∙ rw c.in-Some.is at c.in_ok-ticket.ensures.named in
-    (Stored x, ends_stored (rules_for old.settings) _ x old.state c.claim.new.self.state c.finish.new.self.state is step c.in-Ok-finish.ensures.step, refl, refl, same_count _ _ c.in-Ok.ensures.count)
+    (Stored x, ends_stored (rules_for old.settings) _ x old.state c.claim.new.self.memory.state c.finish.new.self.memory.state is step c.in-Ok-finish.ensures.step, refl, refl, same_count _ _ c.in-Ok.ensures.count)
 
 -- the upload failed
 pub returns-else-eq-clause-ended : goal.returns-else-eq-clause-ended
 returns-else-eq-clause-ended g c =
     let x = c.in-Some.ticket.claimed in
-    let old = c.args.self.now.shard in
+    let old = c.args.self.now.shard.memory in
     let step = rw c.in-Some.is at c.in_ok-ticket.ensures.step in
     let is : slice_get old.listed c.args.op.stream ≡ Some (key_in x) =
     ap (λ l. slice_get l c.args.op.stream) (sym c.in_ok-ticket.ensures.listed) ∙ rw c.in-Some.is at c.in_ok-ticket.ensures.named in
     let other : c.in-Err.fault ≢ NoMemory = λ e. (let no : false ≡ true = rw e at c.if-eq.ensures in absurd cc) in
     let cause = failed_cause (g.S.StoreEnd.failure_count c.args.end.now) (g.S.StoreEnd.failure_count c.upload.new.end) c.in-Err.fault c.in-Err.ensures.count other in
-    (GaveBack x, ends_back (rules_for old.settings) _ x old.state c.claim.new.self.state c.give_back-in-Err.new.self.shard.state is step c.give_back-in-Err.ensures.step, refl, refl, cause)
+    (GaveBack x, ends_back (rules_for old.settings) _ x old.state c.claim.new.self.memory.state c.give_back-in-Err.new.self.shard.memory.state is step c.give_back-in-Err.ensures.step, refl, refl, cause)
