@@ -1,0 +1,3 @@
+pub mod ReplyLaws
+pub mod ApartLaws
+pub mod PageLaws
