@@ -2,7 +2,7 @@
 use ctl_feed::{EntryFault, FeedEnding, LoadFault};
 use ing_labels::TextFault;
 use ing_query::QueryFault;
-use std::alloc::AllocError;
+use std::alloc::{AllocError, AllocFailed};
 
 /// Why the entries of a stream are not written.
 #[derive(Clone, Copy, Debug, PartialEq, Eq)]
@@ -26,6 +26,16 @@ impl From<AllocError> for ExportFault {
     ghost from_gives = { λ _ fault. IsNoQuery fault };
 
     fn from(_error: AllocError) -> ExportFault {
+        ExportFault::NoMemory
+    }
+}
+
+impl<T: Drop> From<AllocFailed<T>> for ExportFault {
+    ghost use Rattle.ctl_export.specs.Exports.{IsNoQuery};
+
+    ghost from_gives = { λ _ fault. IsNoQuery fault };
+
+    fn from(_error: AllocFailed<T>) -> ExportFault {
         ExportFault::NoMemory
     }
 }

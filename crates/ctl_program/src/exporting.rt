@@ -6,16 +6,11 @@ use crate::progress::Progress;
 use crate::status::Status;
 use anyhow::{Context, Result, bail};
 use clap::ArgMatches;
-use ctl_export::{ExportFault, Exported, QueryFault, export_stream, streams_in_order};
-use ctl_show::{RecoverFault, RelistFault, Shard, restore_log};
+use ctl_export::{ExportFault, ExportedShard, Live, QueryFault, ShardFault, export_log};
+use ctl_show::{RecoverFault, RelistFault};
 use ing_folder::{FolderStore, Noted};
 use ing_limits::Settings;
-use ing_store::DigestReceipt;
-use std::collections::BTreeMap;
 use std::io::Write;
-
-/// What stores all that was pushed, so that no stream is live.
-const FLUSH: &str = "{\"cmd\":\"flush\"}\n";
 
 /// What is exported, and what was written so far.
 #[derive(Drop)]
@@ -23,10 +18,7 @@ struct Export<'a> {
     rt: &'a HostRuntime,
     folder: &'a str,
     settings: Settings,
-    /// How many streams of a tenant were written since the last flush.
-    live: BTreeMap<String, u64>,
-    /// Whether a tenant has as many of them as may be live.
-    is_full: bool,
+    live: Live,
     streams: u64,
     entries: u64,
     commands: u64,
@@ -68,8 +60,7 @@ impl<'a> Export<'a> {
             rt,
             folder,
             settings,
-            live: BTreeMap::new(rt.alloc()),
-            is_full: false,
+            live: Live::new(rt.alloc()),
             streams: 0,
             entries: 0,
             commands: 0,
@@ -84,6 +75,49 @@ impl<'a> Export<'a> {
         output: &mut O,
         errors: &mut E,
     ) -> Result<bool> {
+        match self.written(number, text, output)? {
+            Ok(exported) => {
+                self.count(&exported);
+                for fault in &exported.unread {
+                    put(errors, self.fault_words(*fault)?.as_str())?;
+                }
+                Ok(exported.unread.is_empty())
+            }
+            Err(
+                ShardFault::NoMemory
+                | ShardFault::NotRestored(
+                    RecoverFault::NoMemory | RecoverFault::Relist(RelistFault::NoMemory),
+                )
+                | ShardFault::Stream {
+                    fault: ExportFault::NoMemory,
+                    ..
+                },
+            ) => bail!("out of memory"),
+            Err(ShardFault::NotRestored(_)) => {
+                let alloc = self.rt.alloc();
+                let text = log_text(self.rt, self.folder, number)?.unwrap_or(Vec::new(alloc));
+                check_shard(self.rt, self.folder, &self.settings, number, &text, errors)?;
+                Ok(false)
+            }
+            Err(
+                ShardFault::Stream {
+                    fault: ExportFault::OutputFault,
+                    ..
+                },
+            ) => bail!("the output cannot be written"),
+            Err(ShardFault::Stream { number, .. }) => {
+                bail!("no command has room for stream {number}")
+            }
+        }
+    }
+
+    /// Writes all entries of a shard, or why not.
+    fn written<O: Write>(
+        &mut self,
+        number: u32,
+        text: Vec<u8>,
+        output: &mut O,
+    ) -> Result<Result<ExportedShard, ShardFault>> {
         let alloc = self.rt.alloc();
         if number >= self.settings.shards() {
             bail!("there is no shard {number}");
@@ -91,84 +125,22 @@ impl<'a> Export<'a> {
         let objects = format!(in alloc; "{}/objects", self.folder)?;
         let mut end = FolderStore::reading(self.rt, alloc, objects.as_str())?;
         let settings = self.settings.try_clone()?;
-        match restore_log::<DigestReceipt, _>(alloc, settings, number, text, &mut end) {
-            Ok(restored) => self.streams(&restored.shard, &mut end, output, errors),
-            Err(RecoverFault::NoMemory | RecoverFault::Relist(RelistFault::NoMemory)) => {
-                bail!("out of memory")
-            }
-            Err(_) => {
-                let text = log_text(self.rt, self.folder, number)?.unwrap_or(Vec::new(alloc));
-                check_shard(self.rt, self.folder, &self.settings, number, &text, errors)?;
-                Ok(false)
-            }
-        }
+        Ok(export_log(
+            alloc,
+            settings,
+            number,
+            text,
+            &mut end,
+            output,
+            &mut self.live,
+        ))
     }
 
-    /// Writes all entries of the streams of a shard; whether they could be read.
-    fn streams<O: Write, E: Write>(
-        &mut self,
-        shard: &Shard<DigestReceipt>,
-        end: &mut FolderStore<'_, HostRuntime>,
-        output: &mut O,
-        errors: &mut E,
-    ) -> Result<bool> {
-        let alloc = self.rt.alloc();
-        let mut is_right = true;
-        for number in &streams_in_order(alloc, shard)? {
-            let number = *number;
-            if number >= shard.stream_count() {
-                bail!("there is no stream {number}");
-            }
-            self.make_room(output)?;
-            match export_stream(alloc, shard, number, end, output) {
-                Ok(exported) => self.count(&exported)?,
-                Err(ExportFault::Query(fault)) => {
-                    put(errors, self.fault_words(fault)?.as_str())?;
-                    is_right = false;
-                }
-                Err(ExportFault::NoMemory) => bail!("out of memory"),
-                Err(ExportFault::OutputFault) => bail!("the output cannot be written"),
-                Err(ExportFault::NoName | ExportFault::TooLong) => {
-                    bail!("no command has room for stream {number}")
-                }
-            }
-        }
-        Ok(is_right)
-    }
-
-    /// Writes a flush where a tenant has as many live streams as may be: after it none is live.
-    fn make_room<O: Write>(&mut self, output: &mut O) -> Result<()> {
-        if self.is_full {
-            put(output, FLUSH)?;
-            self.live = BTreeMap::new(self.rt.alloc());
-            self.is_full = false;
-        }
-        Ok(())
-    }
-
-    /// Counts a stream that was written, if it has entries.
-    fn count(&mut self, exported: &Exported) -> Result<()> {
-        if exported.entries == 0 {
-            return Ok(());
-        }
-        self.streams = self.streams.saturating_add(1);
+    /// Counts what was written of a shard.
+    fn count(&mut self, exported: &ExportedShard) {
+        self.streams = self.streams.saturating_add(exported.streams);
         self.entries = self.entries.saturating_add(exported.entries);
         self.commands = self.commands.saturating_add(exported.commands);
-        let tenant = exported.tenant.as_str();
-        let most = self
-            .settings
-            .for_tenant(&exported.tenant)
-            .max_streams_per_tenant;
-        let live = self
-            .live
-            .get(tenant)
-            .copied()
-            .unwrap_or(0)
-            .saturating_add(1);
-        self.live
-            .insert(String::from_str(self.rt.alloc(), tenant)?, live)?;
-        self.is_full = self.is_full || live >= most;
-        Ok(())
     }
 
     /// Why the entries of a stream could not be read.
