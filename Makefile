@@ -79,7 +79,7 @@ documents:
 	  cmp "$$example" "crates/test_cases/data/example_$$(basename "$$example" .jsonl)/input.jsonl" || exit 1; \
 	done
 	@cmp examples/settings.toml crates/test_cases/data/example_first_push/settings.toml
-	@kit="$$(sed -n 's/.*(\(rattle-kit.*\)).*/\1/p' crates/ctl_program/src/version.rt)"; \
+	@kit="$$(sed -n 's/.*(\(rattle-kit.*\)).*/\1/p' crates/ing_version/src/lib.rt)"; \
 	grep -qF -e "$$kit" README.md || { echo "README.md and --version name other toolchains"; exit 1; }
 	@for page in crates/test_cases/data/*/document; do \
 	  folder=$${page%/document}; \

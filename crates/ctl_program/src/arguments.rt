@@ -1,6 +1,6 @@
 //! The argument words.
-use crate::version::VERSION;
 use clap::{Arg, ArgAction, Command};
+use ing_version::VERSION;
 use std::alloc::{AllocError, Global};
 
 /// Where stamps come from.

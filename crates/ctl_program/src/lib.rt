@@ -18,7 +18,6 @@ mod refusals;
 mod showing;
 mod status;
 mod ticking;
-mod version;
 mod wrapping;
 
 use anyhow::Result;
