@@ -6,7 +6,10 @@ use std::alloc::{AllocError, Global};
 /// Where stamps come from.
 static STAMPS: [&str; 6] = ["now", "line", "syslog", "nginx", "seconds", "milliseconds"];
 
-/// What is told of them.
+/// How entries are written.
+static OUTPUTS: [&str; 2] = ["raw", "jsonl"];
+
+/// What is told of the times of lines.
 const FORMATS: &str = "\
 Formats of the times of lines:
   now           none: stamps rise from this moment on, a nanosecond apart
@@ -33,7 +36,9 @@ pub fn command<'a>(alloc: Global) -> Result<Command<'a>, AllocError> {
         .subcommand(export(alloc)?)?
         .subcommand(refusals(alloc)?)?
         .subcommand(tick(alloc)?)?
-        .subcommand(query(alloc)?)
+        .subcommand(query(alloc)?)?
+        .subcommand(entries(alloc)?)?
+        .subcommand(next(alloc)?)
 }
 
 fn load<'a>(alloc: Global) -> Result<Command<'a>, AllocError> {
@@ -221,6 +226,45 @@ fn query<'a>(alloc: Global) -> Result<Command<'a>, AllocError> {
         ))?
         .arg(word(alloc, "direction", "DIRECTION", "forward, or backward"))?
         .arg(now(alloc))
+}
+
+fn entries<'a>(alloc: Global) -> Result<Command<'a>, AllocError> {
+    let before = word(
+        alloc,
+        "before",
+        "REPLY",
+        "The reply of the page before, of whose last stamp the entries are left out; an empty file is none",
+    );
+    let output = word(
+        alloc,
+        "output",
+        "FORMAT",
+        "Each as its line, or as a JSON object",
+    )
+    .value_parser(OUTPUTS.as_slice())
+    .default_value("raw");
+    Command::new(alloc, "entries")
+        .about("The entries of a reply to a query.")
+        .arg(before)?
+        .arg(output)?
+        .arg(reply(alloc))
+}
+
+fn next<'a>(alloc: Global) -> Result<Command<'a>, AllocError> {
+    let asked = Arg::new(alloc, "asked")
+        .value_name("ASKED")
+        .required(true)
+        .help("A file with the query, as ingestd was given it");
+    Command::new(alloc, "next")
+        .about("The query for the page behind a reply; nothing where that was the last one.")
+        .arg(asked)?
+        .arg(reply(alloc))
+}
+
+fn reply<'a>(alloc: Global) -> Arg<'a> {
+    Arg::new(alloc, "reply").value_name("REPLY").help(
+        "A file with the reply of ingestd; without it standard input",
+    )
 }
 
 /// An argument that is given by its name.

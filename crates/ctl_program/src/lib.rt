@@ -12,6 +12,7 @@ mod loading;
 mod looking;
 mod mending;
 mod output;
+mod paging;
 mod progress;
 mod querying;
 mod refusals;
@@ -89,6 +90,8 @@ fn run_chosen<I: BufRead, O: Write, E: Write>(
         Some(("refusals", given)) => refusals::show_refusals(rt, given, output),
         Some(("tick", given)) => ticking::tick(rt, given, output),
         Some(("query", given)) => querying::query(rt, given, output),
+        Some(("entries", given)) => paging::write_entries(rt, given, input, output),
+        Some(("next", given)) => paging::write_next(rt, given, input, output, errors),
         _ => Ok(Status::Unread),
     }
 }
