@@ -6,6 +6,9 @@ use std::alloc::{AllocError, Global};
 /// Where stamps come from.
 static STAMPS: [&str; 6] = ["now", "line", "syslog", "nginx", "seconds", "milliseconds"];
 
+/// Which entries come first.
+static DIRECTIONS: [&str; 2] = ["forward", "backward"];
+
 /// How entries are written.
 static OUTPUTS: [&str; 2] = ["raw", "jsonl"];
 
@@ -195,6 +198,13 @@ fn query<'a>(alloc: Global) -> Result<Command<'a>, AllocError> {
         "From so long ago on, as 90m, 2h or 7d",
     )
     .conflicts_with("start")?;
+    let direction = word(
+        alloc,
+        "direction",
+        "DIRECTION",
+        "The oldest first, or the newest, as without it",
+    )
+    .value_parser(DIRECTIONS.as_slice());
     Command::new(alloc, "query")
         .about("A query as a command, or why it would be refused.")
         .arg(tenant(alloc))?
@@ -222,9 +232,9 @@ fn query<'a>(alloc: Global) -> Result<Command<'a>, AllocError> {
             alloc,
             "limit",
             "NUMBER",
-            "At most so many entries, up to 5000",
+            "At most so many entries, 1 to 5000; 100 without it",
         ))?
-        .arg(word(alloc, "direction", "DIRECTION", "forward, or backward"))?
+        .arg(direction)?
         .arg(now(alloc))
 }
 

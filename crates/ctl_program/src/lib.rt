@@ -8,6 +8,7 @@ mod exporting;
 mod feeding;
 mod given;
 mod in_force;
+mod labelling;
 mod loading;
 mod looking;
 mod mending;

@@ -1,7 +1,8 @@
 //! `ingestctl load`.
 use crate::feeding::fed;
 use crate::given::{now, tenant};
-use crate::looking::test_text;
+use crate::labelling::test_labels;
+use crate::looking::{has_returns, test_text};
 use crate::output::put;
 use crate::progress::Progress;
 use crate::status::Status;
@@ -15,6 +16,9 @@ use jiff::Timestamp;
 use jiff::tz::Offset;
 use std::fs::File;
 use std::io::{BufRead, BufReader, Write};
+
+/// What standard input is called, as a file too.
+const INPUT: &str = "-";
 
 /// A day in nanoseconds.
 const DAY: u64 = 86_400_000_000_000;
@@ -43,14 +47,14 @@ pub fn load<I: BufRead, O: Write, E: Write>(
     let mut output = Progress::new(rt, output);
     let mut is_right = true;
     match given.get_strs("files") {
-        Some(paths) if !paths.is_empty() => {
+        Some(paths) if paths.iter().any(|path| *path != INPUT) => {
             for (path, mut reader) in opened(rt, paths)? {
                 is_right &= load_one(rt, path, &mut reader, &mut output, errors, &mut lines)?;
             }
         }
         _ => {
-            test_text("-", input)?;
-            is_right = load_one(rt, "-", input, &mut output, errors, &mut lines)?;
+            test_text(INPUT, input)?;
+            is_right = load_one(rt, INPUT, input, &mut output, errors, &mut lines)?;
         }
     }
     fed(load_rest(rt.alloc(), &mut output, &mut lines.loader))?;
@@ -108,6 +112,7 @@ fn loader(rt: &HostRuntime, given: &ArgMatches<'_>, now: Stamp) -> Result<Loader
         ),
         Err(LabelFault::NoMemory) => bail!("out of memory"),
     };
+    test_labels(rt, words)?;
     match Loader::new(rt.alloc(), tenant(rt, given)?, now, labels) {
         Ok(loader) => Ok(loader),
         Err(fault) => bail!("{}", words_of(fault)),
@@ -140,6 +145,12 @@ fn load_one<I: BufRead, O: Write, E: Write>(
 ) -> Result<bool> {
     let mut before = 0u64;
     let mut is_right = true;
+    if !lines.reading.drops_returns && has_returns(path, input)? {
+        let text = format!(in rt.alloc();
+            "{path}: lines end in a carriage return, which stays; --crlf leaves it out\n"
+        )?;
+        put(errors, text.as_str())?;
+    }
     for _ in 0..u64::MAX {
         let loaded = load_input(rt.alloc(), input, output, &mut lines.loader, &lines.reading);
         match fed(loaded)? {

@@ -31,6 +31,13 @@ pub fn test_text<R: BufRead>(path: &str, reader: &mut R) -> Result<()> {
     }
 }
 
+/// Whether a line of the bytes that are at hand ends in a carriage return and a line feed. No byte is taken.
+pub fn has_returns<R: BufRead>(path: &str, reader: &mut R) -> Result<bool> {
+    let first = reader.fill_buf().context(path)?;
+    let looked = &first[..first.len().min(LOOKED_AT)];
+    Ok(looked.windows(2).any(|pair| pair == b"\r\n".as_slice()))
+}
+
 /// Why these first bytes are no text.
 fn no_text(first: &[u8]) -> Option<NoText> {
     if first.starts_with(&[0x1f, 0x8b]) {

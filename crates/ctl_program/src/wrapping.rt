@@ -6,7 +6,12 @@ use crate::status::Status;
 use anyhow::Result;
 use clap::ArgMatches;
 use ctl_feed::{Wrapped, wrap_input};
+use ing_refusals::Refusal;
 use std::io::{BufRead, Write};
+
+/// What is told of a line that is no body.
+const BODY: &str =
+    ": a body is a line {\"streams\":[{\"stream\":{\"NAME\":\"VALUE\"},\"values\":[[\"STAMP\",\"LINE\"]]}]}";
 
 /// Writes the push command of each body, one a line of the input, and tells by its line what is refused.
 pub fn wrap<I: BufRead, O: Write, E: Write>(
@@ -25,9 +30,13 @@ pub fn wrap<I: BufRead, O: Write, E: Write>(
             Wrapped::Refused { line, fault } => {
                 before = before.saturating_add(line);
                 let (code, name) = (fault.refusal().number(), fault.refusal().name());
+                let hint = match fault.refusal() {
+                    Refusal::BadCommand => BODY,
+                    _ => "",
+                };
                 put(
                     errors,
-                    format!(in alloc; "line {before}: {code} {name}\n")?.as_str(),
+                    format!(in alloc; "line {before}: {code} {name}{hint}\n")?.as_str(),
                 )?;
             }
         }
