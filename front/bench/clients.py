@@ -1,10 +1,11 @@
 #!/usr/bin/python3
 """Lines by clients of several kinds through one front, each found again or not.
 
-    front/bench/clients.py FRONT PROGRAM [--lines N] [--parent FOLDER]
+    front/bench/clients.py FRONT PROGRAM [--lines N] [--kills N] [--rsyslogd FILE] [--modules FOLDERS] [--parent FOLDER]
 
-The clients are curl, Python's own with each kind of body, and syslog-ng with front/deploy/syslog-ng.conf, where it is installed.
-It prints a table, and ends with status 1 where a line is lost or found more than once.
+The clients are curl, Python's own with each kind of body, its requests, and those of front/deploy that are installed: syslog-ng,
+and rsyslog where a module omhttp is in one of the FOLDERS (apart by colons). While these two send, front and program are killed
+and started again. It prints a table, and ends with status 1 where a line is lost or found more than once.
 """
 import argparse
 import collections
@@ -18,11 +19,14 @@ import time
 import urllib.parse
 import urllib.request
 
+import requests
+
 from agents import KINDS, SETTINGS, packed
 from front_run import FrontRun
 
 TENANT = {"X-Scope-OrgID": "acme"}
-CONFIGURATION = pathlib.Path(__file__).resolve().parent.parent / "deploy" / "syslog-ng.conf"
+DEPLOY = pathlib.Path(__file__).resolve().parent.parent / "deploy"
+MODULES = "/usr/lib/x86_64-linux-gnu/rsyslog"
 
 
 def lines_of(name: str, count: int) -> list[str]:
@@ -47,19 +51,48 @@ def by_python(run: FrontRun, lines: list[str], kind: str) -> None:
         urllib.request.urlopen(urllib.request.Request(f"{run.url}/loki/api/v1/push", body, TENANT | headers), timeout=30).close()
 
 
-def by_syslog_ng(run: FrontRun, lines: list[str], place: pathlib.Path) -> None:
-    """syslog-ng over a file, until as many lines are found as it has, or for a minute."""
-    (place / "app.log").write_text("".join(line + "\n" for line in lines))
-    text = CONFIGURATION.read_text().replace("/var/log/app.log", str(place / "app.log")).replace("3100", str(run.port))
-    (place / "syslog-ng.conf").write_text(text)
-    words = ["/usr/sbin/syslog-ng", "-F", "-f", "syslog-ng.conf", "-R", "persist", "-c", "control", "-p", "pid"]
-    process = subprocess.Popen(words, cwd=place, stderr=subprocess.DEVNULL)
-    until = time.monotonic() + 60
-    while time.monotonic() < until and found(run, "syslog-ng").total() < len(lines):
-        time.sleep(0.5)
+def by_requests(run: FrontRun, lines: list[str]) -> None:
+    """Pushes of 100 lines over one connection."""
+    with requests.Session() as session:
+        for first in range(0, len(lines), 100):
+            values = [[str(time.time_ns()), line] for line in lines[first : first + 100]]
+            body = {"streams": [{"stream": {"job": "requests"}, "values": values}]}
+            session.post(f"{run.url}/loki/api/v1/push", json=body, headers=TENANT, timeout=30).raise_for_status()
+
+
+def by_agent(run: FrontRun, job: str, words: list[str], lines: list[str], kills: int, place: pathlib.Path) -> None:
+    """An agent over a file, with its configuration of front/deploy as JOB.conf; front and program are killed meanwhile.
+
+    It is ended when as many lines are found as the file has, or after two minutes.
+    """
+    (place / f"{job}.log").write_text("".join(line + "\n" for line in lines))
+    text = (DEPLOY / f"{job}.conf").read_text()
+    text = text.replace("/var/log/app.log", str(place / f"{job}.log")).replace("3100", str(run.port))
+    (place / f"{job}.conf").write_text(text)
+    process = subprocess.Popen(words, cwd=place, stdout=subprocess.DEVNULL, stderr=subprocess.DEVNULL)
+    until, marks = time.monotonic() + 120, [len(lines) * number // (kills + 1) for number in range(1, kills + 1)]
+    while (count := found(run, job).total()) < len(lines) and time.monotonic() < until:
+        if marks and count >= marks[0]:
+            marks.pop(0)
+            run.kill()
+            time.sleep(1)
+            run.start()
+        time.sleep(0.1)
     time.sleep(2)  # Whatever it would send twice.
     process.terminate()
     process.wait()
+
+
+def agents_of(words: argparse.Namespace, place: pathlib.Path) -> dict[str, list[str]]:
+    """The agents that are here, each with its words."""
+    agents = {}
+    if shutil.which("syslog-ng", path="/usr/sbin"):
+        agents["syslog-ng"] = ["/usr/sbin/syslog-ng", "-F", "-f", "syslog-ng.conf", "-R", "persist", "-c", "control", "-p", "pid"]
+    has_module = any(pathlib.Path(folder, "omhttp.so").exists() for folder in words.modules.split(":"))
+    if shutil.which(words.rsyslogd) and has_module:
+        own = ["-n", "-f", str(place / "rsyslog.conf"), "-i", str(place / "rsyslog.pid"), "-M", words.modules]
+        agents["rsyslog"] = [words.rsyslogd, *own]
+    return agents
 
 
 def found(run: FrontRun, job: str) -> collections.Counter:
@@ -75,6 +108,9 @@ def main() -> int:
     parser.add_argument("front")
     parser.add_argument("program")
     parser.add_argument("--lines", type=int, default=4000, help="below 5,000; curl sends a hundredth (%(default)s)")
+    parser.add_argument("--kills", type=int, default=1, help="of front and program, for each agent (%(default)s)")
+    parser.add_argument("--rsyslogd", default="/usr/sbin/rsyslogd", help="%(default)s")
+    parser.add_argument("--modules", default=MODULES, help="folders with rsyslog's modules (%(default)s)")
     parser.add_argument("--parent", default=None)
     words = parser.parse_args()
     sent = {}
@@ -87,9 +123,11 @@ def main() -> int:
         for kind in KINDS:
             sent[f"python-{kind}"] = lines_of(kind, words.lines)
             by_python(run, sent[f"python-{kind}"], kind)
-        if shutil.which("syslog-ng", path="/usr/sbin"):
-            sent["syslog-ng"] = lines_of("syslog-ng", words.lines)
-            by_syslog_ng(run, sent["syslog-ng"], place)
+        sent["requests"] = lines_of("requests", words.lines)
+        by_requests(run, sent["requests"])
+        for job, own in agents_of(words, place).items():
+            sent[job] = lines_of(job, words.lines)
+            by_agent(run, job, own, sent[job], words.kills, place)
         got = {job: found(run, job) for job in sent}
         status = run.end()
     print("| client | lines sent | found | lost | twice or not sent |\n|---|---|---|---|---|")

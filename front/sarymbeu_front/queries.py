@@ -131,7 +131,9 @@ def query_of(text: str) -> Query:
 
 
 def selector_of(text: str) -> Query:
-    """A selector alone. Raises Fault 400."""
+    """A selector alone; `{}` means every stream, as in Loki where streams and not lines are asked for. Raises Fault 400."""
+    if "".join(text.split()) == "{}":
+        return Query()
     query = query_of(text)
     if query.filters:
         raise Fault(400, f"only a selector is wanted, without line filters: {text}\n")
