@@ -105,6 +105,23 @@ def test_an_end_in_order_and_a_start_after_it(front):
     assert client.run.end() == 0
 
 
+@pytest.mark.parametrize("options", [(), ("--ingester.checkpoint-duration", "100ms")])
+def test_labels_and_series_are_told_after_a_start(front, options):
+    client = front("shards = 4\nflushers = 2\nchunk_target_size = 3000\n", *options)
+    hosts = [f"host-{number:02}" for number in range(20)]
+    for host in hosts:
+        # Stored chunks, sealed ones, one that grows, and none but stored ones.
+        client.push({"app": "web", "host": host}, *((number, f"line {number} " + "x" * 90) for number in range(40)))
+    client.ask("/flush", b"")
+    for host in hosts[::2]:
+        client.push({"app": "web", "host": host}, *((number, f"line {number} " + "x" * 90) for number in range(40, 80)))
+    time.sleep(0.3)
+    client.run.kill()
+    client.run.start()
+    assert client.data("/loki/api/v1/labels") == ["app", "host"] and client.data("/loki/api/v1/label/host/values") == hosts
+    assert client.data("/loki/api/v1/series", **{"match[]": '{host="host-03"}'}) == [{"app": "web", "host": "host-03"}]
+
+
 def test_the_end_of_the_program_ends_the_front(front):
     client = front()
     child = client.run.child()

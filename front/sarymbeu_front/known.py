@@ -1,4 +1,4 @@
-"""The streams that this run of the front has seen, in pushes and in answers."""
+"""The streams that are known: those that logs named at the start, and those of pushes and answers since."""
 import collections
 from collections.abc import Iterator
 from dataclasses import dataclass

@@ -14,6 +14,7 @@ from .faults import Fault, unavailable
 from .housekeeping import Housekeeping
 from .known import Streams
 from .limits import AllLimits, read_limits
+from .logs import streams_of
 from .metrics import Metrics
 from .pushes import Pushes
 from .queries import Queries
@@ -128,7 +129,11 @@ class Front:
         Raises Fault where the program ends.
         """
         began = time.monotonic()
+        # Beside recovery: before and behind it the logs name the same streams.
+        named = asyncio.create_task(asyncio.to_thread(streams_of, self.settings.folder))
         reply = await self.child.ask({"cmd": "board"})
+        for (tenant, name), labels in (await named).items():
+            self.streams.note(tenant, name, labels)
         # Where no shard has an entry, nothing that is sent can have been taken before.
         self.resent.fresh = not any(shard.get("accepted", 1) for shard in reply.get("board", [{}]))
         self.ready = True

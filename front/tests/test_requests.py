@@ -7,6 +7,7 @@ import pytest
 import snappy
 
 from sarymbeu_front import push_pb2
+from test_logs import WHOLE, record
 
 PUSH, RANGE = "/loki/api/v1/push", "/loki/api/v1/query_range"
 JSON = {"Content-Type": "application/json"}
@@ -333,6 +334,22 @@ def test_what_was_pushed_before_a_start_is_not_pushed_again(with_front, monkeypa
 
     with_front(before)
     with_front(after)
+
+
+def test_labels_and_series_of_logs_are_told_from_the_start(with_front, tmp_path):
+    (tmp_path / "wal-1").write_bytes(record(WHOLE))
+
+    async def work(client, _):
+        await push(client, {"new": "1"}, ("1", "x"))
+        for path, tenant, data in (
+            ("labels", "t", ["b", "c", "new"]),
+            ("label/b/values", "t", ['ä"}']),
+            ("series?match[]={a=\"1\"}", "u", [{"a": "1"}]),
+        ):
+            response = await client.get(f"/loki/api/v1/{path}", headers=of_tenant(tenant))
+            assert (await response.json())["data"] == data
+
+    with_front(work)
 
 
 @pytest.mark.parametrize("size, known", [("1", ["b"]), ("2", ["a", "b"])])
