@@ -1,12 +1,13 @@
 #!/usr/bin/python3
 """A load of agents at once over a front, which is killed meanwhile; then each line is looked for.
 
-    front/bench/agents.py FRONT PROGRAM [--agents N] [--lines N] [--kills N] [--in-flight N] [--parent FOLDER]
+    front/bench/agents.py FRONT PROGRAM [--agents N] [--lines N] [--kills N] [--in-flight N] [--ctl INGESTCTL] [--parent FOLDER]
 
 Each agent has a stream of its own and sends its lines in batches, by turns as JSON, JSON with gzip, and protobuf with Snappy.
 A batch without an answer, or with 429 or 503, is sent again as it is. Now and then front and program are killed, or one of
-both, and started again. At the end each stream is read by `query_range`: each line has to stand there once, under its stamp,
-and no other. It prints a table, and ends with status 1 where a line is lost, doubled or mixed.
+both, and started again. At the end each stream is read by `query_range`, and with --ctl behind the end of the front by
+`ingestctl export`: each line has to stand there once, under its stamp, and no other. It prints tables, and ends with status 1
+where a line is lost, doubled or mixed.
 """
 import argparse
 import asyncio
@@ -16,6 +17,7 @@ import itertools
 import json
 import pathlib
 import random
+import subprocess
 import sys
 import tempfile
 import time
@@ -139,10 +141,38 @@ async def kill_now_and_then(run: FrontRun, agents: list[Agent], kills: int) -> N
         await asyncio.to_thread(run.start)
 
 
-async def load(run: FrontRun, words: argparse.Namespace) -> bool:
+def exported(ctl: str, run: FrontRun) -> dict[str, collections.Counter]:
+    """By tenant and labels, as text, the entries that `ingestctl export` writes of the folder. Raises RuntimeError."""
+    entries: dict[str, collections.Counter] = collections.defaultdict(collections.Counter)
+    words = [ctl, "export", str(run.place / "folder"), str(run.place / "settings.toml")]
+    with subprocess.Popen(words, stdout=subprocess.PIPE) as process:
+        for line in process.stdout:
+            command = json.loads(line)
+            for stream in command.get("streams", []):
+                key = stream_key(command["tenant"], stream["stream"])
+                entries[key].update((int(stamp), text) for stamp, text in stream["values"])
+    if process.returncode:
+        raise RuntimeError(f"{ctl} export ended with {process.returncode}")
+    return entries
+
+
+def stream_key(tenant: str, labels: dict[str, str]) -> str:
+    return json.dumps([tenant, labels], sort_keys=True)
+
+
+def are_exported(ctl: str, run: FrontRun, agents: list[Agent]) -> bool:
+    """Prints what the folder has of each agent. Whether that is each line once, and nothing else."""
+    entries = exported(ctl, run)
+    rows = [row_of(agent, entries.pop(stream_key(agent.tenant, agent.labels), collections.Counter())) for agent in agents]
+    print("\nby `ingestctl export`:\n\n| agent | sent | found | lost | doubled | mixed |\n|---|---|---|---|---|---|")
+    for agent, row in zip(agents, rows):
+        print("|", " | ".join(map(str, (agent.number, agent.count, *row))), "|")
+    print(f"\nfurther streams: {len(entries)}")
+    return not entries and all(row[1:] == (0, 0, 0) for row in rows)
+
+
+async def load(run: FrontRun, words: argparse.Namespace, agents: list[Agent]) -> bool:
     """The whole load. Whether each line was found once."""
-    began = time.time_ns() // 10**9 * 10**9
-    agents = [Agent(number, words.lines // words.agents, words.batch, began) for number in range(words.agents)]
     seconds = time.monotonic()
     async with aiohttp.ClientSession(connector=aiohttp.TCPConnector(limit=0)) as session:
         kills = asyncio.create_task(kill_now_and_then(run, agents, words.kills))
@@ -179,15 +209,19 @@ def main() -> int:
     parser.add_argument("--kills", type=int, default=3)
     parser.add_argument("--in-flight", type=int, default=1)
     parser.add_argument("--seconds", type=float, default=300, help="the longest that it may take (%(default)s)")
+    parser.add_argument("--ctl", help="ingestctl, by which the folder is read at the end")
     parser.add_argument("--parent", default=None)
     words = parser.parse_args()
+    began = time.time_ns() // 10**9 * 10**9
+    agents = [Agent(number, words.lines // words.agents, words.batch, began) for number in range(words.agents)]
     with tempfile.TemporaryDirectory(dir=words.parent) as place:
         options = ("--ingester.flush-check-period", "2s", "--ingester.checkpoint-duration", "5s")
         run = FrontRun(words.front, words.program, pathlib.Path(place), SETTINGS, options)
         run.start()
         try:
-            well = asyncio.run(asyncio.wait_for(load(run, words), words.seconds))
+            well = asyncio.run(asyncio.wait_for(load(run, words, agents), words.seconds))
             status = run.end()
+            well &= words.ctl is None or are_exported(words.ctl, run, agents)
         except BaseException:
             run.process.kill()
             print(run.log()[-5000:], file=sys.stderr)
