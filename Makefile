@@ -26,7 +26,7 @@ help:
 	@echo 'make worlds   10,000 lists of events by lot, beside a slow program'
 	@echo 'make stress   10,000 lives of an ingester by lot, each of several threads'
 	@echo 'make kills    200 runs over a folder by lot, most of them killed, then 200 with files that may not grow, then each call for a file failed (by strace); KILLS=N, SEED=N'
-	@echo 'make crashes  10,000 images that a power cut may leave of a folder, each started over; then a program without one sync has to be caught, for each of four; IMAGES=N, SEED=N'
+	@echo 'make crashes  10,000 images that a power cut may leave of a folder, each started over, and as many behind a call that failed; then a program without one sync has to be caught, for each of four, and one that tells durable what failed; IMAGES=N, SEED=N'
 	@echo 'make front    runs the front over the program; SETTINGS=FILE, FOLDER=FOLDER, OPTIONS="--server.http-listen-port 3100" (docs/FRONT.md)'
 	@echo 'make front-install puts the front in place; PREFIX=FOLDER'
 	@echo 'make front-check tests the front without the program'
@@ -133,7 +133,8 @@ kills: $(program)
 
 crashes: $(program) $(ctl)
 	@python3 crashes/crashes.py $(program) --ctl $(ctl) $(if $(IMAGES),--images $(IMAGES)) $(if $(SEED),--seed $(SEED))
-	@for which in append beside folder begun; do \
+	@python3 crashes/crashes.py $(program) --ctl $(ctl) --fail $(if $(IMAGES),--images $(IMAGES)) $(if $(SEED),--seed $(SEED))
+	@for which in append beside folder begun told; do \
 	  python3 crashes/crashes.py $(program) --ctl $(ctl) $(if $(SEED),--seed $(SEED)) --without $$which || exit 1; \
 	done
 

@@ -1,7 +1,7 @@
 #!/usr/bin/env python3
 """Cuts the power of ingestd over a folder, at drawn moments and in drawn ways, and looks whether what it had answered is there.
 
-    python3 crashes/crashes.py PROGRAM [--images N] [--seed N] [--jobs N] [--ctl PROGRAM] [--without WHICH] [--history N]
+    python3 crashes/crashes.py PROGRAM [--images N] [--seed N] [--jobs N] [--ctl PROGRAM] [--fail] [--without WHICH] [--history N]
     python3 crashes/crashes.py --check
 
 A run of `PROGRAM SETTINGS FOLDER` gets drawn commands, and `strace` records its calls for files and its replies, in one order. A
@@ -22,13 +22,19 @@ Besides, the order itself is looked at, in the record alone. Before a reply tell
 synced: the logs, what leads to them, `lock`, and the names of the objects that the logs list. Before a rename the bytes of the
 renamed file are.
 
+With --fail a call fails in each run: a drawn one that writes, syncs, cuts, makes, renames or removes a file of the folder, with
+EIO or ENOSPC (by `strace`; the run is played beforehand, over a copy, to see which calls there are). It does nothing, and what
+a failed sync was to make last a later one makes last. Images are those behind it, and the next run begins with one of them. The
+order is not looked at: a log that takes no record more may stay behind.
+
 With --without the record is read as if the program had left out one of its syncs, which both an image and the order have to show
-(status 0, else 1):
+(status 0, else 1); `told` means --fail, and a program that tells durable what failed, which an image has to show:
 
     append  the sync of a log behind an append
     beside  the sync of what is written beside before a rename: checkpoints and objects
     folder  the sync of a folder behind a rename
     begun   those with which a folder is begun: of `lock`, of FOLDER, and of the folders that list it
+    told    no sync, but `"durable":false` in replies
 
 What a disk does with what it said was synced this cannot show, nor an order of threads that was not seen: `--seed` draws the same
 commands and cuts, but threads may take turns otherwise the next time. At the first image that loses, doubles or invents
@@ -36,6 +42,7 @@ something, and at a wrong order, it says what, keeps the image, and ends with st
 """
 import argparse
 import collections
+import contextlib
 import copy
 import functools
 import itertools
@@ -55,13 +62,16 @@ from dataclasses import dataclass, field
 from disk import CALLS, KEPT, WAYS, Disk, check_disk, left_of, read_trace
 
 sys.path.insert(0, str(pathlib.Path(__file__).resolve().parent.parent / "kills"))
-from kills import SETTINGS, Fields, Folder, Model, draw_commands, draw_queries, entries_of  # noqa: E402
+from kills import SETTINGS, Fields, Folder, Model, calls_in, draw_commands, draw_queries, entries_of, run_traced  # noqa: E402
 
 EACH = 100  # images of one history
 OF_A_KIND = 2  # images of one kind that are built in a run
 OF_A_RUN = 50  # images of a run
+OF_A_FAILING_RUN = 10
 ABOVE = ["", "above", "above/more"]  # folders that the program has to make, too
-WHICH = ["append", "beside", "folder", "begun"]
+WHICH = ["append", "beside", "folder", "begun", "told"]
+FAILING = ["openat", "write", "pwrite64", "fsync", "fdatasync", "ftruncate", "rename", "unlink", "mkdir"]
+ERRORS = ["EIO", "ENOSPC"]
 BEFORE, BEHIND = "before the first reply", "behind a reply"
 STARTED, ANEW, MENDED = "started", "began anew", "started when mended"
 
@@ -119,14 +129,14 @@ def ways_of_entries(calls, draw):
     return ways + [(f"one {one.kind} kept", [one]), ("some undone", [call for call in calls if draw.random() < 0.5])]
 
 
-def offer_images(disk, lot, moment, told):
-    """Offers images of a moment."""
+def offer_images(disk, lot, moment, told, failed):
+    """Offers images of a moment, behind calls that failed, as is told."""
     nodes, draw = disk.nodes(), lot.draw
     entries = [call for node in nodes if node.is_folder() for call in node.calls]
     has_bytes = any(node.calls for node in nodes if not node.is_folder())
     for name, kept in ways_of_entries(entries, draw):
         for way in [*WAYS, "drawn"] if has_bytes else ["none"]:
-            kind = (BEFORE if told == 0 else BEHIND, f"entries: {name if entries else 'none'}", f"bytes: {way}")
+            kind = (BEFORE if told == 0 else BEHIND, f"entries: {name if entries else 'none'}", f"bytes: {way}", *failed)
 
             def build():
                 def text_of(node):
@@ -154,8 +164,14 @@ def leaves_out(which, opened):
         "beside": name.endswith(".new"),
         "folder": has_renamed,
         "begun": name == "lock" or opened.node.is_folder() and not has_renamed,
+        "told": False,
         None: False,
     }[which]
+
+
+def makes_or_changes(name, line):
+    """Whether a call is one that may be made to fail."""
+    return name in FAILING and (name != "openat" or "O_CREAT" in line)
 
 
 def check_reply(disk, place, command, reply):
@@ -208,9 +224,6 @@ class Place(Folder):
     """A folder of kills.py below a top, which alone is there at first, beside the settings: the program makes what is missing."""
     top: pathlib.Path
 
-    def path(self):
-        return self.place / "folder"
-
     def settings_file(self):
         return self.top.parent / "settings.toml"
 
@@ -224,8 +237,7 @@ def make_place(parent, settings, above):
 def start(options, place, commands):
     """Runs the program over a folder to the end of these commands: its status, replies, and what it says."""
     lines = "".join(json.dumps(command) + "\n" for command in commands).encode()
-    words = [options.program, place.settings_file(), place.path()]
-    ran = subprocess.run(words, input=lines, capture_output=True, timeout=60)
+    ran = subprocess.run(place.words(options.program), input=lines, capture_output=True, timeout=60)
     return ran.returncode, [json.loads(line) for line in ran.stdout.splitlines()], ran.stderr.decode()
 
 
@@ -284,7 +296,7 @@ class History:
     def __init__(self, options, number, parent):
         self.options, self.draw = options, random.Random(f"{options.seed} {number}")
         settings = {name: self.draw.choice(values) for name, values in SETTINGS.items()}
-        above = self.draw.choice(ABOVE)
+        above, self.copy, self.failing = self.draw.choice(ABOVE), parent / f"copy-{number}", None
         self.place = make_place(parent / f"history-{number}", settings, above)
         self.image_place = make_place(parent / f"image-{number}", settings, above)
         self.disk, self.found, self.before = Disk(self.place.top), {}, None
@@ -294,6 +306,7 @@ class History:
         """Plays runs until there are images enough."""
         for run in itertools.count():
             commands = self.draw_run(run)
+            self.failing = self.draw_failing(commands) if self.options.fail else None
             self.record(run, commands)
             images, kill, replies = self.read_record(commands)
             started = self.check(run, images, commands, replies)
@@ -309,33 +322,54 @@ class History:
         first = [{"cmd": "checkpoint"}, {"cmd": "flush"}, {"cmd": "flush", "forced": False}, {"cmd": "sweep", "now": str(clock)}]
         return ([self.draw.choice(first)] if run else []) + draw_commands(self.draw, kept, clock)
 
+    def draw_failing(self, commands):
+        """The call that is to fail: what it is, its number in its thread, and the error. Each kind is as likely as another."""
+        shutil.copytree(self.place.top.parent, self.copy)
+        place = Place(self.copy / self.place.place.relative_to(self.place.top.parent), self.place.settings, self.copy / "top")
+        run_traced(self.options.program, place, Model(place, self.found), commands, self.copy / "trace")
+        calls = calls_in(self.copy / "trace", place.path(), makes_or_changes)
+        shutil.rmtree(self.copy)
+        kind = self.draw.choice(sorted({name for name, _ in calls}))
+        return kind, self.draw.choice([number for name, number in calls if name == kind]), self.draw.choice(ERRORS)
+
     def record(self, run, commands):
-        """Runs the program under strace."""
+        """Runs the program under strace. Where a call fails, it may end by that."""
         words = ["strace", "-f", "-qq", "-xx", "-s", str(2**24), "-e", "signal=none", "-e", f"trace={','.join(CALLS)}"]
-        words += ["-o", self.place.top.parent / "trace", self.options.program, self.place.settings_file(), self.place.path()]
+        words += ["-e", "inject={0}:error={2}:when={1}".format(*self.failing)] if self.failing else []
+        words += ["-o", self.place.top.parent / "trace", *self.place.words(self.options.program)]
         waits = len(commands) if self.draw.random() < 0.7 else min(run, 1)
         lines, pipe = [json.dumps(command).encode() + b"\n" for command in commands], subprocess.PIPE
         with subprocess.Popen(words, stdin=pipe, stdout=pipe, stderr=pipe, bufsize=0) as process:
             signal.signal(signal.SIGALRM, lambda *_: process.kill())
             signal.alarm(120)  # where nothing goes on
             for line in lines[:waits]:
-                process.stdin.write(line)
-                assert process.stdout.readline(), f"the program ended: {process.stderr.read()}"
+                with contextlib.suppress(BrokenPipeError):
+                    process.stdin.write(line)
+                if not process.stdout.readline():
+                    break
             _, says = process.communicate(b"".join(lines[waits:]))
             signal.alarm(0)
-        assert (process.returncode, says) == (0, b""), f"the program ended with {process.returncode}: {says}"
+        ended = process.returncode, says
+        assert ended == (0, b"") or self.failing and ended[0] in (1, 2, 127), f"the program ended with {ended[0]}: {says}"
 
     def read_record(self, commands):
         """Tells the model of files what was recorded: images, kills, and the replies."""
         lot, kills, written, replies = Lot(self.draw, OF_A_KIND), Lot(self.draw, 1), b"", []
+        failed = ["{0} failed with {2}".format(*self.failing)] if self.failing else []
+        may_offer = not failed
         steps = read_trace((self.place.top.parent / "trace").read_text().splitlines())
         for moment, (called, begins) in enumerate(steps):
+            if called.is_failed:
+                may_offer = True
+                continue
             if not begins:
                 self.disk.end(called)
             else:
                 if called.name in ("write", "writev") and called.number(0) == 1:
                     written += b"".join(called.texts())[: called.result]
                     for line in written.split(b"\n")[len(replies) : -1]:
+                        if self.options.without == "told":
+                            line = line.replace(b'"durable":false', b'"durable":true')
                         replies.append(json.loads(line))
                         if len(replies) <= len(commands):
                             self.look(lambda: check_reply(self.disk, self.place, commands[len(replies) - 1], replies[-1]))
@@ -343,22 +377,24 @@ class History:
                     self.look(lambda: check_rename(self.disk, called))
                 self.disk.begin(called, lambda opened: leaves_out(self.options.without, opened))
             told = min(len(replies), len(commands))
-            offer_images(self.disk, lot, moment, told)
-            offer_kill(self.disk, kills, told)
+            if may_offer:
+                offer_images(self.disk, lot, moment, told, failed)
+                offer_kill(self.disk, kills, told)
         assert self.disk.image() == files_below(self.place.top), "the record does not give what lies in the folder"
         self.disk.stop()
-        return lot.images(), kills.any(), replies[: len(commands)]
+        return lot.images(), kills.any() if kills.taken else None, replies[: len(commands)]
 
     def look(self, check):
         """Looks at the order, and keeps what is first wrong with it."""
         try:
-            check()
+            if not self.failing:
+                check()
         except AssertionError as fault:
             self.order = self.order or str(fault)
 
     def model_of(self, commands, replies):
         """What may be there, and has to be, behind some replies."""
-        model = Model(self.place, self.found)
+        model = Model(self.place, self.found, may_fail=bool(self.failing))
         for command, reply in itertools.zip_longest(commands, replies):
             model.note(command, reply)
         model.may_fail = True  # the logs of two shards may be cut at different moments
@@ -368,7 +404,8 @@ class History:
         """Looks at images of a run, up to the first that loses. Those over which the program started, with what was found."""
         models, started = {0: self.before or self.model_of(commands, [])}, []
         self.before = models[0]
-        for image in self.draw.sample(images, min(OF_A_RUN, len(images))):
+        count = OF_A_FAILING_RUN if self.failing else OF_A_RUN
+        for image in self.draw.sample(images, min(count, len(images))):
             if image.told not in models:
                 models[image.told] = self.model_of(commands, replies[: image.told])
             write_files(self.image_place.top, image.files)
@@ -386,12 +423,15 @@ class History:
 
     def go_on(self, started, kill, commands, replies):
         """Makes the next run begin with what the last one left: at its end, where it is killed, or as an image over which the
-        program started."""
+        program started. Behind a call that failed it is an image, or nothing: what else there is need not last."""
         way, top = self.draw.random(), self.place.top
-        if way < 0.4 and started:
-            image, self.found = self.draw.choice(started)
-            write_files(top, image.files)
-            self.disk, self.before = Disk(top, image.files), self.model_of([], [])
+        if self.failing or (way < 0.4 and started):
+            files, self.found = {}, {}
+            if started:
+                image, self.found = self.draw.choice(started)
+                files = image.files
+            write_files(top, files)
+            self.disk, self.before = Disk(top, files), self.model_of([], [])
             return
         if way < 0.8:
             self.disk, replies = kill.disk, replies[: kill.told]
@@ -425,9 +465,16 @@ def play_all(options, parent):
             loss = loss or lost and f"seed {options.seed}, history {number}, {lost}"
             if lost and not options.without:
                 print(f"an image with a loss lies in {parent / f'image-{number}'}", flush=True)
-            if (order and loss) if options.without else (order or loss):
+            if is_over(options, order, loss):
                 (parent / "stop").touch()
     return counts, order, loss
+
+
+def is_over(options, order, loss):
+    """Whether there is no more to be seen: at a fault, and without a sync where both faults are found that have to be."""
+    if options.fail:
+        return bool(loss)
+    return bool(order and loss) if options.without else bool(order or loss)
 
 
 def print_table(counts):
@@ -448,18 +495,20 @@ def main():
     parser.add_argument("--seed", type=int, default=random.randrange(2**32))
     parser.add_argument("--jobs", type=int, default=os.cpu_count(), help="how many histories are played side by side")
     parser.add_argument("--ctl", help="ingestctl, which mends")
+    parser.add_argument("--fail", action="store_true", help="fail a call in each run")
     parser.add_argument("--without", choices=WHICH, help="a sync that the record is read without (see the head of this file)")
     parser.add_argument("--history", type=int, help="play this one alone, to look at it again")
     parser.add_argument("--parent", default="/dev/shm", help="where folders are made: a memory disk")
     parser.add_argument("--check", action="store_true", help="check the model of files alone")
     options = parser.parse_args()
+    options.fail |= options.without == "told"
     check_disk()
     if options.check:
         return
     if not options.program or not shutil.which("strace"):
         parser.error("a program is needed, and strace")
     parent = pathlib.Path(tempfile.mkdtemp(prefix="crashes-", dir=options.parent))
-    what = f" at most, without the syncs `{options.without}`" if options.without else ""
+    what = f" at most, without `{options.without}`" if options.without else " behind calls that failed" if options.fail else ""
     print(f"seed {options.seed}, {options.images} images{what}, folders in {parent}", flush=True)
     counts, order, loss = play_all(options, parent)
     if not options.without:
@@ -468,9 +517,9 @@ def main():
         print(fault)
     if options.without or not loss:
         shutil.rmtree(parent)
-    is_caught = bool(order and loss)
+    is_caught = is_over(options, order, loss)
     if options.without:
-        print(f"a program without the syncs `{options.without}` is{'' if is_caught else ' not'} caught")
+        print(f"a program without `{options.without}` is{'' if is_caught else ' not'} caught")
     sys.exit(not is_caught if options.without else bool(order or loss))
 
 

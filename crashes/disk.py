@@ -89,10 +89,11 @@ class Opened:
 
 @dataclass
 class Called:
-    """A call as it was seen. The result is None where it did not return."""
+    """A call as it was seen. The result is None where it did not return. One that was made to fail has done nothing."""
     name: str
     words: str
     result: int = None
+    is_failed: bool = False
 
     def texts(self):
         """The texts among its arguments."""
@@ -103,7 +104,8 @@ class Called:
 
 
 def read_trace(lines):
-    """The calls of a trace that did not fail, each twice: (call, True) where it begins and (call, False) where it returned."""
+    """The calls of a trace, each twice: (call, True) where it begins and (call, False) where it returned. Those that failed by
+    themselves are left out."""
     steps, waiting = [], {}
     for line in lines:
         match = re.match(r"(\d+) +(?:<\.\.\. \w+ resumed>|(\w+)\()(.*)$", line)
@@ -121,9 +123,9 @@ def read_trace(lines):
         elif match := re.match(r"(.*)\) += (-?\d+|\?)", rest):
             called.words += match[1]
             if match[2] != "?":
-                called.result = int(match[2])
+                called.result, called.is_failed = int(match[2]), rest.endswith("(INJECTED)")
                 steps.append((called, False))
-    return [(called, begins) for called, begins in steps if called.result is None or called.result >= 0]
+    return [(called, begins) for called, begins in steps if called.result is None or called.result >= 0 or called.is_failed]
 
 
 class Disk:
