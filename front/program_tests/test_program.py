@@ -69,6 +69,13 @@ def test_many_entries_of_one_stream_are_one_push(front):
     assert client.found('{a="1"}') == lines
 
 
+def test_a_stream_may_stand_several_times_in_a_body(front):
+    client = front()
+    parts = [{"stream": {"job": "fluent-bit"}, "values": [[str(number), f"line {number}"]]} for number in range(50)]
+    assert client.ask("/loki/api/v1/push", json.dumps({"streams": parts}).encode()) == (204, "")
+    assert client.found('{job="fluent-bit"}') == [(number, f"line {number}") for number in range(50)]
+
+
 def test_filters_look_through_all_pages(front):
     client = front()
     lines = [(number // 7, f"line {number}") for number in range(20000)]
