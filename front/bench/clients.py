@@ -3,7 +3,7 @@
 
     front/bench/clients.py FRONT PROGRAM [--lines N] [--kills N] [--rsyslogd FILE] [--modules FOLDERS] [--parent FOLDER]
 
-The clients are curl, Python's own with each kind of body, its requests, and those of front/deploy that are installed: syslog-ng,
+The clients are curl, Python's own with each kind of body, python3-requests, and those of front/deploy that are here: syslog-ng,
 and rsyslog where a module omhttp is in one of the FOLDERS (apart by colons). While these two send, front and program are killed
 and started again. It prints a table, and ends with status 1 where a line is lost or found more than once.
 """

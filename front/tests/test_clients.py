@@ -1,4 +1,4 @@
-"""What agents and readers send, to the byte and with their headers, as their sources have it."""
+"""What agents and readers send that cannot be run here: bodies, headers and URLs of the form of each, written by hand."""
 import gzip
 import json
 
@@ -164,8 +164,6 @@ def reads(with_front):
         with_front(work)
 
     return run
-
-
 
 
 def test_what_grafana_asks(reads):
