@@ -119,7 +119,7 @@ KAFKA = "application/vnd.kafka.v1+json"
 @pytest.mark.parametrize(
     "kind, body, answer",
     [
-        ("application/json; charset=utf-8", b'{"streams":[%s, %s]}', (204, "")),
+        ("application/json; charset=utf-8", b'{"streams":[%s,%s]}', (204, "")),
         ("application/json; charset=utf-8", b"[%s,%s]", (400, "the body has no list `streams`\n")),
         (KAFKA, b'{"records":[{"value":%s},{"value":%s}]}', (415, f"the content type '{KAFKA}' is not understood")),
         ("text/plain", b"%s\n%s", (415, "the content type 'text/plain' is not understood: application/json and")),
