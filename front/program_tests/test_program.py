@@ -184,14 +184,20 @@ def test_a_folder_that_cannot_be_opened_ends_the_front(front):
 def test_logs_that_have_grown_are_checkpointed(front):
     client = front("", "--checkpoint-log-bytes", "100000", "--ingester.flush-check-period", "100ms")
     log = client.run.place / "folder" / "wal-0"
-    for first in range(0, 3000, 1000):
+
+    def push(first):
         client.push({"a": str(first)}, *((number, "x" * 100) for number in range(first, first + 1000)))
+
+    for first in range(0, 3000, 1000):
+        push(first)
     client.ask("/flush", b"")
     assert log.stat().st_size > 300000
-    until = time.monotonic() + 5
-    while log.stat().st_size > 100000 and time.monotonic() < until:
+    # Whenever the last checkpoint was, this calls for one, in which the entries above are listed as stored.
+    push(3000)
+    until = time.monotonic() + 10
+    while log.stat().st_size > 200000 and time.monotonic() < until:
         time.sleep(0.05)
-    assert log.stat().st_size < 100000
+    assert log.stat().st_size < 200000
     assert len(client.found('{a="0"}')) == 1000
 
 
