@@ -36,7 +36,7 @@ case $1 in
     printf '.TP\n2\nit could not be looked at; one line on standard error says why\n'
     printf '.SH SEE ALSO\n.BR ingestd (1)\n' ;;
   ingestd)
-    printf '.SH NAME\ningestd \\- the write path of a log store\n.SH SYNOPSIS\n.B ingestd\n[SETTINGS [FOLDER]]\n.SH DESCRIPTION\n'
+    printf '.SH NAME\ningestd \\- the write path of a log store\n.SH SYNOPSIS\n.B ingestd\n[SETTINGS [FOLDER]]\n.br\n.B ingestd \\-\\-version\n.SH DESCRIPTION\n'
     section docs/COMMANDS.md '# Commands' | sed '/^    ingestd /d' | filled
     for command in push sweep flush gauges board checkpoint query; do
       printf '.SH %s\n' "$(echo $command | tr '[:lower:]' '[:upper:]')"

@@ -1,9 +1,11 @@
-//! The program: the argument words and the standard streams, passed to a session.
+//! The program: the argument words and the standard streams, passed to a session; or, with the one word `--version`, which program
+//! it is.
 #![tactic(auto)]
 
 use ing_folder::{FolderLog, FolderStore, hold_streams};
 use ing_program::{Disk, Ending, conclude, start};
 use ing_store::DigestReceipt;
+use ing_version::{asks_version, write_version};
 use std::fs::File;
 use std::io::ErrorKind;
 use std::process::ExitCode;
@@ -17,13 +19,17 @@ fn main(rt: HostRuntime) -> ExitCode {
     let ended = match prepared(&rt) {
         Ok((words, _held)) => {
             let (mut reader, mut writer) = (rt.reader(), io::writer(&rt));
-            start::<_, Log<'_>, DigestReceipt, End<'_>, Disk<'_, HostRuntime>, _, _>(
-                &rt,
-                &Disk::new(&rt),
-                &words,
-                &mut reader,
-                &mut writer,
-            )
+            if asks_version(&words) {
+                write_version(&mut writer, "ingestd").map_err(|_| Ending::OutputFault)
+            } else {
+                start::<_, Log<'_>, DigestReceipt, End<'_>, Disk<'_, HostRuntime>, _, _>(
+                    &rt,
+                    &Disk::new(&rt),
+                    &words,
+                    &mut reader,
+                    &mut writer,
+                )
+            }
         }
         Err(ending) => Err(ending),
     };
