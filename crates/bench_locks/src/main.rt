@@ -19,9 +19,7 @@ fn main(rt: HostRuntime) -> Result<()> {
     let mut reader = rt.reader();
     let mut writer = io::writer(&rt);
     let ended = match how.as_str() {
-        "alone" if settings.shards() == 1 => {
-            run(alloc, &mut reader, &mut writer, &mut end, settings)
-        }
+        "alone" => run(alloc, &mut reader, &mut writer, &mut end, settings),
         "locked" => {
             let ends = vec![in alloc; store.end(&rt, Fuse::None)]?;
             run_shards(

@@ -117,6 +117,24 @@ impl<D: LogDisk, R: Receipt> Begun<D, R> {
         })
     }
 
+    /// The shard, with the shares. Takes no memory.
+    pub fn into_recovered(self) -> RecoveredDurable<D, R>
+        ensures shard { result.shard ≡ self.shard }
+        ensures shares { (result.accepted ≡ self.accepted) × (result.stored ≡ self.stored) }
+    {
+        let Begun {
+            shard,
+            accepted,
+            stored,
+        } = self;
+        let Told { share, amount: _ } = accepted;
+        RecoveredDurable {
+            shard,
+            accepted: share,
+            stored,
+        }
+    }
+
     /// Gives the shares up, which stay out, and gives the log back. Takes no memory.
     pub(crate) fn into_log(self) -> D
         ensures { result ≡ self.shard.log }

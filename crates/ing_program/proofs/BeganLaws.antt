@@ -40,12 +40,12 @@ abbrev state_of : {D : Type 0} → BegunState D → State
 state_of b = b.shard.memory.state
 
 -- what stands at a place of a list that is made of another
-made_of : {X Y : Type 0} (f : X → Y) (xs : List X) (i : ℕ) (y : Y) → slice_get (map f xs) i ≡ Some y → (x : X) × (slice_get xs i ≡ Some x) × (f x ≡ y)
+pub made_of : {X Y : Type 0} (f : X → Y) (xs : List X) (i : ℕ) (y : Y) → slice_get (map f xs) i ≡ Some y → (x : X) × (slice_get xs i ≡ Some x) × (f x ≡ y)
 made_of f [] i y at = absurd (none-some y at)
 made_of f (x ∷ xs) zero y at = (x, refl, same_Some (f x) y at)
 made_of f (x ∷ xs) (suc i) y at = made_of f xs i y at
 
-all_at : {X : Type 0} (P : X → Type 0) (xs : List X) (i : ℕ) (x : X) → AllByRecursion P xs → slice_get xs i ≡ Some x → P x
+pub all_at : {X : Type 0} (P : X → Type 0) (xs : List X) (i : ℕ) (x : X) → AllByRecursion P xs → slice_get xs i ≡ Some x → P x
 all_at P [] i x all at = absurd (none-some x at)
 all_at P (y ∷ xs) zero x all at = subst P (same_Some y x at) all.0
 all_at P (y ∷ xs) (suc i) x all at = all_at P xs i x all.1 at

@@ -17,7 +17,7 @@ use Rattle.ing_session.specs.QueryFault.TheVariants as queries
 use Rattle.ing_node.specs.NodeFault.{NodeFault}
 use Rattle.ing_node.specs.NodeFault.TheVariants as node
 use Rattle.ing_node.specs.declared.query.AnswerFault.TheVariants.{Node, Query}
-use Rattle.ing_session.specs.ByRows.{limits_of}
+use Rattle.ing_session.specs.Faults.{limits_of}
 use Rattle.ing_session.specs.Causes.{HaveCause}
 use Rattle.ing_session.proofs.CausesLaws.{one_failure, same_count}
 use Rattle.ing_program.specs.ByLedger.{Told, Stays, Raises, PushesAs, PushesStream, PushesStreams, Failed, failed_of}

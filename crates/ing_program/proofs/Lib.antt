@@ -3,3 +3,4 @@ pub mod CountLaws
 pub mod HeldLaws
 pub mod LedgerLaws
 pub mod StartingLaws
+pub mod OwnLaws

@@ -1,5 +1,5 @@
 -- What the bytes of a settings file come to.
-use Rattle.std.proofs.Common.{◌≡◌, ◌≢◌, ◌<◌, ◌≤◌, ℕ, Bool, List, [], ◌∷◌, None, Some, Ok, Err, ap, arith, false, inl, inr, length, refl, sym, subst, true, ◌∙◌}
+use Rattle.std.proofs.Common.{◌≡◌, ◌<◌, ◌≤◌, ℕ, Bool, List, [], ◌∷◌, None, Some, Ok, Err, ap, arith, false, inl, inr, length, sym, subst, true, ◌∙◌}
 use Rattle.std.specs.Prelude.{◌⊎◌, if◌then◌else◌, IsTrue, Option, Result, IfSome, IfErr, IsErrOf, string_bytes}
 use Rattle.std.specs.Result.{IsErrAnd}
 use Rattle.std.specs.Str.{is_utf8, IsUtf8}
@@ -9,8 +9,6 @@ use Rattle.ing_limits.specs.Settings.{StoreSettings, Refusal, not_toml, unknown_
 use Rattle.ing_limits.specs.Faults as limits
 use Rattle.ing_limits.specs.declared.fault.SettingsFault.{SettingsFault}
 use Rattle.ing_limits.specs.declared.fault.SettingsFault.TheVariants.{NoMemory, NotToml, UnknownSetting, BadSetting}
-use Rattle.ing_session.specs.ByRows.{by_rows}
-use Rattle.ing_session.specs.Held.{Begun, BeginsOver}
 use Rattle.ing_session.specs.Manners.{Manner}
 use Rattle.ing_session.specs.declared.ending.Ending.{Ending}
 use Rattle.ing_session.specs.declared.ending.Ending.TheVariants.{NotOpened, NotRecovered}
@@ -52,10 +50,6 @@ at_manner P settings b is p = subst (λ x. P (manner_in x settings.shards)) (sym
 -- and over a folder
 pub in_folder : (honest : Type 0) (settings : StoreSettings) (b : Bool) → is_alone settings ≡ b → (P : Manner → ℕ → Type 0) → IsInFolder b honest settings.shards P → IsOverFolder honest settings P
 in_folder honest settings b is P p = subst (λ x. IsInFolder x honest settings.shards P) (sym is) p
-
--- over one log, from whatever that was
-pub as_in_folder : {D : Type 0} {text : List ℕ} (honest : Type 0) (shards last : ℕ) (P : Manner → ℕ → Type 0) → ((b : Begun) × BeginsOver D text b × P (by_rows honest b) last) → IsInFolder true honest shards P
-as_in_folder honest shards last P (b, begins, p) = (b, begins.logged, last, p)
 
 -- ---- an end of the store that never failed
 

@@ -45,10 +45,10 @@ use Rattle.ing_commands.specs.Commands as commands
 use Rattle.ing_commands.specs.Commands.{Command}
 use Rattle.ing_commands.specs.PushCommands.{PushCommand, StreamEntries}
 use Rattle.ing_commands.specs.QueryCommands.{QueryCommand}
-use Rattle.ing_session.specs.ByRows.{label_fault, limits_of}
+use Rattle.ing_session.specs.Faults.{label_fault, limits_of}
 use Rattle.ing_session.specs.Causes.{HaveCause}
 use Rattle.ing_session.specs.Manners.{Manner}
-use Rattle.ing_session.specs.Queries.{Reads}
+use Rattle.ing_service.specs.Queries.{Reads}
 use Rattle.ing_session.specs.Replies.{fault_data, judged_data, push_data, sweep_data, flush_data, gauges_data, board_data, checkpoint_data, query_data, report_data}
 
 -- What shards begin with: whether they may have logs, how many entries each has from an earlier run, and how many of all these are

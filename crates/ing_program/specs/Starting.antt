@@ -1,10 +1,10 @@
 -- With which settings the program starts (own).
-use Rattle.std.specs.Prelude.{◌≡◌, ◌⊎◌, ℕ, ◌==◌, ◌&&◌, Bool, true, false, List, [], ◌∷◌, if◌then◌else◌, Result, Ok, Err, ⊤}
+use Rattle.std.specs.Prelude.{◌≡◌, ◌⊎◌, ℕ, ◌==◌, Bool, true, false, List, [], ◌∷◌, if◌then◌else◌, Result, Ok, Err, ⊤}
 use Rattle.std.specs.Str.{is_utf8}
 use Rattle.ing_limits.specs.Settings.{StoreSettings, Refusal, not_toml, settings_of}
-use Rattle.ing_session.specs.ByRows.{by_rows}
 use Rattle.ing_session.specs.Endings.{IsNotRecovered}
-use Rattle.ing_session.specs.Held.{Begun, begun_new}
+use Rattle.ing_service.specs.ByShards.{by_shards}
+use Rattle.ing_service.specs.Held.{Begun, begun_new}
 use Rattle.ing_session.specs.Manners.{Manner}
 use Rattle.ing_session.specs.declared.ending.Ending.{Ending}
 use Rattle.ing_session.specs.declared.ending.Ending.TheVariants.{NoFolder, NoObjects, FolderInUse, MissingLog}
@@ -14,13 +14,13 @@ use Rattle.ing_program.specs.ByLedger.{Began, began_new, by_ledger}
 abbrev pub started_by : List ℕ → Result StoreSettings Refusal
 started_by bytes = if is_utf8 bytes then settings_of bytes else Err not_toml
 
--- one shard, and one flusher
+-- one flusher
 abbrev pub is_alone : StoreSettings → Bool
-is_alone settings = settings.shards == 1 && settings.flushers == 1
+is_alone settings = settings.flushers == 1
 
--- A shard with one flusher is nobody else's, and all that it holds is known; others lie behind locks.
+-- Shards with one flusher are nobody else's, and all that they hold is known; others lie behind locks.
 abbrev pub manner_in : Bool → ℕ → Manner
-manner_in true shards = by_rows ⊤ begun_new
+manner_in true shards = by_shards ⊤ (begun_new shards)
 manner_in false shards = by_ledger began_new shards
 
 abbrev pub manner_of : StoreSettings → Manner
@@ -42,9 +42,9 @@ AreBad (path ∷ folder ∷ []) = folder ≡ []
 AreBad (path ∷ folder ∷ next ∷ more) = ⊤
 
 -- Over a folder whose store is honest or not: what the shards begin with is what lies there, which no contract knows, and no more how often
--- the store fails. A shard with one flusher is nobody else's there too.
+-- the store fails. Shards with one flusher are nobody else's there too.
 abbrev pub IsInFolder : Bool → Type 0 → ℕ → (Manner → ℕ → Type 0) → Type 0
-IsInFolder true honest shards P = (begun : Begun) × (begun.logged ≡ true) × (failed : ℕ) × P (by_rows honest begun) failed
+IsInFolder true honest shards P = (begun : Begun) × (begun.logged ≡ true) × (failed : ℕ) × P (by_shards honest begun) failed
 IsInFolder false honest shards P = (began : Began) × (began.logs ≡ true) × (failed : ℕ) × P (by_ledger began shards) failed
 
 abbrev pub IsOverFolder : Type 0 → StoreSettings → (Manner → ℕ → Type 0) → Type 0

@@ -1,15 +1,16 @@
 //! A run over the logs and the store in a folder.
-ghost use Rattle.std.specs.Prelude.{◌≡◌, ◌≢◌, ◌⊎◌, ◌<◌, IfErr, IfSome, IsErrOf, IsTrue, Err, Ok, OnOk, true, vec_len};
+ghost use Rattle.std.specs.Prelude.{◌≡◌, ◌≢◌, ◌⊎◌, ◌<◌, IfErr, IfSome, IsErrOf, IsTrue, Err, Ok, OnOk, vec_len};
 ghost use Rattle.ing_limits.specs.Settings.{StoreSettings};
-ghost use Rattle.ing_program.specs.Starting.{IsInFolder, IsOfFolder, IsOverFolder, started_by};
+ghost use Rattle.ing_program.specs.Starting.{IsOfFolder, IsOverFolder, started_by};
 ghost use Rattle.ing_session.specs.Endings.{IsNotOpened, IsNotRecovered, ending_status, is_of_run, refusal_of};
 ghost use Rattle.ing_session.specs.Runs.{AnswersAll, AnswersFirstLines, AnswersFront, AnswersWhatWasRead};
 
 use crate::folders::{Folders, begin, conclude_folder, end_in, ends_in, hold_of, logs_in};
+use crate::own::run_over;
 use crate::program::{is_alone, settings_of_file};
 use crate::shards::run_recovered;
 use ing_limits::Settings;
-use ing_session::{Ending, run_over};
+use ing_session::Ending;
 use ing_store::{Receipt, StoreEnd};
 use ing_wal::LogDisk;
 use std::alloc::Global;
@@ -18,8 +19,8 @@ use std::sync::Wait;
 use std::thread::Threads;
 
 /// Runs by the settings that the bytes of a settings file give, over the logs and the store in a folder: the log of each shard is the
-/// file `wal-` and its number, and the objects of the store lie in the folder `objects`; what is absent is made. As `run_over` where there are
-/// one shard and one flusher, and else as `run_recovered`.
+/// file `wal-` and its number, and the objects of the store lie in the folder `objects`; what is absent is made. As `run_over` where there is
+/// one flusher, and else as `run_recovered`.
 ///
 /// The folder is kept for this program until the run has ended, and what it was begun with stands in it.
 ///
@@ -84,8 +85,8 @@ pub fn start_over<
     ended
 }
 
-/// Runs over these logs, one of each shard, and these ends of one store: as `run_over` where there are one shard and one flusher, and else
-/// as `run_recovered`.
+/// Runs over these logs, one of each shard, and these ends of one store: as `run_over` where there is one flusher, and else as
+/// `run_recovered`.
 fn run_in<
     H: AllocGlobal + Threads + Wait + Sync,
     D: LogDisk + Drop + Send,
@@ -123,7 +124,7 @@ fn run_in<
     ensures ending { IfErr result (λ e. IsTrue (is_of_run e) ⊎ IsNotOpened e ⊎ IsNotRecovered e) }
 {
     if is_alone(&settings) {
-        return run_alone(rt.alloc(), reader, writer, end, settings, logs, finders);
+        return run_over(rt, rt.alloc(), reader, writer, end, settings, logs, finders);
     }
     run_recovered(
         rt,
@@ -136,40 +137,4 @@ fn run_in<
         logs,
         finders,
     )
-}
-
-/// Runs over the only log of these, and looks for the stored chunks by the only finder. As `run_over`.
-fn run_alone<D: LogDisk + Drop, Q: Receipt, E: StoreEnd<Receipt = Q> + Drop, R: Read, W: Write>(
-    alloc: Global,
-    reader: &mut R,
-    writer: &mut W,
-    end: &mut E,
-    settings: Settings,
-    logs: Vec<D>,
-    finders: Vec<E>,
-) -> Result<(), Ending>
-    requires one { settings.shards ≡ 1 }
-    requires log { vec_len logs ≡ 1 }
-    requires finder { vec_len finders ≡ 1 }
-    ensures output { OnOk result (IfSome (R.remaining reader.old) (λ input.
-        IsInFolder true E.is_honest settings.shards (λ manner failed. AnswersAll manner settings input (E.failure_count end.old) failed
-        (W.contents writer.old) (W.contents writer.new)))) }
-    ensures input_fault { IsErrOf result Ending.InputFault → IfSome (R.remaining reader.old) (λ input.
-        IsInFolder true E.is_honest settings.shards (λ manner failed. AnswersWhatWasRead manner settings input (R.remaining reader.new)
-        (E.failure_count end.old) failed (W.contents writer.old) (W.contents writer.new))) }
-    ensures no_memory { IsErrOf result Ending.NoMemory → (writer.new ≡ writer.old)
-        ⊎ IfSome (R.remaining reader.old) (λ input.
-        IsInFolder true E.is_honest settings.shards (λ manner failed. AnswersFirstLines manner settings input (E.failure_count end.old) failed
-        (W.contents writer.old) (W.contents writer.new))) }
-    ensures output_fault { IsErrOf result Ending.OutputFault → IfSome (R.remaining reader.old) (λ input.
-        IsInFolder true E.is_honest settings.shards (λ manner failed. AnswersFront manner settings input (E.failure_count end.old) failed
-        (W.contents writer.old) (W.contents writer.new))) }
-    ensures not_recovered { IfErr result (λ e. IsNotRecovered e → writer.new ≡ writer.old) }
-    ensures ending { IfErr result (λ e. IsTrue (is_of_run e) ⊎ IsNotRecovered e) }
-{
-    let (mut logs, mut finders) = (logs, finders);
-    let (Some(log), Some(mut finder)) = (logs.pop(), finders.pop()) else {
-        unreachable!("there is one of each");
-    };
-    run_over(alloc, reader, writer, end, settings, log, &mut finder)
 }

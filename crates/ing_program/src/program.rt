@@ -10,7 +10,8 @@ use crate::folders::Folders;
 use crate::over::start_over;
 use crate::shards::run_shards;
 use ing_limits::Settings;
-use ing_session::{Ending, run};
+use ing_service::run;
+use ing_session::Ending;
 use ing_store::{Fuse, MemoryEnd, MemoryStore, Receipt, StoreEnd};
 use ing_wal::LogDisk;
 use std::alloc::{AllocError, Global};
@@ -97,7 +98,7 @@ fn read_file<F: Files + AllocGlobal>(rt: &F, path: &str) -> Result<Vec<u8>, Endi
 }
 
 /// Runs by the settings that the bytes of a settings file give, over a store in memory, which ends with the run: as `run` where
-/// there are one shard and one flusher, and as `run_shards` where there are more of either.
+/// there is one flusher, and as `run_shards` where there are more.
 ///
 /// `NotToml` where they are not UTF-8 or no TOML, `UnknownSetting` and `BadSetting` as `Settings::from_toml` says; these in
 /// this order, and nothing is written. The others as `run` and `run_shards` say. `NoMemory` may stand in place of any. (Own.)
@@ -141,12 +142,11 @@ pub fn start_on<T: AllocGlobal + Threads + Wait + Sync, R: Read, W: Write>(
     run_shards(rt, rt.alloc(), reader, writer, &mut end, ends, settings)
 }
 
-/// Whether there are one shard and one flusher.
+/// Whether there is one flusher.
 pub(crate) fn is_alone(settings: &Settings) -> bool
-    ensures both { result ≡ is_alone settings.now }
-    ensures one { result ≡ true → settings.now.shards ≡ 1 }
+    ensures { result ≡ is_alone settings.now }
 {
-    settings.shards() == 1 && settings.flushers() == 1
+    settings.flushers() == 1
 }
 
 /// So many ends of a store in memory.

@@ -67,7 +67,3 @@ not_of_run {X} (Err e) fault run is =
     let here : e ≡ NotRecovered fault = same_ending {X = X} e (NotRecovered fault) is in
     let wrong : false ≡ true = subst (λ x. is_of_run x ≡ true) here run in
     cc
-
--- and so none of those of a shard that was not made again
-pub of_run_recovered : (e : Ending) → IsTrue (is_of_run e) → IsNotRecovered e → ⊥
-of_run_recovered e run (fault, is) = let wrong : false ≡ true = subst (λ x. is_of_run x ≡ true) is run in absurd cc

@@ -1,15 +1,11 @@
-pub mod ByRows
 pub mod Causes
 pub mod Endings
+pub mod Faults
 pub mod FlushCalls
-pub mod Flushed
-pub mod Flushing
 pub mod Fronts
-pub mod Held
 pub mod Lines
 pub mod Manners
 pub mod Parts
-pub mod Queries
 pub mod Replies
 pub mod Runs
 pub mod Unread
@@ -17,4 +13,7 @@ pub mod Views
 pub mod Written
 -- what its clauses speak of in the crates below
 pub use Rattle.ing_query.specs.declared.fault.QueryFault
+pub use Rattle.ing_refusals.specs.declared.refusal.Refusal
+pub use Rattle.ing_shard.specs.Faults as PushFaults
 pub use Rattle.ing_shard.specs.RelistFault
+pub use Rattle.ing_shard.specs.declared.fault.PushFault

@@ -4,7 +4,7 @@ ghost use Rattle.ing_labels.specs.TextFaults.{text_fault_place, text_refusal_of}
 ghost use Rattle.ing_shard.specs.Faults.{refusal_of as push_refusal};
 ghost use Rattle.ing_query.specs.QueryFaults.{query_refusal_of};
 ghost use Rattle.ing_session.specs.Replies.{fault_data};
-ghost use Rattle.ing_session.specs.ByRows.{label_fault, limits_of};
+ghost use Rattle.ing_session.specs.Faults.{label_fault, limits_of};
 ghost use Rattle.ing_session.specs.Views.{reply_data, stream_data};
 
 use crate::reply::{Reply, StreamReply};

@@ -2,22 +2,19 @@
 //! and over any reader and writer.
 #![tactic(auto)]
 
-mod alone;
 mod answer;
 mod concluding;
 mod ending;
 mod faults;
 mod laws;
 mod lines;
-mod one_shard;
 mod reply;
 mod service;
 mod transport;
 
-pub use alone::{run, run_over};
 pub use concluding::conclude;
 pub use ending::Ending;
-pub use faults::{label_fault, label_limits, query_fault, selector_fault};
+pub use faults::{label_fault, label_limits, push_fault, query_fault, selector_fault};
 pub use laws::lines_end_at_line_feeds;
 pub use lines::{LineError, Lines, NextLine, Part};
 pub use reply::{Reply, StreamReply};

@@ -42,7 +42,7 @@ impl Case {
         })
     }
 
-    /// What differs from what has to come out, if anything does: as it is, over a log, and over four shards, where it may be run so,
+    /// What differs from what has to come out, if anything does: as it is, over logs, and over four shards, where it may be run so,
     /// summed.
     pub fn difference<F: AllocGlobal + Threads + Wait + Sync>(
         &self,
@@ -50,7 +50,7 @@ impl Case {
     ) -> Result<Option<&'static str>> {
         let mut difference = self.own_difference(rt)?;
         if difference.is_none() && self.ends_well {
-            difference = self.difference_over_a_log(rt)?;
+            difference = difference_over_logs(rt, &self.settings, &self.input, &self.output)?;
         }
         if difference.is_none() && self.has_summed {
             difference = self.difference_of_four(rt)?;
@@ -58,42 +58,7 @@ impl Case {
         Ok(difference)
     }
 
-    /// What differs over a log, of one shard with one flusher: all is told durable and published there, and nothing else is another.
-    fn difference_over_a_log<F: AllocGlobal + Wait>(&self, rt: &F) -> Result<Option<&'static str>> {
-        let alloc = rt.alloc();
-        let settings = Settings::from_toml(
-            alloc,
-            str::from_utf8(&self.settings).ok().context("text")?,
-        )?;
-        if settings.shards() != 1 || settings.flushers() != 1 {
-            return Ok(None);
-        }
-        let store = MemoryStore::new(alloc)?;
-        let (mut end, mut finder) = (store.end(rt, Fuse::None), store.end(rt, Fuse::None));
-        let mut reader = self.input.as_slice();
-        let mut output = Vec::new(alloc);
-        let log = MemoryLog::new(alloc);
-        if run_over(
-            alloc,
-            &mut reader,
-            &mut output,
-            &mut end,
-            settings,
-            log,
-            &mut finder,
-        )
-        .is_err()
-        {
-            return Ok(Some("ending over a log"));
-        }
-        if output.as_slice() == durable(alloc, &self.output)?.as_bytes() {
-            Ok(None)
-        } else {
-            Ok(Some("output over a log"))
-        }
-    }
-
-    /// What differs over four shards, summed.
+    /// What differs over four shards, summed; and over their logs.
     fn difference_of_four<F: AllocGlobal + Threads + Wait + Sync>(
         &self,
         rt: &F,
@@ -105,11 +70,10 @@ impl Case {
         if start_on(rt, &settings, &mut reader, &mut output).is_err() {
             return Ok(Some("ending over four shards"));
         }
-        if are_summed(rt.alloc(), &self.output, &output)? {
-            Ok(None)
-        } else {
-            Ok(Some("output over four shards"))
+        if !are_summed(rt.alloc(), &self.output, &output)? {
+            return Ok(Some("output over four shards"));
         }
+        difference_over_logs(rt, &settings, &self.input, &output)
     }
 
     /// What differs as it is.
@@ -158,9 +122,56 @@ fn names_shards(settings: &[u8]) -> bool {
         .any(|line| line.starts_with(b"shards"))
 }
 
-/// What has to come out over a log, by what comes out without one.
+/// What differs over logs, of shards with one flusher: all is told durable and published there, and nothing else is another.
+fn difference_over_logs<F: AllocGlobal + Threads + Wait + Sync>(
+    rt: &F,
+    settings: &[u8],
+    input: &[u8],
+    expected: &[u8],
+) -> Result<Option<&'static str>> {
+    let alloc = rt.alloc();
+    let settings = Settings::from_toml(alloc, str::from_utf8(settings).ok().context("text")?)?;
+    if settings.flushers() != 1 {
+        return Ok(None);
+    }
+    let store = MemoryStore::new(alloc)?;
+    let mut end = store.end(rt, Fuse::None);
+    let (mut logs, mut finders) = (Vec::new(alloc), Vec::new(alloc));
+    for _ in 0..settings.shards() {
+        logs.push(MemoryLog::new(alloc))?;
+        finders.push(store.end(rt, Fuse::None))?;
+    }
+    let mut reader = input;
+    let mut output = Vec::new(alloc);
+    let ended = run_over(
+        rt,
+        alloc,
+        &mut reader,
+        &mut output,
+        &mut end,
+        settings,
+        logs,
+        finders,
+    );
+    if ended.is_err() {
+        return Ok(Some("ending over logs"));
+    }
+    if output.as_slice() == durable(alloc, expected)?.as_bytes() {
+        Ok(None)
+    } else {
+        Ok(Some("output over logs"))
+    }
+}
+
+/// What has to come out over logs, by what comes out without them.
 fn durable(alloc: Global, output: &[u8]) -> Result<String> {
     let output = str::from_utf8(output).ok().context("text")?;
     let pushed = output.replace(alloc, "\"durable\":false", "\"durable\":true")?;
-    Ok(pushed.replace(alloc, "{\"checkpoint\":[false]}", "{\"checkpoint\":[true]}")?)
+    let one = pushed.replace(alloc, "{\"checkpoint\":[false]}", "{\"checkpoint\":[true]}")?;
+    let none_of_four = "{\"checkpoint\":[false,false,false,false]}";
+    Ok(one.replace(
+        alloc,
+        none_of_four,
+        "{\"checkpoint\":[true,true,true,true]}",
+    )?)
 }

@@ -1,7 +1,7 @@
 //! Runs the cases in the folder that it is started in, and says how many there are. A case is a folder with
 //! `input.jsonl` and `output.jsonl`, what a session reads and writes, and where there is more to say `settings.toml` and
 //! `ending` (the exit status, and then what standard error gets). A file `document` names a page that shows the case, which
-//! `make test` looks after. Each of one shard is run over a log too, where nothing but what is durable may be told otherwise; and
+//! `make test` looks after. Each of one flusher is run over logs too, where nothing but what is durable may be told otherwise; and
 //! over four shards, where what is told of each shard has to sum up to what one shard tells, unless a file `alone` says why it
 //! holds of one alone.
 #![tactic(auto)]

@@ -54,9 +54,6 @@ fn run_over<H: AllocGlobal + Wait, R: Read, W: Write>(
     writer: &mut W,
 ) -> Result<Result<(), Ending>, Fail> {
     let settings = Settings::from_toml(rt.alloc(), "")?;
-    if settings.shards() != 1 {
-        return Err("one shard".into());
-    }
     let store = MemoryStore::new(rt.alloc())?;
     let mut end = store.end(rt, fuse);
     Ok(run(rt.alloc(), reader, writer, &mut end, settings))

@@ -18,7 +18,7 @@ returns-then-is_alone-clause-output g c =
     let last = c.run.new.end.failures in
     let fresh : first ≡ 0 = ap (λ end. end.failures) c.end-end.ensures in
     let sure = c.run.ensures.end.1 (ap (λ end. end.fuse) c.end-end.ensures) in
-    let is : is_alone settings ≡ true = sym c.is_alone.ensures.both ∙ c.if-is_alone.true in
+    let is : is_alone settings ≡ true = sym c.is_alone.ensures ∙ c.if-is_alone.true in
     on_ok_weaker c.run.result
     (λ output. if_some_then
     (λ input. AnswersAll (manner_in true settings.shards) settings input first last old new)
@@ -42,7 +42,7 @@ returns-then-is_alone-clause-input_fault g c = λ faulty.
     let last = c.run.new.end.failures in
     let fresh : first ≡ 0 = ap (λ end. end.failures) c.end-end.ensures in
     let sure = c.run.ensures.end.1 (ap (λ end. end.fuse) c.end-end.ensures) in
-    let is : is_alone settings ≡ true = sym c.is_alone.ensures.both ∙ c.if-is_alone.true in
+    let is : is_alone settings ≡ true = sym c.is_alone.ensures ∙ c.if-is_alone.true in
     if_some_then
     (λ input. AnswersWhatWasRead (manner_in true settings.shards) settings input (g.R.Read.remaining c.run.new.reader) first last old new)
     (λ input. (x : StoreSettings) × (started_by c.args.file.now ≡ Ok x) × AnswersWhatWasRead (manner_of x) x input (g.R.Read.remaining c.run.new.reader) 0 0 old new)
@@ -64,8 +64,8 @@ returns-then-is_alone-clause-no_memory g c = λ faulty.
     let last = c.run.new.end.failures in
     let fresh : first ≡ 0 = ap (λ end. end.failures) c.end-end.ensures in
     let sure = c.run.ensures.end.1 (ap (λ end. end.fuse) c.end-end.ensures) in
-    let is : is_alone settings ≡ true = sym c.is_alone.ensures.both ∙ c.if-is_alone.true in
-    inr (if_some_then
+    let is : is_alone settings ≡ true = sym c.is_alone.ensures ∙ c.if-is_alone.true in
+    let known = if_some_then
     (λ input. AnswersFirstLines (manner_in true settings.shards) settings input first last old new)
     (λ input. (x : StoreSettings) × (started_by c.args.file.now ≡ Ok x) × AnswersFirstLines (manner_of x) x input 0 0 old new)
     (g.R.Read.remaining c.args.reader.now)
@@ -74,8 +74,8 @@ returns-then-is_alone-clause-no_memory g c = λ faulty.
       c.in_ok-settings.ensures.settings,
       at_zero (λ m n. AnswersFirstLines (manner_of settings) settings input m n old new) first last fresh (sure.1 ∙ fresh)
           (at_manner (λ m. AnswersFirstLines m settings input first last old new) settings true is answers),
-    ))
-    (c.run.ensures.no_memory faulty))
+    )) in
+    elim (c.run.ensures.no_memory faulty) [ inl same ↦ inl same | inr run ↦ inr (known run) ]
 
 pub returns-then-is_alone-clause-output_fault : goal.returns-then-is_alone-clause-output_fault
 returns-then-is_alone-clause-output_fault g c = λ faulty.
@@ -86,7 +86,7 @@ returns-then-is_alone-clause-output_fault g c = λ faulty.
     let last = c.run.new.end.failures in
     let fresh : first ≡ 0 = ap (λ end. end.failures) c.end-end.ensures in
     let sure = c.run.ensures.end.1 (ap (λ end. end.fuse) c.end-end.ensures) in
-    let is : is_alone settings ≡ true = sym c.is_alone.ensures.both ∙ c.if-is_alone.true in
+    let is : is_alone settings ≡ true = sym c.is_alone.ensures ∙ c.if-is_alone.true in
     if_some_then
     (λ input. AnswersFront (manner_in true settings.shards) settings input first last old new)
     (λ input. (x : StoreSettings) × (started_by c.args.file.now ≡ Ok x) × AnswersFront (manner_of x) x input 0 0 old new)
@@ -110,7 +110,7 @@ returns-clause-output g c =
     let last = c.run_shards.new.end.failures in
     let fresh : first ≡ 0 = ap (λ end. end.failures) c.end-end.ensures in
     let sure = c.run_shards.ensures.end.1 (ap (λ end. end.fuse) c.end-end.ensures) in
-    let is : is_alone settings ≡ false = sym c.is_alone.ensures.both ∙ c.if-is_alone.false in
+    let is : is_alone settings ≡ false = sym c.is_alone.ensures ∙ c.if-is_alone.false in
     on_ok_weaker c.run_shards.result
     (λ output. if_some_then
     (λ input. AnswersAll (manner_in false settings.shards) settings input first last old new)
@@ -134,7 +134,7 @@ returns-clause-input_fault g c = λ faulty.
     let last = c.run_shards.new.end.failures in
     let fresh : first ≡ 0 = ap (λ end. end.failures) c.end-end.ensures in
     let sure = c.run_shards.ensures.end.1 (ap (λ end. end.fuse) c.end-end.ensures) in
-    let is : is_alone settings ≡ false = sym c.is_alone.ensures.both ∙ c.if-is_alone.false in
+    let is : is_alone settings ≡ false = sym c.is_alone.ensures ∙ c.if-is_alone.false in
     if_some_then
     (λ input. AnswersWhatWasRead (manner_in false settings.shards) settings input (g.R.Read.remaining c.run_shards.new.reader) first last old new)
     (λ input. (x : StoreSettings) × (started_by c.args.file.now ≡ Ok x) × AnswersWhatWasRead (manner_of x) x input (g.R.Read.remaining c.run_shards.new.reader) 0 0 old new)
@@ -156,7 +156,7 @@ returns-clause-no_memory g c = λ faulty.
     let last = c.run_shards.new.end.failures in
     let fresh : first ≡ 0 = ap (λ end. end.failures) c.end-end.ensures in
     let sure = c.run_shards.ensures.end.1 (ap (λ end. end.fuse) c.end-end.ensures) in
-    let is : is_alone settings ≡ false = sym c.is_alone.ensures.both ∙ c.if-is_alone.false in
+    let is : is_alone settings ≡ false = sym c.is_alone.ensures ∙ c.if-is_alone.false in
     elim (c.run_shards.ensures.no_memory faulty) [
       | inl same ↦ inl same
       | inr known ↦ inr (if_some_then
@@ -181,7 +181,7 @@ returns-clause-output_fault g c = λ faulty.
     let last = c.run_shards.new.end.failures in
     let fresh : first ≡ 0 = ap (λ end. end.failures) c.end-end.ensures in
     let sure = c.run_shards.ensures.end.1 (ap (λ end. end.fuse) c.end-end.ensures) in
-    let is : is_alone settings ≡ false = sym c.is_alone.ensures.both ∙ c.if-is_alone.false in
+    let is : is_alone settings ≡ false = sym c.is_alone.ensures ∙ c.if-is_alone.false in
     if_some_then
     (λ input. AnswersFront (manner_in false settings.shards) settings input first last old new)
     (λ input. (x : StoreSettings) × (started_by c.args.file.now ≡ Ok x) × AnswersFront (manner_of x) x input 0 0 old new)

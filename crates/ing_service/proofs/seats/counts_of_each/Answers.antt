@@ -1,0 +1,17 @@
+use Rattle.std.proofs.Common.{ℕ, ap, subst, sym}
+use Rattle.ing_durable.specs.Contents.{Contents}
+use Rattle.ing_rows.specs.Rows.{IsSame}
+use Rattle.ing_tally.specs.declared.counts.Counts.{Counts}
+use Rattle.ing_service.specs.ByShards.{counts_of}
+use Rattle.ing_service.specs.Held.{ShardHeld, shard_held}
+use Rattle.ing_service.proofs.EachLaws.{told_more}
+use Rattle.ing_service.proofs.FlushLaws.{same_refl}
+use Rattle.ing_service.proofs.seats.counts_of_each.Goals as goal
+
+pub loop-seat-preserved : goal.loop-seat-preserved
+loop-seat-preserved g c =
+    let seat = c.seat-item.result in
+    let state = seat.shard.memory.state in
+    told_more (λ seat. shard_held seat.shard) c.args.seats.now c.loop-seat.seat-index seat seat c.loop-seat-test.true c.seat-item.is (λ (shard : ShardHeld). counts_of shard.state)
+    c.loop-seat.counts.items c.push.new.self.items _ c.loop-seat.invariant c.in_ok-push.ensures.items
+    (ap (λ (n : ℕ × ℕ). (let counts : Counts = record { accepted = n.0; stored = n.1 } in counts)) (c.totals-accepted.ensures.totals state (subst (λ (m : Contents). IsSame m.state state) (sym c.memory.ensures) (same_refl state))))

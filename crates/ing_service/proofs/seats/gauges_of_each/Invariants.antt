@@ -1,0 +1,8 @@
+use Rattle.std.proofs.Common.{◌≡◌, map, take}
+use Rattle.ing_rows.specs.Gauges.{gauges_of}
+use Rattle.ing_service.specs.Held.{shard_held}
+use Rattle.ing_service.proofs.seats.gauges_of_each.Given as goal
+
+-- those of the first shards
+abbrev pub invariant-loop-seat : goal.invariant-loop-seat
+invariant-loop-seat g l = l.gauges.items ≡ map (λ shard. gauges_of shard.state.rows l.tenant) (take l.seat-index (map (λ seat. shard_held seat.shard) l.seats))

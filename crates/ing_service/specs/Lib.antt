@@ -1,0 +1,6 @@
+pub mod Held
+pub mod Each
+pub mod Flushes
+pub mod Snapshots
+pub mod Queries
+pub mod ByShards

@@ -1,0 +1,18 @@
+//! Shards that one input owns: what each command does to them is known, and so what is replied.
+//!
+//! A run stands on a `Service`; this one has each shard over its log, without a lock, since one thread obeys all commands. Pushes go to
+//! the shard of their stream, sweeps, flushes and checkpoints to one shard after another, and a query asks all of them.
+#![tactic(auto)]
+
+mod beginning;
+mod flushes;
+mod owned;
+mod queries;
+mod runs;
+mod seat;
+mod seats;
+
+pub use beginning::Beginning;
+pub use owned::OwnShards;
+pub use runs::{run, run_own};
+pub use seat::Seat;

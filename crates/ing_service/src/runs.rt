@@ -1,0 +1,132 @@
+//! Runs over shards that nobody shares.
+ghost use Rattle.std.specs.Prelude.{◌≡◌, ◌⊎◌, IfErr, IfOk, IfSome, IsErrOf, IsTrue, OnOk, false, map, replicate};
+ghost use Rattle.ing_durable.specs.Kept.{whose};
+ghost use Rattle.ing_session.specs.Causes.{GoesOn};
+ghost use Rattle.ing_session.specs.Endings.{is_of_run};
+ghost use Rattle.ing_session.specs.Runs.{AnswersAll, AnswersFirstLines, AnswersFront, AnswersWhatWasRead};
+ghost use Rattle.ing_service.specs.ByShards.{by_shards};
+ghost use Rattle.ing_service.specs.Held.{AreShardsOf, begun_new, new_shard, shard_held, whose_from};
+
+use crate::beginning::Beginning;
+use crate::owned::OwnShards;
+use crate::seat::Seat;
+use crate::seats::let_each_go;
+use ing_commands::Flush;
+use ing_limits::Settings;
+use ing_session::{Ending, serve_all};
+use ing_store::{Receipt, StoreEnd};
+use ing_wal::{LogDisk, NoLog};
+use std::alloc::{AllocError, Global};
+use std::io::{Read, Write};
+use std::marker::Brand;
+
+/// Reads commands line by line, answers each in a line, and writes a report at the end of input, over new shards of these settings,
+/// which have no logs; flushes put into the store by `end`, in the one thread. As `serve_all`. (Own.)
+pub fn run<R: Read, W: Write, S: StoreEnd>(
+    alloc: Global,
+    reader: &mut R,
+    writer: &mut W,
+    end: &mut S,
+    settings: Settings,
+) -> Result<(), Ending>
+    // What is written is, line for line, what the model answers to the lines read, by how the uploads ended; and each that
+    // failed has a cause of its own.
+    ensures output { OnOk result (IfSome (R.remaining reader.old) (λ input.
+        AnswersAll (by_shards S.is_honest (begun_new settings.shards)) settings input (S.failure_count end.old) (S.failure_count end.new)
+        (W.contents writer.old) (W.contents writer.new))) }
+    ensures input_fault { IsErrOf result Ending.InputFault → IfSome (R.remaining reader.old) (λ input.
+        AnswersWhatWasRead (by_shards S.is_honest (begun_new settings.shards)) settings input (R.remaining reader.new)
+        (S.failure_count end.old) (S.failure_count end.new)
+        (W.contents writer.old) (W.contents writer.new)) }
+    ensures no_memory { IsErrOf result Ending.NoMemory → (writer.new ≡ writer.old)
+        ⊎ IfSome (R.remaining reader.old) (λ input.
+        AnswersFirstLines (by_shards S.is_honest (begun_new settings.shards)) settings input (S.failure_count end.old) (S.failure_count end.new)
+        (W.contents writer.old) (W.contents writer.new)) }
+    ensures output_fault { IsErrOf result Ending.OutputFault →
+        IfSome (R.remaining reader.old) (λ input.
+        AnswersFront (by_shards S.is_honest (begun_new settings.shards)) settings input (S.failure_count end.old) (S.failure_count end.new)
+        (W.contents writer.old) (W.contents writer.new)) }
+    ensures end { GoesOn S.never_fails S.failure_count end.old end.new }
+    ensures ending { IfErr result (λ e. IsTrue (is_of_run e)) }
+{
+    let seats = new_seats(alloc, &settings)?;
+    run_own::<Brand, R, W, NoLog, S::Receipt, S>(alloc, reader, writer, end, settings, seats, false)
+}
+
+/// Runs over shards of these settings to which nothing was said yet, over logs or without; N has to name them. As `run`; what is told
+/// durable outlives a crash from then on, as `DurableShard::push` says, and the report tells as recovered what each shard began with. (Own.)
+pub fn run_own<
+    N: Beginning,
+    I: Read,
+    W: Write,
+    D: LogDisk + Drop,
+    R: Receipt,
+    S: StoreEnd<Receipt = R>,
+>(
+    alloc: Global,
+    reader: &mut I,
+    writer: &mut W,
+    end: &mut S,
+    settings: Settings,
+    seats: Vec<Seat<D, R>>,
+    is_logged: bool,
+) -> Result<(), Ending>
+    requires shards { AreShardsOf settings (map (λ seat. whose seat.shard.memory) seats.items) }
+    requires logged { N.begun.logged ≡ is_logged }
+    requires held { N.begun.shards ≡ map (λ seat. shard_held seat.shard) seats.items }
+    ensures output { OnOk result (IfSome (I.remaining reader.old) (λ input.
+        AnswersAll (by_shards S.is_honest N.begun) settings input (S.failure_count end.old) (S.failure_count end.new)
+        (W.contents writer.old) (W.contents writer.new))) }
+    ensures input_fault { IsErrOf result Ending.InputFault → IfSome (I.remaining reader.old) (λ input.
+        AnswersWhatWasRead (by_shards S.is_honest N.begun) settings input (I.remaining reader.new)
+        (S.failure_count end.old) (S.failure_count end.new)
+        (W.contents writer.old) (W.contents writer.new)) }
+    ensures no_memory { IsErrOf result Ending.NoMemory → (writer.new ≡ writer.old)
+        ⊎ IfSome (I.remaining reader.old) (λ input.
+        AnswersFirstLines (by_shards S.is_honest N.begun) settings input (S.failure_count end.old) (S.failure_count end.new)
+        (W.contents writer.old) (W.contents writer.new)) }
+    ensures output_fault { IsErrOf result Ending.OutputFault → IfSome (I.remaining reader.old) (λ input.
+        AnswersFront (by_shards S.is_honest N.begun) settings input (S.failure_count end.old) (S.failure_count end.new)
+        (W.contents writer.old) (W.contents writer.new)) }
+    ensures end { GoesOn S.never_fails S.failure_count end.old end.new }
+    ensures ending { IfErr result (λ e. IsTrue (is_of_run e)) }
+{
+    let own: OwnShards<N, D, R> = OwnShards::of(alloc, settings, seats, is_logged)?;
+    let flush = |own: &mut OwnShards<N, D, R>, end: &mut S, said: Flush| own.flush(end, said);
+    serve_all(alloc, reader, writer, end, own, &flush)
+}
+
+/// New shards of these settings, without logs.
+fn new_seats<R: Receipt>(
+    alloc: Global,
+    settings: &Settings,
+) -> Result<Vec<Seat<NoLog, R>>, AllocError>
+    ensures shards { IfOk result (λ seats. AreShardsOf settings.now (map (λ seat. whose seat.shard.memory) seats.items)) }
+    ensures held { IfOk result (λ seats.
+        map (λ seat. shard_held seat.shard) seats.items ≡ replicate settings.now.shards new_shard) }
+{
+    let mut seats = Vec::with_capacity(alloc, settings.shards() as usize)?;
+    for number in 0..settings.shards() {
+        match new_seat(alloc, settings, number) {
+            Ok(seat) => seats.push_reserved(seat),
+            Err(error) => {
+                let_each_go(seats);
+                return Err(error);
+            }
+        }
+    }
+    Ok(seats)
+}
+
+/// The new shard of this number, without a log.
+fn new_seat<R: Receipt>(
+    alloc: Global,
+    settings: &Settings,
+    number: u32,
+) -> Result<Seat<NoLog, R>, AllocError>
+    ensures same { IfOk result (λ seat. whose seat.shard.memory ≡ record { settings = settings.now; number = number }) }
+    ensures held { IfOk result (λ seat. shard_held seat.shard ≡ new_shard) }
+{
+    let settings = settings.try_clone()?;
+    Seat::fresh(alloc, settings, number, NoLog::new())
+}
