@@ -45,7 +45,8 @@ ROUNDS = 20  # of a batch, over logs that one run of the program wrote
 LOGS, CHUNKS, ROWS = SHARDS - 1, 97, 40  # texts of a round; the last shard's log is a pipe
 HONEST = 0.1  # the share of texts that are left as they are
 SLACK = 16 * 1024  # KiB by which forged texts may take more memory than honest ones
-CHUNK, ROW, LOG, MADE = "chunk objects", "index rows", "logs, as texts", "logs, of which a shard is made again"
+KINDS = {b"INGC": "chunk objects", b"INGR": "index rows"}
+LOG, MADE = "logs, as texts", "logs, of which a shard is made again"
 READ = "read"
 ENDINGS = {NO_OBJECT: "BadObject", OTHER_OBJECT: "BadObject", CHANGED_OBJECT: "Damaged"}
 
@@ -132,14 +133,15 @@ class Round:
 
     def look_at_texts(self, texts):
         """What `show` writes of all texts."""
-        named = [(CHUNK, self.place / f"chunk-{at}", text) for at, text in enumerate(texts.chunks)]
-        named += [(ROW, self.place / f"row-{at}", text) for at, text in enumerate(texts.rows)]
-        named += [(LOG, self.folder / f"wal-{at}", text) for at, text in enumerate(texts.logs)]
-        paths = [path for _, path, _ in named]
+        named = [(self.place / f"chunk-{at}", text) for at, text in enumerate(texts.chunks)]
+        named += [(self.place / f"row-{at}", text) for at, text in enumerate(texts.rows)]
+        named += [(self.folder / f"wal-{at}", text) for at, text in enumerate(texts.logs)]
+        paths = [path for path, _ in named]
         told, status = run_measured([self.options.ctl, "show", "--entries", *paths, self.pipe], self.pipe, self.tally, "show")
         wanted, owners, is_right = [], [], True
-        for kind, path, text in [*named, (LOG, self.pipe, b"")]:
+        for path, text in [*named, (self.pipe, b"")]:
             lines, fault = shown(text)
+            kind = KINDS.get(text[:4], LOG)  # as `show` takes it
             wanted += [f"{path}: ".encode() + lines[0], *lines[1:]]
             owners += [(kind, text)] * len(lines)
             is_right = is_right and fault is None
@@ -261,7 +263,7 @@ def play_all(options, parent):
 def print_counts(tally):
     """Prints how many texts of each kind were read, and as what how many were refused."""
     print(f"{sum(count for (kind, _), count in tally.counts.items() if kind != MADE)} texts")
-    for kind in (CHUNK, ROW, LOG, MADE):
+    for kind in (*KINDS.values(), LOG, MADE):
         told = sorted((name, count) for (which, name), count in tally.counts.items() if which == kind)
         refused = sum(count for name, count in told if name != READ)
         print(f"{kind}: {tally.counts[kind, READ]} read, {refused} refused")
