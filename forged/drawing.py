@@ -114,7 +114,7 @@ def draw_commands(draw, names):
     commands = []
     for now in range(10**9, 10**9 + draw.randint(60, 240)):
         streams = []
-        for name in {draw.choice(draw.choice(names)) for _ in range(4)}:
+        for name in dict.fromkeys(draw.choice(draw.choice(names)) for _ in range(4)):
             line = [str(now - draw.randrange(3)), f"{draw.choice(LINES).decode()} {draw.randrange(1000)}"]
             streams.append((name, [line] + [[str(now), str(at)] for at in range(draw.randrange(4))]))
         for tenant in sorted({name.tenant for name, _ in streams}):
@@ -133,6 +133,6 @@ def written_logs(program, folder, settings_file, draw, names, objects):
     ran = subprocess.run(words, input=lines.encode(), capture_output=True, timeout=120)
     assert ran.returncode == 0, f"the program ended with {ran.returncode}: {ran.stderr}"
     assert b'"error"' not in ran.stdout, f"a command was refused: {ran.stdout}"
-    for path in (folder / "objects").glob("c-*"):
+    for path in sorted((folder / "objects").glob("c-*")):
         assert path.name == f"c-{put_object(objects, path.read_bytes()).hex()}", f"{path} has another digest"
     return [(folder / f"wal-{shard}").read_bytes() for shard in range(SHARDS)]
