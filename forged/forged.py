@@ -48,7 +48,7 @@ SLACK = 16 * 1024  # KiB by which forged texts may take more memory than honest 
 KINDS = {b"INGC": "chunk objects", b"INGR": "index rows"}
 LOG, MADE = "logs, as texts", "logs, of which a shard is made again"
 READ = "read"
-ENDINGS = {NO_OBJECT: "BadObject", OTHER_OBJECT: "BadObject", CHANGED_OBJECT: "Damaged"}
+ENDINGS = dict.fromkeys([NO_OBJECT, OTHER_OBJECT, CHANGED_OBJECT], "BadObject")
 
 
 class Difference(Exception):
@@ -210,7 +210,7 @@ def forge_texts(draw, honest):
     for text in honest.logs:
         way = draw.random()
         if way > HONEST:
-            text = forge_listed(draw, text, objects) if way < 0.25 else forge_log(draw, text, honest.logs)
+            text = forge_listed(draw, text, honest.objects, objects) if way < 0.25 else forge_log(draw, text, honest.logs)
         logs.append(text)
     chunks = [text if draw.random() < HONEST else forge_chunk(draw, text, honest.chunks) for text in honest.chunks]
     rows = [text if draw.random() < HONEST else forge_row(draw, text, honest.rows) for text in honest.rows]

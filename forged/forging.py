@@ -238,17 +238,18 @@ def divided_anew(draw, text):
     return chunk_text(ChunkObject(chunk.tenant, chunk.name, chunk.first, Blocks(sizes, chunk.blocks.entries)))
 
 
-def forge_listed(draw, text, objects):
+def forge_listed(draw, text, honest, objects):
     """A log that lists a forged object in the place of an honest one; or the log as it was, and its object is changed or gone."""
     payloads = payloads_of(text)
-    keys = [key for key in objects if any(key in each for each in payloads)]
+    keys = [key for key in honest if any(key in each for each in payloads)]
     if not keys:
         return text
     key, way = draw.choice(keys), draw.random()
     if way < 0.05:
-        del objects[key]
+        objects.pop(key, None)
         return text
-    forged = divided_anew(draw, objects[key]) if way < 0.3 else forge_chunk(draw, objects[key], list(objects.values()))
+    object_text = honest[key]
+    forged = divided_anew(draw, object_text) if way < 0.3 else forge_chunk(draw, object_text, list(honest.values()))
     if way > 0.9:
         objects[key] = forged
         return text

@@ -114,8 +114,7 @@ def checked(text, settings, objects):
         assert fault.name == OTHER_SETTINGS
         return words % sizes, OTHER_SETTINGS, None
     except BadObject as fault:
-        words = b"21 Damaged" if fault.why == CHANGED else b"27 BadObject"
-        words += b": objects/c-%b %b" % (fault.key.hex().encode(), fault.why.encode())
+        words = b"27 BadObject: objects/c-%b %b" % (fault.key.hex().encode(), fault.why.encode())
         return words + chunk_fault(fault), OBJECTS[fault.why], None
     counts = b"%d entries, %d of them stored" % shard.counts()
     if at is None:
