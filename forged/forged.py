@@ -15,7 +15,7 @@ has, or as what it is refused, and where. With this are compared
   reader of this folder has, byte for byte; each other is as it was.
 
 The last file that `show` and `check` are given is a pipe: when they open it they are done with the others, and their peaks of
-memory are read, mapped and resident. Those of the forged texts may not pass those of honest ones by 16 MiB: nothing is reserved
+memory are read, mapped and resident. Those of the forged texts may not pass those of honest ones by 1 MiB: nothing is reserved
 by a count that the input does not cover.
 
 At the first difference it prints what differs with the text in hexadecimal digits, keeps the folder, and ends with status 1.
@@ -44,7 +44,7 @@ from words import CHANGED_OBJECT, NO_OBJECT, OTHER_OBJECT, checked, read_lines, 
 ROUNDS = 20  # of a batch, over logs that one run of the program wrote
 LOGS, CHUNKS, ROWS = SHARDS - 1, 97, 40  # texts of a round; the last shard's log is a pipe
 HONEST = 0.1  # the share of texts that are left as they are
-SLACK = 16 * 1024  # KiB by which forged texts may take more memory than honest ones
+SLACK = 1024  # KiB by which forged texts may take more memory than honest ones
 KINDS = {b"INGC": "chunk objects", b"INGR": "index rows"}
 LOG, MADE = "logs, as texts", "logs, of which a shard is made again"
 READ = "read"
