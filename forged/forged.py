@@ -9,7 +9,7 @@ again. A reader of its own, written from docs/FORMATS.md alone (formats.py; what
 has, or as what it is refused, and where. With this are compared
 
 - `ingestctl show --entries`: what chunk objects, index rows and the records of logs say, or their first fault;
-- `ingestctl check`: what a shard has that is made again from a log over the objects of its folder, or why none is. Of these
+- `ingestctl check --room`: what a shard has that is made again from a log over the objects of its folder, or why none is. Of these
   objects some are forged, too, under their old key or under the key of what they have become;
 - PROGRAM itself over that folder: the logs that it leaves. Of a shard that was made again it is a checkpoint with just what the
   reader of this folder has, byte for byte; each other is as it was.
@@ -36,7 +36,7 @@ import time
 from dataclasses import dataclass, field
 
 from drawing import SHARDS, draw_chunk, draw_log, draw_row, names_by_shard, written_logs
-from fitting import Settings
+from fitting import Settings, Shard
 from forging import forge_chunk, forge_listed, forge_log, forge_row
 from spelling import payload, record
 from words import CHANGED_OBJECT, NO_OBJECT, OTHER_OBJECT, checked, read_lines, shown
@@ -166,12 +166,14 @@ class Round:
         for shard, text in enumerate(texts.logs):
             found.append(checked(text, Settings(shard, SHARDS, blocks, target), texts.objects))
             self.tally.counts[MADE, found[-1][1] or READ] += 1
-        words = [self.options.ctl, "check", self.folder, self.place.parent / "settings.toml"]
+        words = [self.options.ctl, "check", "--room", self.folder, self.place.parent / "settings.toml"]
         told, status = run_measured(words, self.pipe, self.tally, "check")
         wanted = [b"wal-%d: %b" % (shard, words) for shard, (words, _, _) in enumerate(found)]
         wanted.append(b"wal-%d: 0 entries, 0 of them stored" % LOGS)
+        made = [shard for _, _, shard in found if shard] + [Shard(Settings(LOGS, SHARDS, blocks, target), {})]
+        wanted.append(b"room: there is, for %d bytes of checkpoints" % sum(len(record(payload(shard.said()))) for shard in made))
         is_right = all(fault is None for _, fault, _ in found)
-        owners = [(LOG, text) for text in [*texts.logs, b""]]
+        owners = [(LOG, text) for text in [*texts.logs, b"", b""]]
         self.compare("check", wanted, owners, told.removesuffix(b"\n").split(b"\n"), status, 0 if is_right else 1)
         self.start(texts, found)
 
