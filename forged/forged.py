@@ -9,8 +9,8 @@ again. A reader of its own, written from docs/FORMATS.md alone (formats.py; what
 has, or as what it is refused, and where. With this are compared
 
 - `ingestctl show --entries`: what chunk objects, index rows and the records of logs say, or their first fault;
-- `ingestctl check --room`: what a shard has that is made again from a log over the objects of its folder, or why none is. Of these
-  objects some are forged, too, under their old key or under the key of what they have become;
+- `ingestctl check --room`: what a shard has that is made again from a log over the objects of its folder, or why none is. Of
+  these objects some are forged, too, under their old key or under the key of what they have become;
 - PROGRAM itself over that folder: the logs that it leaves. Of a shard that was made again it is a checkpoint with just what the
   reader of this folder has, byte for byte; each other is as it was.
 
