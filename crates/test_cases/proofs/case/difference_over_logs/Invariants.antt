@@ -1,0 +1,9 @@
+use Rattle.std.proofs.Common.{◌≡◌, vec_len}
+use Rattle.test_cases.proofs.case.difference_over_logs.Given as goal
+
+-- a log and an end for each shard so far
+abbrev pub invariant-loop : goal.invariant-loop
+invariant-loop g l = record {
+  logs : vec_len l.logs ≡ l.counter;
+  finders : vec_len l.finders ≡ l.counter;
+}
