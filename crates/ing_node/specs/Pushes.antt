@@ -25,7 +25,7 @@ MayBeTold rules e (TooManyStreams live) = length e.line ≤ rules.max_line_size
 abbrev pub AreTold : Rules → List Entry → List Verdict → Type 0
 AreTold rules = AllZip (MayBeTold rules)
 
--- the verdicts are the model's, in whatever state the push found the shard
+-- The verdicts are those that the model gives in some state. Which state that was is not said: other pushes may come between.
 abbrev pub AreJudged : Rules → StreamKey → ℕ → List Entry → List Verdict → Type 0
 AreJudged rules s now entries verdicts = (old : State) × (verdicts ≡ verdicts_of rules s now entries old)
 

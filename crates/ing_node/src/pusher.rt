@@ -79,7 +79,7 @@ impl<N: NodeName> Pusher<N> {
         now: Stamp,
     ) -> Result<Pushed, NodeFault>
         requires { length (canonical_of labels.now) < 2 ^ 32 }
-        // The verdicts are the model's, in whatever state the lock's holder found the shard.
+        // The verdicts are those that the model gives in some state; which one other pushers have left is not said.
         ensures judged { let s = stream_of tenant.now labels.now in
             IfOk result (λ pushed. AreJudged (rules_for N.settings tenant.now) s now
             entries.items pushed.verdicts.items) }

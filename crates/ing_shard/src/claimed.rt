@@ -83,6 +83,23 @@ impl ClaimedChunk {
     {
         &self.chunk
     }
+
+    /// As `Ticket::upload`: threads can share the claimed chunk, while a ticket is one thread's. Its stream's canonical name has
+    /// fewer than 2^32 bytes, as that of each ticket.
+    pub fn upload<S: StoreEnd>(
+        &self,
+        alloc: Global,
+        end: &mut S,
+    ) -> Result<Flushed<S::Receipt>, StoreFault>
+        requires { length (canonical_of self.now.labels) < 2 ^ 32 }
+        ensures uploaded { IfOk result (λ done. IsUploaded self.now done.listing
+            (S.Receipt.bytes done.row) (S.Receipt.name done.row)) }
+        ensures count { IsCounted (S.failure_count end.old) (S.failure_count end.new) result }
+        ensures sure { S.never_fails end.old → (S.never_fails end.new)
+            × (S.failure_count end.new ≡ S.failure_count end.old) }
+    {
+        upload(alloc, end, &self.tenant, &self.labels, &self.chunk)
+    }
 }
 
 /// The right to say what became of a claimed chunk: it is stored, or it is given back. It cannot be dropped, since it holds a
@@ -159,8 +176,7 @@ impl Ticket {
         ensures sure { S.never_fails end.old → (S.never_fails end.new)
             × (S.failure_count end.new ≡ S.failure_count end.old) }
     {
-        let claimed = &self.claimed;
-        upload(alloc, end, &claimed.tenant, &claimed.labels, &claimed.chunk)
+        self.claimed.upload(alloc, end)
     }
 
     /// Puts the whole chunk into a store, without its index row, and gives what the shard lists of it. `NoMemory` where memory
