@@ -8,7 +8,6 @@ python = /usr/bin/python3
 front = front/out/sarymbeu-front
 postings_figures = crates/bench_postings/out/bench_postings
 codec_figures = crates/bench_codec/out/bench_codec
-locks_figures = crates/bench_locks/out/bench_locks
 worlds_by_lot = crates/test_worlds/out/test_worlds
 nodes_by_lot = crates/test_nodes/out/test_nodes
 sources = crates.txt $(shell find crates -name out -prune -o \( -name '*.rt' -o -name '*.antt' \) -print)
@@ -91,12 +90,11 @@ documents:
 	  done; \
 	done
 
-bench: $(postings_figures) $(codec_figures) $(locks_figures) $(nodes_by_lot) $(program)
+bench: $(postings_figures) $(codec_figures) $(nodes_by_lot) $(program)
 	@$(postings_figures) times 10000 30000 100000
 	@$(codec_figures) times 120 4096
 	@$(nodes_by_lot) times 1000000
 	@$(nodes_by_lot) pauses 100000
-	@bench/locks.sh $(locks_figures)
 	@bench/flushers.sh $(program)
 	@bench/pushes.sh $(program)
 	@python3 bench/recovery.py $(program) --parent /dev/shm
@@ -107,10 +105,6 @@ $(postings_figures): $(sources)
 
 $(codec_figures): $(sources)
 	@scripts/build.sh bench_codec counts 120
-	@touch $@
-
-$(locks_figures): $(sources)
-	@scripts/build.sh bench_locks locked
 	@touch $@
 
 worlds: $(worlds_by_lot)

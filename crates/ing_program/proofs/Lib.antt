@@ -1,6 +1,2 @@
-pub mod BeganLaws
-pub mod CountLaws
-pub mod HeldLaws
-pub mod LedgerLaws
 pub mod StartingLaws
 pub mod OwnLaws

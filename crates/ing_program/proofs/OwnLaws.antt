@@ -1,6 +1,7 @@
 -- What shards that nobody shares begin with over their logs.
-use Rattle.std.proofs.Common.{◌≡◌, ◌∙◌, ℕ, suc, ◌+◌, ◌++◌, append_assoc, ap, length, List, [], ◌∷◌, map, refl, reverse, arith, subst, sym, true, slice_get}
+use Rattle.std.proofs.Common.{◌≡◌, ◌∙◌, ℕ, zero, suc, Some, ◌+◌, ◌++◌, append_assoc, ap, length, List, [], ◌∷◌, map, refl, reverse, arith, subst, sym, true, slice_get}
 use Rattle.std.proofs.lemmas.List.{length-map, length-reverse, map-append, reverse-append}
+use Rattle.std.proofs.lemmas.Option.{none-some, same_Some}
 use Rattle.std.specs.List.{AllByRecursion}
 use Rattle.std.specs.Prelude.{All}
 use Rattle.std.proofs.lemmas.List.Elements.{All-cons, All-head, All-nil, All-tail}
@@ -8,7 +9,17 @@ use Rattle.ing_limits.specs.Settings.{StoreSettings}
 use Rattle.ing_node.specs.Kept.{Replays, whose}
 use Rattle.ing_node.specs.Begun.{AreBegunFrom, BegunState, HasReplayed}
 use Rattle.ing_service.specs.Held.{AreShardsOf, Begun, BeginsOver, ShardHeld, shard_held, whose_from}
-use Rattle.ing_program.proofs.BeganLaws.{all_at, made_of}
+
+-- what stands at a place of a list that is made of another
+made_of : {X Y : Type 0} (f : X → Y) (xs : List X) (i : ℕ) (y : Y) → slice_get (map f xs) i ≡ Some y → (x : X) × (slice_get xs i ≡ Some x) × (f x ≡ y)
+made_of f [] i y at = absurd (none-some y at)
+made_of f (x ∷ xs) zero y at = (x, refl, same_Some (f x) y at)
+made_of f (x ∷ xs) (suc i) y at = made_of f xs i y at
+
+all_at : {X : Type 0} (P : X → Type 0) (xs : List X) (i : ℕ) (x : X) → AllByRecursion P xs → slice_get xs i ≡ Some x → P x
+all_at P [] i x all at = absurd (none-some x at)
+all_at P (y ∷ xs) zero x all at = subst P (same_Some y x at) all.0
+all_at P (y ∷ xs) (suc i) x all at = all_at P xs i x all.1 at
 
 -- its shares are of its books
 abbrev pub HasOwnShares : {D : Type 0} → BegunState D → Type 0

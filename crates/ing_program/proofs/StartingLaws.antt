@@ -1,6 +1,6 @@
 -- What the bytes of a settings file come to.
-use Rattle.std.proofs.Common.{◌≡◌, ◌<◌, ◌≤◌, ℕ, Bool, List, [], ◌∷◌, None, Some, Ok, Err, ap, arith, false, inl, inr, length, sym, subst, true, ◌∙◌}
-use Rattle.std.specs.Prelude.{◌⊎◌, if◌then◌else◌, IsTrue, Option, Result, IfSome, IfErr, IsErrOf, string_bytes}
+use Rattle.std.proofs.Common.{◌≡◌, ◌+◌, ◌<◌, ◌≤◌, ℕ, List, [], ◌∷◌, None, Some, Ok, Err, ap, arith, length, sym, subst, ◌∙◌}
+use Rattle.std.specs.Prelude.{if◌then◌else◌, Option, Result, IfSome, IfErr, string_bytes}
 use Rattle.std.specs.Result.{IsErrAnd}
 use Rattle.std.specs.Str.{is_utf8, IsUtf8}
 use Rattle.std.proofs.lemmas.Bool.{false_from_ne_true}
@@ -9,13 +9,11 @@ use Rattle.ing_limits.specs.Settings.{StoreSettings, Refusal, not_toml, unknown_
 use Rattle.ing_limits.specs.Faults as limits
 use Rattle.ing_limits.specs.declared.fault.SettingsFault.{SettingsFault}
 use Rattle.ing_limits.specs.declared.fault.SettingsFault.TheVariants.{NoMemory, NotToml, UnknownSetting, BadSetting}
+use Rattle.ing_service.specs.Ends.{up_to_last}
 use Rattle.ing_session.specs.Manners.{Manner}
 use Rattle.ing_session.specs.declared.ending.Ending.{Ending}
-use Rattle.ing_session.specs.declared.ending.Ending.TheVariants.{NotOpened, NotRecovered}
-use Rattle.ing_node.specs.RecoverFault.{RecoverFault}
-use Rattle.ing_session.proofs.EndingsLaws.{recover_ending, same_ending}
-use Rattle.ing_session.specs.Endings.{IsNotOpened, IsNotRecovered, ending_of_recover, ending_of_settings, is_of_run, refusal_of}
-use Rattle.ing_program.specs.Starting.{BeginSettings, GiveSettings, InManner, IsInFolder, IsOverFolder, NamesFile, is_alone, manner_in, manner_of, started_by}
+use Rattle.ing_session.specs.Endings.{ending_of_settings, refusal_of}
+use Rattle.ing_program.specs.Starting.{BeginSettings, GiveSettings, InManner, IsOverFolder, NamesFile, manner_of, started_by}
 
 -- bytes that are no UTF-8 are no TOML
 pub started_unread : (file : List ℕ) → (IsUtf8 file → ⊥) → started_by file ≡ Err not_toml
@@ -42,19 +40,14 @@ refused_text file fault (Err e) text refused passed =
     subst (λ ending. IfSome (refusal_of ending) (λ refusal. started_by file ≡ Err refusal)) (sym passed)
     (refused_alike fault (λ refusal. settings_of file ≡ Err refusal) (λ refusal. started_by file ≡ Err refusal) (λ refusal is. started_text file (Err refusal) text is) refused)
 
--- ---- the manner of the settings
-
-pub at_manner : (P : Manner → Type 0) (settings : StoreSettings) (b : Bool) → is_alone settings ≡ b → P (manner_in b settings.shards) → P (manner_of settings)
-at_manner P settings b is p = subst (λ x. P (manner_in x settings.shards)) (sym is) p
-
--- and over a folder
-pub in_folder : (honest : Type 0) (settings : StoreSettings) (b : Bool) → is_alone settings ≡ b → (P : Manner → ℕ → Type 0) → IsInFolder b honest settings.shards P → IsOverFolder honest settings P
-in_folder honest settings b is P p = subst (λ x. IsInFolder x honest settings.shards P) (sym is) p
-
 -- ---- an end of the store that never failed
 
 pub at_zero : (P : ℕ → ℕ → Type 0) (a b : ℕ) → a ≡ 0 → b ≡ 0 → P a b → P 0 0
 at_zero P a b first last p = subst (λ x. P x 0) first (subst (λ x. P a x) last p)
+
+-- ends of which none has failed, together
+pub none_failed : (own others all : ℕ) → all ≡ up_to_last (own + others) → own ≡ 0 → others ≡ 0 → all ≡ 0
+none_failed own others all is none no_other = omega (arith, is, none, no_other)
 
 -- ---- what is said by the bytes of a file
 
@@ -66,7 +59,7 @@ module _ (honest : Type 0) (words : List (List ℕ)) (file bytes : List ℕ) (na
     by_words (path ∷ []) few = p
     by_words (path ∷ folder ∷ more) few = absurd (omega (arith, few))
 
-  over_manner : (settings : StoreSettings) (P : Manner → ℕ → Type 0) → 1 < length words → IsOverFolder honest settings P → InManner honest words settings P
+  over_manner : (settings : StoreSettings) (P : Manner → ℕ → Type 0) → 1 < length words → IsOverFolder honest P → InManner honest words settings P
   over_manner settings P some p = by_words words some where
     by_words : (ws : List (List ℕ)) → 1 < length ws → InManner honest ws settings P
     by_words [] some = absurd (omega (arith, some))
@@ -79,7 +72,7 @@ module _ (honest : Type 0) (words : List (List ℕ)) (file bytes : List ℕ) (na
   give_memory P few (x, is, p) = (file, named, x, subst (λ b. started_by b ≡ Ok x) same is, in_manner x (λ m failed. P m x failed) few p)
 
   pub give_over : (P : Manner → StoreSettings → ℕ → Type 0) → 1 < length words
-      → ((x : StoreSettings) × (started_by bytes ≡ Ok x) × IsOverFolder honest x (λ m failed. P m x failed)) → GiveSettings honest words P
+      → ((x : StoreSettings) × (started_by bytes ≡ Ok x) × IsOverFolder honest (λ m failed. P m x failed)) → GiveSettings honest words P
   give_over P some (x, is, p) = (file, named, x, subst (λ b. started_by b ≡ Ok x) same is, over_manner x (λ m failed. P m x failed) some p)
 
   pub give_begun : ((x : StoreSettings) × (started_by bytes ≡ Ok x)) → BeginSettings words
@@ -92,28 +85,6 @@ module _ (honest : Type 0) (words : List (List ℕ)) (file bytes : List ℕ) (na
   known_memory P few (Some input) said = give_memory (P input) few said
 
   pub known_over : (P : List ℕ → Manner → StoreSettings → ℕ → Type 0) → 1 < length words → (known : Option (List ℕ))
-      → IfSome known (λ input. (x : StoreSettings) × (started_by bytes ≡ Ok x) × IsOverFolder honest x (λ m failed. P input m x failed)) → IfSome known (λ input. GiveSettings honest words (P input))
+      → IfSome known (λ input. (x : StoreSettings) × (started_by bytes ≡ Ok x) × IsOverFolder honest (λ m failed. P input m x failed)) → IfSome known (λ input. GiveSettings honest words (P input))
   known_over P some None said = tt
   known_over P some (Some input) said = give_over (P input) some said
-
--- ---- how a run ends
-
--- one that has begun does not end as one that was not opened
-pub of_run_opened : (e : Ending) → IsTrue (is_of_run e) → IsNotOpened e → ⊥
-of_run_opened e run (fault, is) = let wrong : false ≡ true = subst (λ x. is_of_run x ≡ true) is run in absurd cc
-
--- how a recovery that is refused ends
-pub recover_ends : (fault : RecoverFault) → IsTrue (is_of_run (ending_of_recover fault)) ⊎ IsNotOpened (ending_of_recover fault) ⊎ IsNotRecovered (ending_of_recover fault)
-recover_ends fault = elim (recover_ending fault) [ inl run ↦ inl run | inr not ↦ inr (inr not) ]
-
--- a run has no such ending
-pub not_opened_or_run : {X : Type 0} (r : Result X Ending) (fault : RecoverFault) → IfErr r (λ e. IsTrue (is_of_run e) ⊎ IsNotOpened e) → IsErrOf r (NotRecovered fault) → ⊥
-not_opened_or_run {X} (Ok x) fault of is = let both : ◌≡◌ {A = Result X Ending} (Ok x) (Err (NotRecovered fault)) = is in cc
-not_opened_or_run {X} (Err e) fault (inl run) is =
-    let here : e ≡ NotRecovered fault = same_ending {X = X} e (NotRecovered fault) is in
-    let wrong : false ≡ true = subst (λ x. is_of_run x ≡ true) here run in
-    cc
-not_opened_or_run {X} (Err e) fault (inr opened) is =
-    let here : e ≡ NotRecovered fault = same_ending {X = X} e (NotRecovered fault) is in
-    let other : NotOpened opened.0 ≡ NotRecovered fault = sym opened.1 ∙ here in
-    cc

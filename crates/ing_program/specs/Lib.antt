@@ -1,3 +1,1 @@
-pub mod ByLedger
-pub mod Counted
 pub mod Starting

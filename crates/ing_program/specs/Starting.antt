@@ -1,5 +1,5 @@
 -- With which settings the program starts (own).
-use Rattle.std.specs.Prelude.{◌≡◌, ◌⊎◌, ℕ, ◌==◌, Bool, true, false, List, [], ◌∷◌, if◌then◌else◌, Result, Ok, Err, ⊤}
+use Rattle.std.specs.Prelude.{◌≡◌, ◌⊎◌, ℕ, true, List, [], ◌∷◌, if◌then◌else◌, Result, Ok, Err, ⊤}
 use Rattle.std.specs.Str.{is_utf8}
 use Rattle.ing_limits.specs.Settings.{StoreSettings, Refusal, not_toml, settings_of}
 use Rattle.ing_session.specs.Endings.{IsNotRecovered}
@@ -8,23 +8,14 @@ use Rattle.ing_service.specs.Held.{Begun, begun_new}
 use Rattle.ing_session.specs.Manners.{Manner}
 use Rattle.ing_session.specs.declared.ending.Ending.{Ending}
 use Rattle.ing_session.specs.declared.ending.Ending.TheVariants.{NoFolder, NoObjects, FolderInUse, MissingLog}
-use Rattle.ing_program.specs.ByLedger.{Began, began_new, by_ledger}
 
 -- the settings with which the program starts by the bytes of its settings file: what is not UTF-8 is no TOML
 abbrev pub started_by : List ℕ → Result StoreSettings Refusal
 started_by bytes = if is_utf8 bytes then settings_of bytes else Err not_toml
 
--- one flusher
-abbrev pub is_alone : StoreSettings → Bool
-is_alone settings = settings.flushers == 1
-
--- Shards with one flusher are nobody else's, and all that they hold is known; others lie behind locks.
-abbrev pub manner_in : Bool → ℕ → Manner
-manner_in true shards = by_shards ⊤ (begun_new shards)
-manner_in false shards = by_ledger began_new shards
-
+-- as the settings say, over a store that is honest
 abbrev pub manner_of : StoreSettings → Manner
-manner_of settings = manner_in (is_alone settings) settings.shards
+manner_of settings = by_shards ⊤ (begun_new settings.shards)
 
 -- these argument words name a settings file of these bytes: without a word an empty one, else the file of the path that the first is,
 -- whose bytes no contract knows
@@ -42,17 +33,13 @@ AreBad (path ∷ folder ∷ []) = folder ≡ []
 AreBad (path ∷ folder ∷ next ∷ more) = ⊤
 
 -- Over a folder whose store is honest or not: what the shards begin with is what lies there, which no contract knows, and no more how often
--- the store fails. Shards with one flusher are nobody else's there too.
-abbrev pub IsInFolder : Bool → Type 0 → ℕ → (Manner → ℕ → Type 0) → Type 0
-IsInFolder true honest shards P = (begun : Begun) × (begun.logged ≡ true) × (failed : ℕ) × P (by_shards honest begun) failed
-IsInFolder false honest shards P = (began : Began) × (began.logs ≡ true) × (failed : ℕ) × P (by_ledger began shards) failed
-
-abbrev pub IsOverFolder : Type 0 → StoreSettings → (Manner → ℕ → Type 0) → Type 0
-IsOverFolder honest settings P = IsInFolder (is_alone settings) honest settings.shards P
+-- the store fails.
+abbrev pub IsOverFolder : Type 0 → (Manner → ℕ → Type 0) → Type 0
+IsOverFolder honest P = (begun : Begun) × (begun.logged ≡ true) × (failed : ℕ) × P (by_shards honest begun) failed
 
 -- the words have a folder, or it is as the settings say, over a store that does not fail
 abbrev pub InManner : Type 0 → List (List ℕ) → StoreSettings → (Manner → ℕ → Type 0) → Type 0
-InManner honest (path ∷ folder ∷ more) settings P = IsOverFolder honest settings P
+InManner honest (path ∷ folder ∷ more) settings P = IsOverFolder honest P
 InManner honest words settings P = P (manner_of settings) 0
 
 -- these argument words name a settings file, and its bytes give settings with which this is said of a run

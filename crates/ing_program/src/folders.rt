@@ -1,5 +1,5 @@
 //! What lies in a folder: the logs of shards, and a store.
-ghost use Rattle.std.specs.Prelude.{◌≡◌, ◌+◌, ◌<◌, ◌^◌, ◌⊎◌, IfErr, IfOk, vec_len};
+ghost use Rattle.std.specs.Prelude.{◌≡◌, ◌+◌, ◌<◌, ◌^◌, ◌⊎◌, IfErr, IfOk, sum_by, vec_len};
 ghost use Rattle.ing_session.specs.declared.ending.Ending.{Ending};
 ghost use Rattle.ing_program.specs.Starting.{IsOfFolder};
 
@@ -199,6 +199,7 @@ pub(crate) fn ends_in<D: LogDisk, E: StoreEnd + Drop, X: Folders<D, E>>(
 ) -> Result<Vec<E>, Ending>
     requires { first + count < 2 ^ 32 }
     ensures count { IfOk result (λ ends. vec_len ends ≡ count) }
+    ensures fresh { IfOk result (λ ends. sum_by E.failure_count ends.items ≡ 0) }
     ensures ending { IfErr result (λ e. (e ≡ Ending.NoMemory) ⊎ (e ≡ Ending.NoObjects)) }
 {
     let mut ends = Vec::with_capacity(alloc, count as usize)?;

@@ -1,21 +1,19 @@
-//! The program but for its handles: shards behind locks as what a run stands on, and from argument words, a settings file and a
-//! folder to a run.
+//! The program but for its handles: from argument words, a settings file and a folder to a run over shards that nobody shares.
+//!
+//! `start` reads the words and the settings file. Without a folder it runs over new shards and a store in memory (`start_on`); with one it
+//! has the shards made again from their logs, side by side (`start_over`, `run_over`). What is served, and how, is `ing_service`'s.
 #![tactic(auto)]
 
 mod folders;
-mod locked;
 mod over;
 mod own;
 mod program;
-mod shards;
 
 pub use folders::{Disk, Folders};
-pub use locked::Locked;
 pub use over::start_over;
 pub use own::run_over;
 pub use program::{start, start_on};
-pub use shards::{run_locked, run_recovered, run_shards};
 
 // What its callers meet of the crates below.
-pub use ing_service::run;
+pub use ing_service::{Ends, run};
 pub use ing_session::{Ending, conclude};

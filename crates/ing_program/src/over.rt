@@ -2,34 +2,30 @@
 ghost use Rattle.std.specs.Prelude.{◌≡◌, ◌≢◌, ◌⊎◌, ◌<◌, IfErr, IfSome, IsErrOf, IsTrue, Err, Ok, OnOk, vec_len};
 ghost use Rattle.ing_limits.specs.Settings.{StoreSettings};
 ghost use Rattle.ing_program.specs.Starting.{IsOfFolder, IsOverFolder, started_by};
-ghost use Rattle.ing_session.specs.Endings.{IsNotOpened, IsNotRecovered, ending_status, is_of_run, refusal_of};
+ghost use Rattle.ing_session.specs.Endings.{ending_status, refusal_of};
 ghost use Rattle.ing_session.specs.Runs.{AnswersAll, AnswersFirstLines, AnswersFront, AnswersWhatWasRead};
 
 use crate::folders::{Folders, begin, conclude_folder, end_in, ends_in, hold_of, logs_in};
 use crate::own::run_over;
-use crate::program::{is_alone, settings_of_file};
-use crate::shards::run_recovered;
-use ing_limits::Settings;
+use crate::program::{settings_of_file, worker_count};
+use ing_service::Ends;
 use ing_session::Ending;
 use ing_store::{Receipt, StoreEnd};
 use ing_wal::LogDisk;
-use std::alloc::Global;
 use std::io::{Read, Write};
-use std::sync::Wait;
 use std::thread::Threads;
 
 /// Runs by the settings that the bytes of a settings file give, over the logs and the store in a folder: the log of each shard is the
-/// file `wal-` and its number, and the objects of the store lie in the folder `objects`; what is absent is made. As `run_over` where there is
-/// one flusher, and else as `run_recovered`.
+/// file `wal-` and its number, and the objects of the store lie in the folder `objects`; what is absent is made. As `run_over`.
 ///
 /// The folder is kept for this program until the run has ended, and what it was begun with stands in it.
 ///
 /// `NotToml`, `UnknownSetting` and `BadSetting` as `start_on`; then `FolderInUse` where another program has the folder, `NotRecovered` where
 /// it was begun with other shards or sizes, and `MissingLog` where it was begun and lacks a log; then `NoFolder` where a log cannot be opened, and `NoObjects` where the
-/// folder of the objects cannot; then `NotRecovered`, as `run_recovered` says, and the others. Up to there nothing is written. `NoMemory`
+/// folder of the objects cannot; then `NotRecovered`, as `run_over` says, and the others. Up to there nothing is written. `NoMemory`
 /// may stand in place of any. (Own.)
 pub fn start_over<
-    H: AllocGlobal + Threads + Wait + Sync,
+    H: AllocGlobal + Threads + Sync,
     D: LogDisk + Drop + Send,
     Q: Receipt + Send + Sync,
     E: StoreEnd<Receipt = Q> + Drop + Send,
@@ -46,95 +42,44 @@ pub fn start_over<
 ) -> Result<(), Ending>
     ensures output { OnOk result (IfSome (R.remaining reader.old) (λ input.
         (settings : StoreSettings) × (started_by file.now ≡ Ok settings)
-        × IsOverFolder E.is_honest settings (λ manner failed. AnswersAll manner settings input 0 failed
+        × IsOverFolder E.is_honest (λ manner failed. AnswersAll manner settings input 0 failed
         (W.contents writer.old) (W.contents writer.new)))) }
     ensures refused { IfErr result (λ e. IfSome (refusal_of e) (λ refusal.
         started_by file.now ≡ Err refusal)) }
     ensures input_fault { IsErrOf result Ending.InputFault → IfSome (R.remaining reader.old) (λ input.
         (settings : StoreSettings) × (started_by file.now ≡ Ok settings)
-        × IsOverFolder E.is_honest settings (λ manner failed. AnswersWhatWasRead manner settings input (R.remaining reader.new) 0 failed
+        × IsOverFolder E.is_honest (λ manner failed. AnswersWhatWasRead manner settings input (R.remaining reader.new) 0 failed
         (W.contents writer.old) (W.contents writer.new))) }
     ensures no_memory { IsErrOf result Ending.NoMemory → (writer.new ≡ writer.old)
         ⊎ IfSome (R.remaining reader.old) (λ input.
         (settings : StoreSettings) × (started_by file.now ≡ Ok settings)
-        × IsOverFolder E.is_honest settings (λ manner failed. AnswersFirstLines manner settings input 0 failed
+        × IsOverFolder E.is_honest (λ manner failed. AnswersFirstLines manner settings input 0 failed
         (W.contents writer.old) (W.contents writer.new))) }
     ensures output_fault { IsErrOf result Ending.OutputFault →
         IfSome (R.remaining reader.old) (λ input.
         (settings : StoreSettings) × (started_by file.now ≡ Ok settings)
-        × IsOverFolder E.is_honest settings (λ manner failed. AnswersFront manner settings input 0 failed
+        × IsOverFolder E.is_honest (λ manner failed. AnswersFront manner settings input 0 failed
         (W.contents writer.old) (W.contents writer.new))) }
     ensures begun { IsErrOf result Ending.OutputFault →
         (settings : StoreSettings) × (started_by file.now ≡ Ok settings) }
     ensures file_read { IfErr result (λ e. (e ≢ Ending.BadArguments) × (e ≢ Ending.NoSettings)) }
     ensures silent { IfErr result (λ e. ending_status e ≡ 1 → writer.new ≡ writer.old) }
-    ensures not_opened { IfErr result (λ e. IsNotOpened e ⊎ IsOfFolder e → writer.new ≡ writer.old) }
+    ensures not_opened { IfErr result (λ e. IsOfFolder e → writer.new ≡ writer.old) }
 {
     let alloc = rt.alloc();
     let settings = settings_of_file(alloc, file)?;
     let mut hold = hold_of(alloc, folders, folder, &settings)?;
     let logs = logs_in(alloc, folders, folder, settings.shards())?;
     let objects = format!(in alloc; "{folder}/objects")?;
-    let (shards, flushers) = (settings.shards(), settings.flushers());
-    let mut end = end_in(alloc, folders, objects.as_str(), 0)?;
-    let ends = ends_in(alloc, folders, objects.as_str(), 1, flushers)?;
-    let finders = ends_in(alloc, folders, objects.as_str(), flushers + 1, shards)?;
+    let (shards, workers) = (settings.shards(), worker_count(&settings));
+    let own = end_in(alloc, folders, objects.as_str(), 0)?;
+    let others = ends_in(alloc, folders, objects.as_str(), 1, workers)?;
+    let finders = ends_in(alloc, folders, objects.as_str(), workers + 1, shards)?;
+    let mut ends = Ends::of(own, others);
     begin(folders, &mut hold)?;
-    let ended = run_in(rt, reader, writer, &mut end, ends, settings, logs, finders);
+    let ended = run_over(
+        rt, alloc, reader, writer, &mut ends, settings, logs, finders,
+    );
     conclude_folder(folders, &mut hold, &ended);
     ended
-}
-
-/// Runs over these logs, one of each shard, and these ends of one store: as `run_over` where there is one flusher, and else as
-/// `run_recovered`.
-fn run_in<
-    H: AllocGlobal + Threads + Wait + Sync,
-    D: LogDisk + Drop + Send,
-    Q: Receipt + Send + Sync,
-    E: StoreEnd<Receipt = Q> + Drop + Send,
-    R: Read,
-    W: Write,
->(
-    rt: &H,
-    reader: &mut R,
-    writer: &mut W,
-    end: &mut E,
-    ends: Vec<E>,
-    settings: Settings,
-    logs: Vec<D>,
-    finders: Vec<E>,
-) -> Result<(), Ending>
-    requires some { 0 < vec_len ends }
-    requires logs { vec_len logs ≡ settings.shards }
-    requires finders { vec_len finders ≡ settings.shards }
-    ensures output { OnOk result (IfSome (R.remaining reader.old) (λ input.
-        IsOverFolder E.is_honest settings (λ manner failed. AnswersAll manner settings input (E.failure_count end.old) failed
-        (W.contents writer.old) (W.contents writer.new)))) }
-    ensures input_fault { IsErrOf result Ending.InputFault → IfSome (R.remaining reader.old) (λ input.
-        IsOverFolder E.is_honest settings (λ manner failed. AnswersWhatWasRead manner settings input (R.remaining reader.new)
-        (E.failure_count end.old) failed (W.contents writer.old) (W.contents writer.new))) }
-    ensures no_memory { IsErrOf result Ending.NoMemory → (writer.new ≡ writer.old)
-        ⊎ IfSome (R.remaining reader.old) (λ input.
-        IsOverFolder E.is_honest settings (λ manner failed. AnswersFirstLines manner settings input (E.failure_count end.old) failed
-        (W.contents writer.old) (W.contents writer.new))) }
-    ensures output_fault { IsErrOf result Ending.OutputFault → IfSome (R.remaining reader.old) (λ input.
-        IsOverFolder E.is_honest settings (λ manner failed. AnswersFront manner settings input (E.failure_count end.old) failed
-        (W.contents writer.old) (W.contents writer.new))) }
-    ensures not_opened { IfErr result (λ e. IsNotOpened e ⊎ IsNotRecovered e → writer.new ≡ writer.old) }
-    ensures ending { IfErr result (λ e. IsTrue (is_of_run e) ⊎ IsNotOpened e ⊎ IsNotRecovered e) }
-{
-    if is_alone(&settings) {
-        return run_over(rt, rt.alloc(), reader, writer, end, settings, logs, finders);
-    }
-    run_recovered(
-        rt,
-        rt.alloc(),
-        reader,
-        writer,
-        end,
-        ends,
-        settings,
-        logs,
-        finders,
-    )
 }

@@ -5,6 +5,7 @@ ghost use Rattle.ing_node.specs.Begun.{AreBegunFrom};
 ghost use Rattle.ing_node.specs.RecoverFault.{RecoverFault};
 ghost use Rattle.ing_node.specs.Recovering.{AreOwnLogs, IsLowestRefused};
 ghost use Rattle.ing_service.specs.ByShards.{by_shards};
+ghost use Rattle.ing_service.specs.Ends.{NeverFail, failures_in};
 ghost use Rattle.ing_service.specs.Held as held;
 ghost use Rattle.ing_service.specs.Held.{BeginsOver, shard_held};
 ghost use Rattle.ing_session.specs.Causes.{GoesOn};
@@ -13,7 +14,7 @@ ghost use Rattle.ing_session.specs.Runs.{AnswersAll, AnswersFirstLines, AnswersF
 
 use ing_limits::Settings;
 use ing_node::{Begun, Shards};
-use ing_service::{Beginning, Seat, run_own};
+use ing_service::{Beginning, Ends, Seat, run_own};
 use ing_session::Ending;
 use ing_store::{Receipt, StoreEnd};
 use ing_wal::LogDisk;
@@ -23,8 +24,7 @@ use std::marker::Brand;
 use std::thread::Threads;
 
 /// Runs over the shards that these logs, one of each shard, are of, as `Shards::recover`, which nobody shares: what they accept and store is
-/// written to their logs. Flushes put into the store by `end`, in the one thread; the stored chunks are looked for by `finders`, one of each
-/// shard. As `run`; what is told durable outlives a crash from then on, as `DurableShard::push` says, and the report tells as recovered what
+/// written to their logs. Flushes put into the store by `ends`; the stored chunks are looked for by `finders`, one of each shard. As `run`; what is told durable outlives a crash from then on, as `DurableShard::push` says, and the report tells as recovered what
 /// the logs had. Besides as `run`; `NotRecovered` where a shard is not made again, with the fault of the lowest, before anything is read. (Own.)
 pub fn run_over<
     H: Threads + Sync,
@@ -32,14 +32,14 @@ pub fn run_over<
     W: Write,
     D: LogDisk + Drop + Send,
     R: Receipt + Send + Sync,
-    S: StoreEnd<Receipt = R>,
+    S: StoreEnd<Receipt = R> + Send,
     F: StoreEnd<Receipt = R> + Drop + Send,
 >(
     rt: &H,
     alloc: Global,
     reader: &mut I,
     writer: &mut W,
-    end: &mut S,
+    ends: &mut Ends<S>,
     settings: Settings,
     logs: Vec<D>,
     finders: Vec<F>,
@@ -48,23 +48,23 @@ pub fn run_over<
     requires finders { vec_len finders ≡ settings.shards }
     ensures output { OnOk result (IfSome (I.remaining reader.old) (λ input. (begun : held.Begun)
         × BeginsOver D.is_honest (map (λ log. (D.seen log).now.bytes) logs.items) begun
-        × AnswersAll (by_shards S.is_honest begun) settings input (S.failure_count end.old) (S.failure_count end.new)
+        × AnswersAll (by_shards S.is_honest begun) settings input (failures_in S.failure_count ends.old) (failures_in S.failure_count ends.new)
         (W.contents writer.old) (W.contents writer.new))) }
     ensures input_fault { IsErrOf result Ending.InputFault → IfSome (I.remaining reader.old) (λ input. (begun : held.Begun)
         × BeginsOver D.is_honest (map (λ log. (D.seen log).now.bytes) logs.items) begun
         × AnswersWhatWasRead (by_shards S.is_honest begun) settings input (I.remaining reader.new)
-        (S.failure_count end.old) (S.failure_count end.new)
+        (failures_in S.failure_count ends.old) (failures_in S.failure_count ends.new)
         (W.contents writer.old) (W.contents writer.new)) }
     ensures no_memory { IsErrOf result Ending.NoMemory → (writer.new ≡ writer.old)
         ⊎ IfSome (I.remaining reader.old) (λ input. (begun : held.Begun)
         × BeginsOver D.is_honest (map (λ log. (D.seen log).now.bytes) logs.items) begun
-        × AnswersFirstLines (by_shards S.is_honest begun) settings input (S.failure_count end.old) (S.failure_count end.new)
+        × AnswersFirstLines (by_shards S.is_honest begun) settings input (failures_in S.failure_count ends.old) (failures_in S.failure_count ends.new)
         (W.contents writer.old) (W.contents writer.new)) }
     ensures output_fault { IsErrOf result Ending.OutputFault → IfSome (I.remaining reader.old) (λ input. (begun : held.Begun)
         × BeginsOver D.is_honest (map (λ log. (D.seen log).now.bytes) logs.items) begun
-        × AnswersFront (by_shards S.is_honest begun) settings input (S.failure_count end.old) (S.failure_count end.new)
+        × AnswersFront (by_shards S.is_honest begun) settings input (failures_in S.failure_count ends.old) (failures_in S.failure_count ends.new)
         (W.contents writer.old) (W.contents writer.new)) }
-    ensures end { GoesOn S.never_fails S.failure_count end.old end.new }
+    ensures end { GoesOn (NeverFail S.never_fails) (failures_in S.failure_count) ends.old ends.new }
     ensures not_recovered { IfErr result (λ e. IsNotRecovered e → writer.new ≡ writer.old) }
     ensures ending { IfErr result (λ e. IsTrue (is_of_run e) ⊎ IsNotRecovered e) }
     // Each log is that of its shard, and each of its records fits those before it; or the lowest shard that is refused says why.
@@ -73,7 +73,9 @@ pub fn run_over<
         (backs : List D) × IsLowestRefused D.is_honest D.seen D.failure_count settings logs.items fault backs }
 {
     match Shards::recover(rt, alloc, settings, logs, finders) {
-        Ok(shards) => { run_begun::<Brand, I, W, D, R, S>(alloc, reader, writer, end, shards) }
+        Ok(shards) => {
+            run_begun::<Brand, H, I, W, D, R, S>(rt, alloc, reader, writer, ends, shards)
+        }
         Err((fault, _logs)) => Err(Ending::from(fault)),
     }
 }
@@ -81,35 +83,37 @@ pub fn run_over<
 /// Runs over shards over their logs, which N has to name. As `run_own`.
 fn run_begun<
     N: Beginning,
+    H: Threads + Sync,
     I: Read,
     W: Write,
     D: LogDisk + Drop,
-    R: Receipt,
-    S: StoreEnd<Receipt = R>,
+    R: Receipt + Send + Sync,
+    S: StoreEnd<Receipt = R> + Send,
 >(
+    rt: &H,
     alloc: Global,
     reader: &mut I,
     writer: &mut W,
-    end: &mut S,
+    ends: &mut Ends<S>,
     shards: Shards<D, R>,
 ) -> Result<(), Ending>
     requires logged { N.begun.logged ≡ true }
     requires held { N.begun.shards ≡ map (λ begun. shard_held begun.shard) (reverse shards.last_first.items) }
     ensures output { OnOk result (IfSome (I.remaining reader.old) (λ input.
-        AnswersAll (by_shards S.is_honest N.begun) shards.settings input (S.failure_count end.old) (S.failure_count end.new)
+        AnswersAll (by_shards S.is_honest N.begun) shards.settings input (failures_in S.failure_count ends.old) (failures_in S.failure_count ends.new)
         (W.contents writer.old) (W.contents writer.new))) }
     ensures input_fault { IsErrOf result Ending.InputFault → IfSome (I.remaining reader.old) (λ input.
         AnswersWhatWasRead (by_shards S.is_honest N.begun) shards.settings input (I.remaining reader.new)
-        (S.failure_count end.old) (S.failure_count end.new)
+        (failures_in S.failure_count ends.old) (failures_in S.failure_count ends.new)
         (W.contents writer.old) (W.contents writer.new)) }
     ensures no_memory { IsErrOf result Ending.NoMemory → (writer.new ≡ writer.old)
         ⊎ IfSome (I.remaining reader.old) (λ input.
-        AnswersFirstLines (by_shards S.is_honest N.begun) shards.settings input (S.failure_count end.old) (S.failure_count end.new)
+        AnswersFirstLines (by_shards S.is_honest N.begun) shards.settings input (failures_in S.failure_count ends.old) (failures_in S.failure_count ends.new)
         (W.contents writer.old) (W.contents writer.new)) }
     ensures output_fault { IsErrOf result Ending.OutputFault → IfSome (I.remaining reader.old) (λ input.
-        AnswersFront (by_shards S.is_honest N.begun) shards.settings input (S.failure_count end.old) (S.failure_count end.new)
+        AnswersFront (by_shards S.is_honest N.begun) shards.settings input (failures_in S.failure_count ends.old) (failures_in S.failure_count ends.new)
         (W.contents writer.old) (W.contents writer.new)) }
-    ensures end { GoesOn S.never_fails S.failure_count end.old end.new }
+    ensures end { GoesOn (NeverFail S.never_fails) (failures_in S.failure_count) ends.old ends.new }
     ensures ending { IfErr result (λ e. IsTrue (is_of_run e)) }
 {
     let Ok(room) = Vec::with_capacity(alloc, shards.settings().shards() as usize) else {
@@ -118,7 +122,7 @@ fn run_begun<
     };
     let (settings, last_first) = shards.into_parts();
     let seats = seats_of(room, last_first);
-    run_own::<N, I, W, D, R, S>(alloc, reader, writer, end, settings, seats, true)
+    run_own::<N, H, I, W, D, R, S>(rt, alloc, reader, writer, ends, settings, seats, true)
 }
 
 /// Puts shards in the order of their numbers into a list that has room for them. Takes no memory.

@@ -1,16 +1,17 @@
 //! From argument words and a settings file to a run.
-ghost use Rattle.std.specs.Prelude.{◌≡◌, ◌≢◌, ◌↔◌, ◌<◌, ◌≤◌, ◌⊎◌, List, ℕ, IfOk, IfErr, OnOk, OnErr, IsErrOf, IfSome, Ok, Err, None, map, length, vec_len, true, ⊤};
+ghost use Rattle.std.specs.Prelude.{◌≡◌, ◌≢◌, ◌↔◌, ◌<◌, ◌≤◌, ◌⊎◌, All, List, sum_by, ℕ, IfOk, IfErr, OnOk, OnErr, IsErrOf, IfSome, Ok, Err, None, map, length, vec_len, true, ⊤};
 ghost use Rattle.std.specs.String.{string_bytes};
 ghost use Rattle.ing_limits.specs.Settings.{StoreSettings};
-ghost use Rattle.ing_session.specs.Endings.{IsNotOpened, ending_status, refusal_of};
+ghost use Rattle.ing_store.specs.declared.memory_end.Fuse.{Fuse};
+ghost use Rattle.ing_store.specs.declared.memory_end.Fuse.TheVariants as fuses;
+ghost use Rattle.ing_session.specs.Endings.{ending_status, refusal_of};
 ghost use Rattle.ing_session.specs.Runs.{AnswersAll, AnswersWhatWasRead, AnswersFirstLines, AnswersFront};
-ghost use Rattle.ing_program.specs.Starting.{AreBad, BeginSettings, GiveSettings, IsOfFolder, NamesFile, is_alone, manner_of, started_by};
+ghost use Rattle.ing_program.specs.Starting.{AreBad, BeginSettings, GiveSettings, IsOfFolder, NamesFile, manner_of, started_by};
 
 use crate::folders::Folders;
 use crate::over::start_over;
-use crate::shards::run_shards;
 use ing_limits::Settings;
-use ing_service::run;
+use ing_service::{Ends, run};
 use ing_session::Ending;
 use ing_store::{Fuse, MemoryEnd, MemoryStore, Receipt, StoreEnd};
 use ing_wal::LogDisk;
@@ -58,7 +59,6 @@ pub fn start<
     ensures words { IsErrOf result Ending.BadArguments ↔ AreBad (map string_bytes words.now) }
     ensures named { IsErrOf result Ending.NoSettings → 0 < length words.now }
     ensures silent { IfErr result (λ e. ending_status e ≡ 1 → writer.new ≡ writer.old) }
-    ensures not_opened { IfErr result (λ e. IsNotOpened e → writer.new ≡ writer.old) }
     ensures not_recovered { IfErr result (λ e. IsOfFolder e → (writer.new ≡ writer.old) × (length words.now ≡ 2)) }
 {
     let file = settings_file(rt, words)?;
@@ -97,11 +97,10 @@ fn read_file<F: Files + AllocGlobal>(rt: &F, path: &str) -> Result<Vec<u8>, Endi
     }
 }
 
-/// Runs by the settings that the bytes of a settings file give, over a store in memory, which ends with the run: as `run` where
-/// there is one flusher, and as `run_shards` where there are more.
+/// Runs by the settings that the bytes of a settings file give, over a store in memory, which ends with the run: as `run`.
 ///
 /// `NotToml` where they are not UTF-8 or no TOML, `UnknownSetting` and `BadSetting` as `Settings::from_toml` says; these in
-/// this order, and nothing is written. The others as `run` and `run_shards` say. `NoMemory` may stand in place of any. (Own.)
+/// this order, and nothing is written. The others as `run` says. `NoMemory` may stand in place of any. (Own.)
 pub fn start_on<T: AllocGlobal + Threads + Wait + Sync, R: Read, W: Write>(
     rt: &T,
     file: &[u8],
@@ -130,23 +129,23 @@ pub fn start_on<T: AllocGlobal + Threads + Wait + Sync, R: Read, W: Write>(
     ensures file_read { IfErr result (λ e. (e ≢ Ending.BadArguments) × (e ≢ Ending.NoSettings)) }
     ensures no_folder { IfErr result (λ e. IsOfFolder e → ⊥) }
     ensures silent { IfErr result (λ e. ending_status e ≡ 1 → writer.new ≡ writer.old) }
-    ensures not_opened { IfErr result (λ e. IsNotOpened e → writer.new ≡ writer.old) }
 {
     let settings = settings_of_file(rt.alloc(), file)?;
     let store = MemoryStore::new(rt.alloc())?;
-    let mut end = store.end(rt, Fuse::None);
-    if is_alone(&settings) {
-        return run(rt.alloc(), reader, writer, &mut end, settings);
-    }
-    let ends = ends_of(rt, &store, settings.flushers())?;
-    run_shards(rt, rt.alloc(), reader, writer, &mut end, ends, settings)
+    let others = ends_of(rt, &store, worker_count(&settings))?;
+    let mut ends = Ends::of(store.end(rt, Fuse::None), others);
+    run(rt, rt.alloc(), reader, writer, &mut ends, settings)
 }
 
-/// Whether there is one flusher.
-pub(crate) fn is_alone(settings: &Settings) -> bool
-    ensures { result ≡ is_alone settings.now }
+/// How many ends of the store a run has besides its own, through which it uploads side by side: one for each flusher, and none where there
+/// is one flusher.
+pub(crate) fn worker_count(settings: &Settings) -> u32
+    ensures { result ≤ settings.now.flushers }
 {
-    settings.flushers() == 1
+    match settings.flushers() {
+        1 => 0,
+        flushers => flushers,
+    }
 }
 
 /// So many ends of a store in memory.
@@ -155,7 +154,8 @@ fn ends_of<'a, T: AllocGlobal + Wait>(
     store: &'a MemoryStore,
     count: u32,
 ) -> Result<Vec<MemoryEnd<'a, T>>, AllocError>
-    ensures { IfOk result (λ ends. vec_len ends ≡ count) }
+    ensures sure { IfOk result (λ ends. All (λ end. end.fuse ≡ fuses.None) ends.items) }
+    ensures fresh { IfOk result (λ ends. sum_by (λ end. end.failures) ends.items ≡ 0) }
 {
     let mut ends = Vec::with_capacity(rt.alloc(), count as usize)?;
     for _ in 0..count {

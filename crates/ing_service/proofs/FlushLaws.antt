@@ -1,70 +1,103 @@
--- The operations of a flush, one after another, each in its shard.
-use Rattle.std.proofs.Common.{◌≡◌, ◌≢◌, ◌∙◌, ℕ, ◌+◌, ◌<◌, ◌≤◌, List, [], ◌∷◌, ◌++◌, length, get_or, take, map, refl, sym, ap, subst, arith, not, Bool, true, false, Some, Err}
-use Rattle.std.specs.Prelude.{Option}
+-- The claims of a flush, one after another, each in its shard.
+use Rattle.std.proofs.Common.{◌≡◌, ◌∙◌, ℕ, ◌+◌, ◌<◌, List, [], ◌∷◌, ◌++◌, length, get_or, take, map, refl, sym, ap, subst, not, Bool, true, false, Some, Err}
+use Rattle.std.specs.Prelude.{Option, None, Result, Ok, IfOk, IfSome, IfNone, OnOk, OnErr, is_err, option_map, option_to_list, slice_get}
 use Rattle.std.proofs.lemmas.List.{take_more}
 use Rattle.std.proofs.lemmas.List.Sorted.{IsPermutation-refl}
-use Rattle.std.proofs.lemmas.List.Sums.{sum_by_push}
 use Rattle.ing_rows.specs.declared.rules.Rules.{Rules}
-use Rattle.ing_rows.specs.Rows.{StreamKey, State, IsSame}
-use Rattle.ing_rows.specs.Steps.{Claims, Finishes, GivesBack}
-use Rattle.ing_store.specs.declared.fault.StoreFault.{StoreFault}
-use Rattle.ing_store.specs.declared.fault.StoreFault.TheVariants as faults
-use Rattle.ing_store.specs.StoreFaults.{IsCounted}
-use Rattle.ing_store.specs.ChunkObjects.{chunk_text}
-use Rattle.sha2.specs.Sha256.{sha256}
-use Rattle.ing_durable.specs.Flights.{Flown, key_in, object_in}
+use Rattle.ing_rows.specs.Rows.{IsSame, State, StreamKey}
+use Rattle.ing_rows.specs.Events.{Claim, Claimed, NothingToClaim, Step}
+use Rattle.ing_durable.specs.Flights.{Flown, key_in}
 use Rattle.ing_durable.specs.Op.{Op}
 use Rattle.ing_service.specs.Each.{Each, GoesAt}
-use Rattle.ing_session.proofs.CausesLaws.{one_failure}
-use Rattle.ing_session.specs.Causes.{HaveCause}
-use Rattle.ing_service.specs.Flushes.{EndEach, Ends, EndsIn, GaveBack, IsSaved, NoneWaited, Outcome, Stored, failed_among, failed_by, stored_among, stored_by}
+use Rattle.ing_service.specs.Flushes.{ClaimEach, Claims, ClaimsIn, IsSaved, Settled, SettleEach, SettlesIn, claimed_in}
 use Rattle.ing_service.specs.Held.{MayTear, ShardHeld}
 
 pub same_refl : (a : State) → IsSame a a
 same_refl a = record { rows = IsPermutation-refl a.rows; marks = IsPermutation-refl a.marks }
 
--- a chunk is claimed, and then stored or given back
-module _ (rules : List ℕ → Rules) (s : Option StreamKey) (x : Flown) (a b c : State) (is : s ≡ Some (key_in x)) (claims : Claims (key_in x) x.chunk.first x.flight a b) where
-  pub ends_stored : Finishes (key_in x) x.chunk.first x.flight (sha256 (chunk_text (object_in x))) b c → Ends rules s (Stored x) a c
-  ends_stored finishes = subst (λ o. Ends rules o (Stored x) a c) (sym is) (refl, (b, claims, (c, finishes, same_refl c)))
+-- ---- one claim
 
-  pub ends_back : GivesBack x.flight b c → Ends rules s (GaveBack x) a c
-  ends_back backs = subst (λ o. Ends rules o (GaveBack x) a c) (sym is) (refl, (b, claims, (c, backs, same_refl c)))
+module _ (rules : List ℕ → Rules) (op : Op) (old new : ShardHeld) (listed : new.listed ≡ old.listed) (torn : new.torn ≡ old.torn) where
+  none_claimed : ((s : StreamKey) → slice_get old.listed op.stream ≡ Some s → Step rules old.state (Claim s) NothingToClaim new.state) → (slice_get old.listed op.stream ≡ None → new.state ≡ old.state)
+      → ClaimsIn rules op None old new
+  none_claimed none unlisted = record { claims = by (slice_get old.listed op.stream) refl; listed = listed; torn = torn } where
+    by : (o : Option StreamKey) → slice_get old.listed op.stream ≡ o → Claims rules o None old.state new.state
+    by None is = unlisted is
+    by (Some s) is = none s is
 
--- an upload that failed has a cause
-pub failed_cause : (before after : ℕ) (fault : StoreFault) → IsCounted {T = ℕ} before after (Err fault) → fault ≢ faults.NoMemory → HaveCause before after 1
-failed_cause before after faults.NoMemory counted other = absurd (other refl)
-failed_cause before after faults.Failed counted other = one_failure before after counted.0 counted.1
-failed_cause before after faults.Damaged counted other = one_failure before after counted.0 counted.1
+  one_claimed : (c : Flown) → slice_get new.listed op.stream ≡ Some (key_in c) → Step rules old.state (Claim (key_in c)) (Claimed c.chunk.first c.flight) new.state → ClaimsIn rules op (Some c) old new
+  one_claimed c named step =
+      record {
+        claims = subst (λ o. Claims rules o (Some c) old.state new.state) (sym (ap (λ l. slice_get l op.stream) (sym listed) ∙ named)) (refl, step);
+        listed = listed;
+        torn = torn;
+      }
 
-pub failed_more : (os : List Outcome) (o : Outcome) → failed_among (os ++ o ∷ []) ≡ failed_among os + failed_by o
-failed_more os o = sum_by_push failed_by os o
+  -- whatever it gives
+  pub claim_is : {T E : Type 0} (of : T → Flown) (r : Result (Option T) E)
+      → IfOk r (λ o. IfSome o (λ t. slice_get new.listed op.stream ≡ Some (key_in (of t))))
+      → IfOk r (λ o. IfSome o (λ t. Step rules old.state (Claim (key_in (of t))) (Claimed (of t).chunk.first (of t).flight) new.state))
+      → IfOk r (λ o. IfNone o ((s : StreamKey) → slice_get old.listed op.stream ≡ Some s → Step rules old.state (Claim s) NothingToClaim new.state))
+      → (slice_get old.listed op.stream ≡ None → new.state ≡ old.state)
+      → IfOk r (λ o. ClaimsIn rules op (option_map of o) old new)
+  claim_is of (Err e) named step none unlisted = tt
+  claim_is of (Ok None) named step none unlisted = none_claimed none unlisted
+  claim_is of (Ok (Some t)) named step none unlisted = one_claimed (of t) named step
 
-pub stored_more : (os : List Outcome) (o : Outcome) → stored_among (os ++ o ∷ []) ≡ stored_among os + stored_by o
-stored_more os o = sum_by_push stored_by os o
+-- something is known of what it gives
+pub given_weaker : {T E : Type 0} (P Q : T → Type 0) (r : Result (Option T) E) → ((t : T) → P t → Q t) → IfOk r (λ o. IfSome o P) → IfOk r (λ o. IfSome o Q)
+given_weaker P Q (Err e) f given = tt
+given_weaker P Q (Ok None) f given = tt
+given_weaker P Q (Ok (Some t)) f given = f t given
 
--- an operation is for one chunk at most
-pub at_most_one : (o : Outcome) → failed_by o + stored_by o ≤ 1
-at_most_one NoneWaited = omega arith
-at_most_one (GaveBack x) = omega arith
-at_most_one (Stored x) = omega arith
+-- what is in flight is no stray
+pub if_flew : {T E : Type 0} {P Flew : Type 0} (r : Result T E) → OnOk r P → OnErr r (Flew → ⊥) → Flew → P
+if_flew (Ok x) done stray flew = done
+if_flew (Err e) done stray flew = absurd (stray flew)
 
--- ---- one operation more
+pub ok_weaker : {T E : Type 0} {P Q : T → Type 0} (r : Result T E) → ((x : T) → P x → Q x) → IfOk r P → IfOk r Q
+ok_weaker (Ok x) f said = f x said
+ok_weaker (Err e) f said = tt
+
+-- what is said of a call that went well
+pub went_well : {T E P : Type 0} (r : Result T E) → OnOk r P → false ≡ is_err r → P
+went_well (Ok x) said well = said
+went_well (Err e) said well = absurd (let no : false ≡ true = well in cc)
+
+-- ---- one claim more
 
 module _ (rules : List ℕ → Rules) where
-  one_more : (ops : List Op) (os : List Outcome) (op : Op) (o : Outcome) (a b c : List ShardHeld) → EndEach rules ops os a b → GoesAt (EndsIn rules op o) op.shard b c
-      → EndEach rules (ops ++ op ∷ []) (os ++ o ∷ []) a c
-  one_more [] [] op o a b c so_far this = (c, subst (λ x. GoesAt (EndsIn rules op o) op.shard x c) so_far this, refl)
-  one_more (p ∷ ps) (q ∷ qs) op o a b c so_far this = (so_far.0, so_far.1, one_more ps qs op o so_far.0 b c so_far.2 this)
-  one_more [] (q ∷ qs) op o a b c so_far this = absurd so_far
-  one_more (p ∷ ps) [] op o a b c so_far this = absurd so_far
+  one_more : (ops : List Op) (cs : List (Option Flown)) (op : Op) (claim : Option Flown) (a b c : List ShardHeld) → ClaimEach rules ops cs a b → GoesAt (ClaimsIn rules op claim) op.shard b c
+      → ClaimEach rules (ops ++ op ∷ []) (cs ++ claim ∷ []) a c
+  one_more [] [] op claim a b c so_far this = (c, subst (λ x. GoesAt (ClaimsIn rules op claim) op.shard x c) so_far this, refl)
+  one_more (p ∷ ps) (q ∷ qs) op claim a b c so_far this = (so_far.0, so_far.1, one_more ps qs op claim so_far.0 b c so_far.2 this)
+  one_more [] (q ∷ qs) op claim a b c so_far this = absurd so_far
+  one_more (p ∷ ps) [] op claim a b c so_far this = absurd so_far
 
-  -- the next operation of the list
-  pub end_next : (ops : List Op) (i : ℕ) (item : Op) (os : List Outcome) (o : Outcome) (a b c : List ShardHeld) → item ≡ get_or ops i item → i < length ops
-      → EndEach rules (take i ops) os a b → GoesAt (EndsIn rules item o) item.shard b c → EndEach rules (take (i + 1) ops) (os ++ o ∷ []) a c
-  end_next ops i item os o a b c is lt so_far this =
-      subst (λ l. EndEach rules l (os ++ o ∷ []) a c) (ap (λ x. take i ops ++ x ∷ []) is ∙ sym (take_more ops i item lt))
-      (one_more (take i ops) os item o a b c so_far this)
+  -- by the next operation of the list
+  pub claim_next : (ops : List Op) (i : ℕ) (item : Op) (cs : List (Option Flown)) (claim : Option Flown) (a b c : List ShardHeld) → item ≡ get_or ops i item → i < length ops
+      → ClaimEach rules (take i ops) cs a b → GoesAt (ClaimsIn rules item claim) item.shard b c → ClaimEach rules (take (i + 1) ops) (cs ++ claim ∷ []) a c
+  claim_next ops i item cs claim a b c is lt so_far this =
+      subst (λ l. ClaimEach rules l (cs ++ claim ∷ []) a c) (ap (λ x. take i ops ++ x ∷ []) is ∙ sym (take_more ops i item lt))
+      (one_more (take i ops) cs item claim a b c so_far this)
+
+-- the chunks that were claimed, and this one
+pub claimed_more : (cs : List (Option Flown)) (claim : Option Flown) → claimed_in (cs ++ claim ∷ []) ≡ claimed_in cs ++ option_to_list claim
+claimed_more [] None = refl
+claimed_more [] (Some c) = refl
+claimed_more (None ∷ cs) claim = claimed_more cs claim
+claimed_more (Some x ∷ cs) claim = ap (λ l. x ∷ l) (claimed_more cs claim)
+
+-- ---- one chunk more is settled
+
+module _ (rules : List ℕ → Rules) where
+  pub settle_more : (ss : List Settled) (s : Settled) (a b c : List ShardHeld) → SettleEach rules ss a b → GoesAt (SettlesIn rules s) s.chunk.shard b c → SettleEach rules (ss ++ s ∷ []) a c
+  settle_more [] s a b c so_far this = (c, subst (λ x. GoesAt (SettlesIn rules s) s.chunk.shard x c) so_far this, refl)
+  settle_more (x ∷ ss) s a b c so_far this = (so_far.0, so_far.1, settle_more ss s so_far.0 b c so_far.2 this)
+
+  pub settle_then : (ss ts : List Settled) (a b c : List ShardHeld) → SettleEach rules ss a b → SettleEach rules ts b c → SettleEach rules (ss ++ ts) a c
+  settle_then [] ts a b c so_far then = subst (λ x. SettleEach rules ts x c) so_far then
+  settle_then (x ∷ ss) ts a b c so_far then = (so_far.0, so_far.1, settle_then ss ts so_far.0 b c so_far.2 then)
 
 -- where nothing is saved nothing changes
 pub none_saved : (nothing : Type 0) (shards : List ShardHeld) → Each (IsSaved nothing) (map (λ (shard : ShardHeld). not shard.torn) shards) shards shards

@@ -6,3 +6,7 @@ mod PushLaws
 mod FlushLaws
 mod AskLaws
 mod ObeyLaws
+mod EndsLaws
+mod FlightsLaws
+mod SeatLaws
+mod UploadsLaws

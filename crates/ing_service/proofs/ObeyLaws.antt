@@ -46,7 +46,7 @@ module _ (honest : Type 0) (begun : Begun) (settings : StoreSettings) (old new :
           sealed = sealed;
           mid = mid;
           begins = begins;
-          outcomes = worked.outcomes;
+          settled = worked.settled;
           works = worked.works;
           ops = none;
           told = rw (worked.failures, worked.successes) refl;

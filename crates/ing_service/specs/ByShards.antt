@@ -35,7 +35,7 @@ use Rattle.ing_session.specs.Replies.{fault_data, judged_data, push_data, sweep_
 use Rattle.ing_service.specs.declared.seat.ToSeal.{ToSeal}
 use Rattle.ing_service.specs.declared.seat.ToSeal.TheVariants.{Due, All}
 use Rattle.ing_service.specs.Each.{Each, GoesAt}
-use Rattle.ing_service.specs.Flushes.{Outcome, WorksOff, failed_among, stored_among}
+use Rattle.ing_service.specs.Flushes.{Settled, WorksOff, failed_among, stored_among}
 use Rattle.ing_service.specs.Held.{Begun, Held, MayTear, ShardHeld, first_held}
 use Rattle.ing_service.specs.Queries.{Answer, Refused, Given, Failed, Damaged, QueryMayBe, failed_of}
 
@@ -158,11 +158,11 @@ pub record ObeysFlush (logged : Bool) (settings : StoreSettings) (flush : FlushC
   pub sealed : ℕ
   pub mid : Held
   pub begins : BeginsFlush settings flush.forced sealed old mid
-  pub outcomes : List Outcome
-  pub works : WorksOff logged settings mid.ops outcomes mid.shards new.shards
+  pub settled : List Settled
+  pub works : WorksOff logged settings mid.ops settled mid.shards new.shards
   pub ops : new.ops ≡ []
-  pub told : reply ≡ flush_data (failed_among outcomes) sealed (stored_among outcomes)
-  pub failures : failed ≡ failed_among outcomes
+  pub told : reply ≡ flush_data (failed_among settled) sealed (stored_among settled)
+  pub failures : failed ≡ failed_among settled
 
 -- ---- a question for gauges
 

@@ -61,6 +61,10 @@ whose_from settings number (suc count) = record { settings = settings; number = 
 abbrev pub AreShardsOf : StoreSettings → List Whose → Type 0
 AreShardsOf settings shards = shards ≡ whose_from settings 0 settings.shards
 
+-- all shards of some settings
+abbrev pub AreNumbered : List Whose → Type 0
+AreNumbered shards = (settings : StoreSettings) × AreShardsOf settings shards
+
 -- its number is below how many shards there are
 abbrev pub IsBelowCount : Whose → Type 0
 IsBelowCount shard = shard.number < shard.settings.shards

@@ -7,38 +7,43 @@ ghost use Rattle.ing_session.specs.Runs.{IsObeyed};
 ghost use Rattle.ing_session.specs.Views.{reply_data};
 ghost use Rattle.ing_service.specs.ByShards.{SealsAll, by_shards};
 ghost use Rattle.ing_service.specs.Each.{Each};
+ghost use Rattle.ing_service.specs.Ends.{NeverFail, failures_in};
 ghost use Rattle.ing_service.specs.Flushes.{IsFlushed, IsSaved};
 ghost use Rattle.ing_service.specs.Held.{Held, held_in, shard_held};
 
 use crate::beginning::Beginning;
+use crate::ends::Ends;
+use crate::flights::{Uploads, work_off};
 use crate::owned::OwnShards;
-use crate::seat::{ToSeal, Uploads};
-use crate::seats::{save_each, seal_each, upload_each};
+use crate::seat::ToSeal;
+use crate::seats::{save_each, seal_each};
 use ing_commands::Flush;
 use ing_session::Reply;
 use ing_store::{Receipt, StoreEnd};
 use ing_wal::LogDisk;
 use std::alloc::AllocError;
 use std::mem;
+use std::thread::Threads;
 
-impl<N: Beginning, D: LogDisk + Drop, R: Receipt> OwnShards<N, D, R> {
-    /// Seals each growing chunk where that is forced, works off what is queued, puts checkpoints in the place of torn logs where
+impl<N: Beginning, D: LogDisk + Drop, R: Receipt + Send + Sync> OwnShards<N, D, R> {
+    /// Seals each growing chunk where that is forced, works off what is queued, with uploads side by side where there are workers, puts checkpoints in the place of torn logs where
     /// something was stored, and gives the reply. It fails only where memory runs out; then a part of it may be done.
-    pub fn flush<S: StoreEnd<Receipt = R>>(
+    pub fn flush<H: Threads + Sync, S: StoreEnd<Receipt = R> + Send>(
         &mut self,
-        end: &mut S,
+        rt: &H,
+        ends: &mut Ends<S>,
         flush: Flush,
     ) -> Result<Reply, AllocError>
         ensures obeyed { IfOk result (λ reply.
             IsObeyed (by_shards S.is_honest N.begun) self.old.settings (Ok (commands.Flush (flush_view flush)))
             (held_in (map (λ seat. shard_held seat.shard) self.old.seats.items) self.old.ops.items)
             (λ (held : Held). held ≡ held_in (map (λ seat. shard_held seat.shard) self.new.seats.items) self.new.ops.items)
-            (S.failure_count end.old) (S.failure_count end.new) (reply_data reply)) }
+            (failures_in S.failure_count ends.old) (failures_in S.failure_count ends.new) (reply_data reply)) }
         ensures settings { self.new.settings ≡ self.old.settings }
-        ensures end { GoesOn S.never_fails S.failure_count end.old end.new }
+        ensures end { GoesOn (NeverFail S.never_fails) (failures_in S.failure_count) ends.old ends.new }
     {
         let sealed = if flush.forced { self.seal_all()? } else { 0 };
-        let uploads = self.work_off(end)?;
+        let uploads = self.work_off(rt, ends)?;
         Ok(Reply::Flush {
             failed: uploads.failed,
             sealed,
@@ -58,24 +63,28 @@ impl<N: Beginning, D: LogDisk + Drop, R: Receipt> OwnShards<N, D, R> {
         Ok(all.sealed)
     }
 
-    /// Works off what is queued, the oldest first, until nothing is left, and saves what was stored on torn logs.
-    fn work_off<S: StoreEnd<Receipt = R>>(&mut self, end: &mut S) -> Result<Uploads, AllocError>
+    /// Works off what is queued until nothing is left, and saves what was stored on torn logs.
+    fn work_off<H: Threads + Sync, S: StoreEnd<Receipt = R> + Send>(
+        &mut self,
+        rt: &H,
+        ends: &mut Ends<S>,
+    ) -> Result<Uploads, AllocError>
         ensures flushed { IfOk result (λ uploads. IsFlushed N.begun.logged self.old.settings self.old.ops.items
             (map (λ seat. shard_held seat.shard) self.old.seats.items)
             (map (λ seat. shard_held seat.shard) self.new.seats.items)
-            (S.failure_count end.old) (S.failure_count end.new) uploads.failed uploads.stored) }
+            (failures_in S.failure_count ends.old) (failures_in S.failure_count ends.new) uploads.failed uploads.stored) }
         ensures settings { self.new.settings ≡ self.old.settings }
         ensures ops { OnOk result (self.new.ops.items ≡ []) }
-        ensures end { GoesOn S.never_fails S.failure_count end.old end.new }
+        ensures end { GoesOn (NeverFail S.never_fails) (failures_in S.failure_count) ends.old ends.new }
     {
         let ops = mem::replace(&mut self.ops, Vec::new(self.alloc));
-        let uploads = upload_each(self.alloc, &mut self.seats, end, &ops)?;
+        let uploads = work_off(rt, self.alloc, &mut self.seats, ends, &ops)?;
         self.save_stored(uploads.stored)?;
         Ok(uploads)
     }
 
-    /// Puts a checkpoint in the place of each torn log where chunks were stored: no record tells there that they were, so that a crash would
-    /// bring them back as what was never stored, or not at all. A log that cannot be replaced stays torn, and pushes go on to say so.
+    /// Puts a checkpoint in the place of each torn log once something was stored: no record tells there what was, so that a crash would
+    /// bring it back as what was never stored, or not at all. A log that cannot be replaced stays torn, and pushes go on to say so.
     fn save_stored(&mut self, stored: u64) -> Result<(), AllocError>
         ensures saved { OnOk result ((whole : List Bool)
             × Each (IsSaved ((N.begun.logged ≡ false) ⊎ (stored ≡ 0))) whole

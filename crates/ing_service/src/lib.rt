@@ -5,14 +5,18 @@
 #![tactic(auto)]
 
 mod beginning;
+mod ends;
+mod flights;
 mod flushes;
 mod owned;
 mod queries;
 mod runs;
 mod seat;
 mod seats;
+mod uploads;
 
 pub use beginning::Beginning;
+pub use ends::Ends;
 pub use owned::OwnShards;
 pub use runs::{run, run_own};
 pub use seat::Seat;

@@ -2,12 +2,15 @@
 ghost use Rattle.std.specs.Prelude.{◌≡◌, ◌⊎◌, IfErr, IfOk, IfSome, IsErrOf, IsTrue, OnOk, false, map, replicate};
 ghost use Rattle.ing_durable.specs.Kept.{whose};
 ghost use Rattle.ing_session.specs.Causes.{GoesOn};
+ghost use Rattle.ing_session.specs.FlushCalls.{ObeysFlush};
 ghost use Rattle.ing_session.specs.Endings.{is_of_run};
 ghost use Rattle.ing_session.specs.Runs.{AnswersAll, AnswersFirstLines, AnswersFront, AnswersWhatWasRead};
 ghost use Rattle.ing_service.specs.ByShards.{by_shards};
-ghost use Rattle.ing_service.specs.Held.{AreShardsOf, begun_new, new_shard, shard_held, whose_from};
+ghost use Rattle.ing_service.specs.Ends.{NeverFail, failures_in};
+ghost use Rattle.ing_service.specs.Held.{AreShardsOf, begun_new, held_in, new_shard, shard_held, whose_from};
 
 use crate::beginning::Beginning;
+use crate::ends::Ends;
 use crate::owned::OwnShards;
 use crate::seat::Seat;
 use crate::seats::let_each_go;
@@ -19,54 +22,64 @@ use ing_wal::{LogDisk, NoLog};
 use std::alloc::{AllocError, Global};
 use std::io::{Read, Write};
 use std::marker::Brand;
+use std::thread::Threads;
 
 /// Reads commands line by line, answers each in a line, and writes a report at the end of input, over new shards of these settings,
-/// which have no logs; flushes put into the store by `end`, in the one thread. As `serve_all`. (Own.)
-pub fn run<R: Read, W: Write, S: StoreEnd>(
+/// which have no logs; flushes put into the store by `ends`, and queries read by them. As `serve_all`. (Own.)
+pub fn run<
+    H: Threads + Sync,
+    I: Read,
+    W: Write,
+    R: Receipt + Send + Sync,
+    S: StoreEnd<Receipt = R> + Send,
+>(
+    rt: &H,
     alloc: Global,
-    reader: &mut R,
+    reader: &mut I,
     writer: &mut W,
-    end: &mut S,
+    ends: &mut Ends<S>,
     settings: Settings,
 ) -> Result<(), Ending>
     // What is written is, line for line, what the model answers to the lines read, by how the uploads ended; and each that
     // failed has a cause of its own.
-    ensures output { OnOk result (IfSome (R.remaining reader.old) (λ input.
-        AnswersAll (by_shards S.is_honest (begun_new settings.shards)) settings input (S.failure_count end.old) (S.failure_count end.new)
+    ensures output { OnOk result (IfSome (I.remaining reader.old) (λ input.
+        AnswersAll (by_shards S.is_honest (begun_new settings.shards)) settings input (failures_in S.failure_count ends.old) (failures_in S.failure_count ends.new)
         (W.contents writer.old) (W.contents writer.new))) }
-    ensures input_fault { IsErrOf result Ending.InputFault → IfSome (R.remaining reader.old) (λ input.
-        AnswersWhatWasRead (by_shards S.is_honest (begun_new settings.shards)) settings input (R.remaining reader.new)
-        (S.failure_count end.old) (S.failure_count end.new)
+    ensures input_fault { IsErrOf result Ending.InputFault → IfSome (I.remaining reader.old) (λ input.
+        AnswersWhatWasRead (by_shards S.is_honest (begun_new settings.shards)) settings input (I.remaining reader.new)
+        (failures_in S.failure_count ends.old) (failures_in S.failure_count ends.new)
         (W.contents writer.old) (W.contents writer.new)) }
     ensures no_memory { IsErrOf result Ending.NoMemory → (writer.new ≡ writer.old)
-        ⊎ IfSome (R.remaining reader.old) (λ input.
-        AnswersFirstLines (by_shards S.is_honest (begun_new settings.shards)) settings input (S.failure_count end.old) (S.failure_count end.new)
+        ⊎ IfSome (I.remaining reader.old) (λ input.
+        AnswersFirstLines (by_shards S.is_honest (begun_new settings.shards)) settings input (failures_in S.failure_count ends.old) (failures_in S.failure_count ends.new)
         (W.contents writer.old) (W.contents writer.new)) }
     ensures output_fault { IsErrOf result Ending.OutputFault →
-        IfSome (R.remaining reader.old) (λ input.
-        AnswersFront (by_shards S.is_honest (begun_new settings.shards)) settings input (S.failure_count end.old) (S.failure_count end.new)
+        IfSome (I.remaining reader.old) (λ input.
+        AnswersFront (by_shards S.is_honest (begun_new settings.shards)) settings input (failures_in S.failure_count ends.old) (failures_in S.failure_count ends.new)
         (W.contents writer.old) (W.contents writer.new)) }
-    ensures end { GoesOn S.never_fails S.failure_count end.old end.new }
+    ensures end { GoesOn (NeverFail S.never_fails) (failures_in S.failure_count) ends.old ends.new }
     ensures ending { IfErr result (λ e. IsTrue (is_of_run e)) }
 {
     let seats = new_seats(alloc, &settings)?;
-    run_own::<Brand, R, W, NoLog, S::Receipt, S>(alloc, reader, writer, end, settings, seats, false)
+    run_own::<Brand, H, I, W, NoLog, R, S>(rt, alloc, reader, writer, ends, settings, seats, false)
 }
 
 /// Runs over shards of these settings to which nothing was said yet, over logs or without; N has to name them. As `run`; what is told
 /// durable outlives a crash from then on, as `DurableShard::push` says, and the report tells as recovered what each shard began with. (Own.)
 pub fn run_own<
     N: Beginning,
+    H: Threads + Sync,
     I: Read,
     W: Write,
     D: LogDisk + Drop,
-    R: Receipt,
-    S: StoreEnd<Receipt = R>,
+    R: Receipt + Send + Sync,
+    S: StoreEnd<Receipt = R> + Send,
 >(
+    rt: &H,
     alloc: Global,
     reader: &mut I,
     writer: &mut W,
-    end: &mut S,
+    ends: &mut Ends<S>,
     settings: Settings,
     seats: Vec<Seat<D, R>>,
     is_logged: bool,
@@ -75,25 +88,30 @@ pub fn run_own<
     requires logged { N.begun.logged ≡ is_logged }
     requires held { N.begun.shards ≡ map (λ seat. shard_held seat.shard) seats.items }
     ensures output { OnOk result (IfSome (I.remaining reader.old) (λ input.
-        AnswersAll (by_shards S.is_honest N.begun) settings input (S.failure_count end.old) (S.failure_count end.new)
+        AnswersAll (by_shards S.is_honest N.begun) settings input (failures_in S.failure_count ends.old) (failures_in S.failure_count ends.new)
         (W.contents writer.old) (W.contents writer.new))) }
     ensures input_fault { IsErrOf result Ending.InputFault → IfSome (I.remaining reader.old) (λ input.
         AnswersWhatWasRead (by_shards S.is_honest N.begun) settings input (I.remaining reader.new)
-        (S.failure_count end.old) (S.failure_count end.new)
+        (failures_in S.failure_count ends.old) (failures_in S.failure_count ends.new)
         (W.contents writer.old) (W.contents writer.new)) }
     ensures no_memory { IsErrOf result Ending.NoMemory → (writer.new ≡ writer.old)
         ⊎ IfSome (I.remaining reader.old) (λ input.
-        AnswersFirstLines (by_shards S.is_honest N.begun) settings input (S.failure_count end.old) (S.failure_count end.new)
+        AnswersFirstLines (by_shards S.is_honest N.begun) settings input (failures_in S.failure_count ends.old) (failures_in S.failure_count ends.new)
         (W.contents writer.old) (W.contents writer.new)) }
     ensures output_fault { IsErrOf result Ending.OutputFault → IfSome (I.remaining reader.old) (λ input.
-        AnswersFront (by_shards S.is_honest N.begun) settings input (S.failure_count end.old) (S.failure_count end.new)
+        AnswersFront (by_shards S.is_honest N.begun) settings input (failures_in S.failure_count ends.old) (failures_in S.failure_count ends.new)
         (W.contents writer.old) (W.contents writer.new)) }
-    ensures end { GoesOn S.never_fails S.failure_count end.old end.new }
+    ensures end { GoesOn (NeverFail S.never_fails) (failures_in S.failure_count) ends.old ends.new }
     ensures ending { IfErr result (λ e. IsTrue (is_of_run e)) }
 {
     let own: OwnShards<N, D, R> = OwnShards::of(alloc, settings, seats, is_logged)?;
-    let flush = |own: &mut OwnShards<N, D, R>, end: &mut S, said: Flush| own.flush(end, said);
-    serve_all(alloc, reader, writer, end, own, &flush)
+    let flush = |own: &mut OwnShards<N, D, R>, ends: &mut Ends<S>, said: Flush|
+        ensures { ObeysFlush (by_shards S.is_honest N.begun)
+            (λ own held. held ≡ held_in (map (λ seat. shard_held seat.shard) own.seats.items) own.ops.items) (λ own. own.settings)
+            (failures_in S.failure_count) (NeverFail S.never_fails) said own.entry.now own.exit.now
+            ends.entry.now ends.exit.now result }
+    { own.flush(rt, ends, said) };
+    serve_all(alloc, reader, writer, ends, own, &flush)
 }
 
 /// New shards of these settings, without logs.

@@ -1,23 +1,20 @@
 //! Shards that nobody shares, one after another.
 ghost use Rattle.std.specs.Prelude.{◌≡◌, ◌<◌, ◌⊎◌, All, IfOk, List, Bool, length, map, vec_len, OnOk};
 ghost use Rattle.ing_limits.specs.Settings.{StoreSettings};
-ghost use Rattle.ing_limits.specs.Ranges.{rules_for};
 ghost use Rattle.ing_rows.specs.Gauges.{gauges_of};
 ghost use Rattle.ing_durable.specs.Kept.{whose};
-ghost use Rattle.ing_session.specs.Causes.{GoesOn, HaveCause};
-ghost use Rattle.ing_service.specs.Flushes.{Outcome, failed_among, stored_among};
 ghost use Rattle.ing_service.specs.ByShards.{Publishes, SealEach, counts_of, event_of, reports_of};
 ghost use Rattle.ing_service.specs.Each.{Each};
-ghost use Rattle.ing_service.specs.Flushes.{EndEach, IsSaved};
+ghost use Rattle.ing_service.specs.Flushes.{IsSaved};
 ghost use Rattle.ing_service.specs.Held.{AreShardsOf, IsBelowCount, shard_held};
 ghost use Rattle.ing_service.specs.Snapshots.{AreAsked};
 
-use crate::seat::{Seat, ToSeal, Uploads};
+use crate::seat::{Seat, ToSeal};
 use ing_durable::Op;
 use ing_labels::Selector;
 use ing_parts::{Question, Snapshot};
 use ing_rows::{Gauges, Tenant};
-use ing_store::{Receipt, StoreEnd};
+use ing_store::Receipt;
 use ing_tally::{Counts, ShardReport};
 use ing_wal::LogDisk;
 use std::alloc::{AllocError, Global};
@@ -83,32 +80,6 @@ pub(crate) fn save_each<D: LogDisk + Drop, R: Receipt>(
         let _ = seat.save(alloc)?;
     }
     Ok(())
-}
-
-/// Works off operations, the oldest first, each in its shard.
-pub(crate) fn upload_each<D: LogDisk + Drop, R: Receipt, S: StoreEnd<Receipt = R>>(
-    alloc: Global,
-    seats: &mut [Seat<D, R>],
-    end: &mut S,
-    ops: &[Op],
-) -> Result<Uploads, AllocError>
-    requires { All (λ op. op.shard < length seats.old) ops.now }
-    ensures ended { (settings : StoreSettings) →
-        AreShardsOf settings (map (λ seat. whose seat.shard.memory) seats.old) → IfOk result (λ uploads.
-        (outcomes : List Outcome) × EndEach (rules_for settings) ops.now outcomes
-        (map (λ seat. shard_held seat.shard) seats.old) (map (λ seat. shard_held seat.shard) seats.new)
-        × (uploads.failed ≡ failed_among outcomes) × (uploads.stored ≡ stored_among outcomes)
-        × HaveCause (S.failure_count end.old) (S.failure_count end.new) (failed_among outcomes)) }
-    ensures same { map (λ seat. whose seat.shard.memory) seats.new ≡ map (λ seat. whose seat.shard.memory) seats.old }
-    ensures end { GoesOn S.never_fails S.failure_count end.old end.new }
-{
-    let mut all = Uploads::default();
-    for op in ops {
-        let uploads = seats[op.shard as usize].upload(alloc, end, *op)?;
-        all.failed += uploads.failed;
-        all.stored += uploads.stored;
-    }
-    Ok(all)
 }
 
 /// What each shard counts of a tenant.

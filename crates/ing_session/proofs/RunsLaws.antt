@@ -11,7 +11,7 @@ use Rattle.ing_limits.specs.Settings.{StoreSettings}
 use Rattle.ing_commands.specs.declared.fault.LineFault.TheVariants.{BadCommand}
 use Rattle.ing_session.specs.declared.lines.NextLine.TheVariants.{Line, TooLong, End}
 use Rattle.ing_session.specs.declared.ending.Ending.{Ending}
-use Rattle.ing_session.specs.declared.ending.Ending.TheVariants.{NoMemory, NotToml, UnknownSetting, BadSetting, InputFault, OutputFault, BadArguments, NoSettings, NotOpened, NoFolder, NoObjects, FolderInUse, MissingLog, NotRecovered}
+use Rattle.ing_session.specs.declared.ending.Ending.TheVariants.{NoMemory, NotToml, UnknownSetting, BadSetting, InputFault, OutputFault, BadArguments, NoSettings, NoFolder, NoObjects, FolderInUse, MissingLog, NotRecovered}
 use Rattle.ing_session.specs.Endings.{is_of_run}
 use Rattle.ing_session.specs.Fronts.{AppendsFront, Grows}
 use Rattle.ing_session.specs.Lines.{lines_of, with_feed, EndsLine, TakesLine}
@@ -354,7 +354,6 @@ module _ (m : Manner) (settings : StoreSettings) (input : List ℕ) (before afte
   breaks_known rest (Err (BadSetting name)) other of_run all read memory = absurd cc
   breaks_known rest (Err BadArguments) other of_run all read memory = absurd cc
   breaks_known rest (Err NoSettings) other of_run all read memory = absurd cc
-  breaks_known rest (Err (NotOpened fault)) other of_run all read memory = absurd cc
   breaks_known rest (Err NoFolder) other of_run all read memory = absurd cc
   breaks_known rest (Err NoObjects) other of_run all read memory = absurd cc
   breaks_known rest (Err FolderInUse) other of_run all read memory = absurd cc

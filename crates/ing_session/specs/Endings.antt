@@ -6,9 +6,6 @@ use Rattle.ing_refusals.specs.Refusals.{refusal_name}
 use Rattle.ing_limits.specs.Settings.{Refusal, not_toml, unknown_setting, bad_setting}
 use Rattle.ing_limits.specs.declared.fault.SettingsFault.{SettingsFault}
 use Rattle.ing_limits.specs.declared.fault.SettingsFault.TheVariants as settings
-use Rattle.ing_shard.specs.NodeFaults as node
-use Rattle.ing_shard.specs.declared.node_fault.NodeFault.{NodeFault}
-use Rattle.ing_shard.specs.declared.node_fault.NodeFault.TheVariants as node_faults
 use Rattle.ing_shard.specs.RecoverFaults.{recover_refusal_of}
 use Rattle.ing_shard.specs.declared.recover_fault.RecoverFault.{RecoverFault}
 use Rattle.ing_shard.specs.declared.recover_fault.RecoverFault.TheVariants as recover_faults
@@ -16,7 +13,7 @@ use Rattle.ing_shard.specs.RelistFault.TheVariants as relist_faults
 use Rattle.ing_session.specs.declared.lines.LineError.{LineError}
 use Rattle.ing_session.specs.declared.lines.LineError.TheVariants as lines
 use Rattle.ing_session.specs.declared.ending.Ending.{Ending}
-use Rattle.ing_session.specs.declared.ending.Ending.TheVariants.{NoMemory, NotToml, UnknownSetting, BadSetting, InputFault, OutputFault, BadArguments, NoSettings, NotOpened, NoFolder, NoObjects, FolderInUse, MissingLog, NotRecovered}
+use Rattle.ing_session.specs.declared.ending.Ending.TheVariants.{NoMemory, NotToml, UnknownSetting, BadSetting, InputFault, OutputFault, BadArguments, NoSettings, NoFolder, NoObjects, FolderInUse, MissingLog, NotRecovered}
 
 abbrev pub ending_refusal : Ending → table.Refusal
 ending_refusal NoMemory = refusals.NoMemory
@@ -27,7 +24,6 @@ ending_refusal InputFault = refusals.InputFault
 ending_refusal OutputFault = refusals.OutputFault
 ending_refusal BadArguments = refusals.BadArguments
 ending_refusal NoSettings = refusals.NoSettings
-ending_refusal (NotOpened fault) = node.refusal_of fault
 ending_refusal NoFolder = refusals.LogFault
 ending_refusal NoObjects = refusals.Failed
 ending_refusal FolderInUse = refusals.FolderInUse
@@ -35,7 +31,7 @@ ending_refusal MissingLog = refusals.MissingLog
 ending_refusal (NotRecovered fault) = recover_refusal_of fault
 
 -- the exit status: 1 where arguments or settings are refused, 2 where input, output or a folder failed, the folder is in use or
--- lacks a log, or a shard was not made again, 3 where memory ran out or the ingester was not opened
+-- lacks a log, or a shard was not made again, 3 where memory ran out
 abbrev pub ending_status : Ending → ℕ
 ending_status NoMemory = 3
 ending_status NotToml = 1
@@ -45,7 +41,6 @@ ending_status InputFault = 2
 ending_status OutputFault = 2
 ending_status BadArguments = 1
 ending_status NoSettings = 1
-ending_status (NotOpened fault) = 3
 ending_status NoFolder = 2
 ending_status NoObjects = 2
 ending_status FolderInUse = 2
@@ -71,7 +66,6 @@ is_of_run InputFault = true
 is_of_run OutputFault = true
 is_of_run BadArguments = false
 is_of_run NoSettings = false
-is_of_run (NotOpened fault) = false
 is_of_run NoFolder = false
 is_of_run NoObjects = false
 is_of_run FolderInUse = false
@@ -88,7 +82,6 @@ refusal_of InputFault = None
 refusal_of OutputFault = None
 refusal_of BadArguments = None
 refusal_of NoSettings = None
-refusal_of (NotOpened fault) = None
 refusal_of NoFolder = None
 refusal_of NoObjects = None
 refusal_of FolderInUse = None
@@ -108,13 +101,6 @@ ending_of_settings settings.NotToml = NotToml
 ending_of_settings (settings.UnknownSetting name) = UnknownSetting name
 ending_of_settings (settings.BadSetting name) = BadSetting name
 
--- the ending where the ingester refused a pusher or a flusher: memory that ran out is its own ending
-abbrev pub ending_of_node : NodeFault → Ending
-ending_of_node node_faults.NoMemory = NoMemory
-ending_of_node node_faults.CounterFull = NotOpened node_faults.CounterFull
-ending_of_node node_faults.TooManyEntries = NotOpened node_faults.TooManyEntries
-ending_of_node (node_faults.Misplaced shard) = NotOpened (node_faults.Misplaced shard)
-
 -- the ending where a shard was not made again from its log: memory that ran out is its own ending
 abbrev pub ending_of_recover : RecoverFault → Ending
 ending_of_recover recover_faults.NoMemory = NoMemory
@@ -126,10 +112,6 @@ ending_of_recover (recover_faults.Relist (relist_faults.Failed key)) = NotRecove
 ending_of_recover (recover_faults.Relist (relist_faults.Damaged key)) = NotRecovered (recover_faults.Relist (relist_faults.Damaged key))
 ending_of_recover (recover_faults.Relist (relist_faults.Missing key)) = NotRecovered (recover_faults.Relist (relist_faults.Missing key))
 ending_of_recover (recover_faults.Relist (relist_faults.BadObject key)) = NotRecovered (recover_faults.Relist (relist_faults.BadObject key))
-
--- the ingester was not opened
-abbrev pub IsNotOpened : Ending → Type 0
-IsNotOpened ending = (fault : NodeFault) × (ending ≡ NotOpened fault)
 
 -- a shard was not made again
 abbrev pub IsNotRecovered : Ending → Type 0

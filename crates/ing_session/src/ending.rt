@@ -5,7 +5,7 @@ ghost use Rattle.ing_session.specs.Endings.{ending_refusal, ending_status};
 use crate::lines::LineError;
 use ing_limits::SettingsFault;
 use ing_refusals::Refusal;
-use ing_shard::{NodeFault, RecoverFault, RelistFault};
+use ing_shard::{RecoverFault, RelistFault};
 use std::alloc::{AllocError, AllocFailed};
 
 /// Why the program ended without a report. `name` is the dotted name of the setting, as `tenants.acme.max_line_size`.
@@ -27,8 +27,6 @@ pub enum Ending {
     BadArguments,
     /// The settings file cannot be read.
     NoSettings,
-    /// The ingester refused a pusher or a flusher, before anything was read.
-    NotOpened(NodeFault),
     /// The folder or a log in it cannot be opened.
     NoFolder,
     /// The folder of the objects cannot be opened.
@@ -55,7 +53,6 @@ impl Ending {
             Ending::OutputFault => Refusal::OutputFault,
             Ending::BadArguments => Refusal::BadArguments,
             Ending::NoSettings => Refusal::NoSettings,
-            Ending::NotOpened(fault) => fault.refusal(),
             Ending::NoFolder => Refusal::LogFault,
             Ending::NoObjects => Refusal::Failed,
             Ending::FolderInUse => Refusal::FolderInUse,
@@ -65,7 +62,7 @@ impl Ending {
     }
 
     /// The exit status of the program: 1 where arguments or settings are refused, 2 where input, output or a folder failed, the
-    /// folder is in use or lacks a log, or a shard was not made again, 3 where memory ran out or the ingester was not opened (own). Takes no memory.
+    /// folder is in use or lacks a log, or a shard was not made again, 3 where memory ran out (own). Takes no memory.
     pub fn status(&self) -> u8
         ensures { result ≡ ending_status self.now }
     {
@@ -82,7 +79,7 @@ impl Ending {
             | Ending::FolderInUse
             | Ending::MissingLog
             | Ending::NotRecovered(_) => 2,
-            Ending::NoMemory | Ending::NotOpened(_) => 3,
+            Ending::NoMemory => 3,
         }
     }
 }
@@ -135,20 +132,6 @@ impl From<SettingsFault> for Ending {
             SettingsFault::NotToml => Ending::NotToml,
             SettingsFault::UnknownSetting { name } => Ending::UnknownSetting { name },
             SettingsFault::BadSetting { name } => Ending::BadSetting { name },
-        }
-    }
-}
-
-impl From<NodeFault> for Ending {
-    ghost use Rattle.std.specs.Prelude.{◌≡◌};
-    ghost use Rattle.ing_session.specs.Endings.{ending_of_node};
-
-    ghost from_gives = { λ fault ending. ending ≡ ending_of_node fault };
-
-    fn from(fault: NodeFault) -> Ending {
-        match fault {
-            NodeFault::NoMemory => Ending::NoMemory,
-            fault => Ending::NotOpened(fault),
         }
     }
 }

@@ -1,5 +1,7 @@
-//! The session of the program: lines in, lines out. What a command does and what is replied, by the settings of a file
-//! and over any reader and writer.
+//! The session of the program: lines in, replies out, over any reader and writer, and over whatever obeys commands (a `Service`).
+//!
+//! It reads lines, tells what each commands, has it obeyed, and writes the reply; at the end of input the report; and it says how a run
+//! ends. What a command does to shards is the service's: `serve_all` is proved of any that keeps the trait's clauses.
 #![tactic(auto)]
 
 mod answer;

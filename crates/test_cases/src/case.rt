@@ -2,7 +2,7 @@
 use crate::summed::are_summed;
 use anyhow::{Context, Result};
 use ing_limits::Settings;
-use ing_program::{conclude, run_over, start_on};
+use ing_program::{Ends, conclude, run_over, start_on};
 use ing_store::{Fuse, MemoryStore};
 use ing_wal::MemoryLog;
 use std::alloc::Global;
@@ -34,7 +34,7 @@ impl Case {
         let ends_well = ending.as_slice() == b"0\n".as_slice();
         Ok(Case {
             ends_well,
-            has_summed: ends_well && !is_alone && !names_shards(&settings),
+            has_summed: ends_well && !is_alone && !names(&settings, b"shards"),
             settings,
             input: bytes_at(rt, name, "input.jsonl")?,
             output: bytes_at(rt, name, "output.jsonl")?,
@@ -42,15 +42,16 @@ impl Case {
         })
     }
 
-    /// What differs from what has to come out, if anything does: as it is, over logs, and over four shards, where it may be run so,
-    /// summed.
+    /// What differs from what has to come out, if anything does: as it is, over logs with four flushers, and over four shards with four
+    /// flushers, where it may be run so, summed.
     pub fn difference<F: AllocGlobal + Threads + Wait + Sync>(
         &self,
         rt: &F,
     ) -> Result<Option<&'static str>> {
         let mut difference = self.own_difference(rt)?;
         if difference.is_none() && self.ends_well {
-            difference = difference_over_logs(rt, &self.settings, &self.input, &self.output)?;
+            let settings = self.settings_with(rt.alloc(), b"")?;
+            difference = difference_over_logs(rt, &settings, &self.input, &self.output)?;
         }
         if difference.is_none() && self.has_summed {
             difference = self.difference_of_four(rt)?;
@@ -58,13 +59,22 @@ impl Case {
         Ok(difference)
     }
 
+    /// Its settings behind these, and with four flushers where they do not say how many.
+    fn settings_with(&self, alloc: Global, first: &[u8]) -> Result<Vec<u8>> {
+        let mut settings = first.to_vec(alloc)?;
+        if !names(&self.settings, b"flushers") {
+            settings.extend_from_slice(b"flushers = 4\n")?;
+        }
+        settings.extend_from_slice(&self.settings)?;
+        Ok(settings)
+    }
+
     /// What differs over four shards, summed; and over their logs.
     fn difference_of_four<F: AllocGlobal + Threads + Wait + Sync>(
         &self,
         rt: &F,
     ) -> Result<Option<&'static str>> {
-        let mut settings = b"shards = 4\n".to_vec(rt.alloc())?;
-        settings.extend_from_slice(&self.settings)?;
+        let settings = self.settings_with(rt.alloc(), b"shards = 4\n")?;
         let mut reader = self.input.as_slice();
         let mut output = Vec::new(rt.alloc());
         if start_on(rt, &settings, &mut reader, &mut output).is_err() {
@@ -115,14 +125,14 @@ fn bytes_or<F: Files + AllocGlobal>(
     }
 }
 
-/// Whether settings say how many shards there are.
-fn names_shards(settings: &[u8]) -> bool {
+/// Whether a line of settings begins with this key.
+fn names(settings: &[u8], key: &[u8]) -> bool {
     settings
         .split(|byte| *byte == b'\n')
-        .any(|line| line.starts_with(b"shards"))
+        .any(|line| line.starts_with(key))
 }
 
-/// What differs over logs, of shards with one flusher: all is told durable and published there, and nothing else is another.
+/// What differs over logs: all is told durable and published there, and nothing else is another.
 fn difference_over_logs<F: AllocGlobal + Threads + Wait + Sync>(
     rt: &F,
     settings: &[u8],
@@ -131,12 +141,12 @@ fn difference_over_logs<F: AllocGlobal + Threads + Wait + Sync>(
 ) -> Result<Option<&'static str>> {
     let alloc = rt.alloc();
     let settings = Settings::from_toml(alloc, str::from_utf8(settings).ok().context("text")?)?;
-    if settings.flushers() != 1 {
-        return Ok(None);
-    }
     let store = MemoryStore::new(alloc)?;
-    let mut end = store.end(rt, Fuse::None);
-    let (mut logs, mut finders) = (Vec::new(alloc), Vec::new(alloc));
+    let (mut others, mut logs, mut finders) = (Vec::new(alloc), Vec::new(alloc), Vec::new(alloc));
+    for _ in 1..settings.flushers() {
+        others.push(store.end(rt, Fuse::None))?;
+    }
+    let mut ends = Ends::of(store.end(rt, Fuse::None), others);
     for _ in 0..settings.shards() {
         logs.push(MemoryLog::new(alloc))?;
         finders.push(store.end(rt, Fuse::None))?;
@@ -148,7 +158,7 @@ fn difference_over_logs<F: AllocGlobal + Threads + Wait + Sync>(
         alloc,
         &mut reader,
         &mut output,
-        &mut end,
+        &mut ends,
         settings,
         logs,
         finders,

@@ -1,12 +1,13 @@
 //! What no file can say: readers, writers and ends that fail, readers and writers that watch one another, settings files,
 //! lines of 16 MiB, and a refused allocation.
+mod aside;
 mod faults;
 mod flushes;
 mod folders;
 mod full;
 
 use ing_limits::Settings;
-use ing_program::{Disk, Ending, Folders, conclude, run, run_shards, start};
+use ing_program::{Disk, Ending, Ends, Folders, conclude, run, start};
 use ing_store::{Fuse, MemoryStore, Receipt, StoreEnd};
 use ing_wal::LogDisk;
 use std::cell::Cell;
@@ -47,7 +48,7 @@ const ANSWERS: [&str; 5] = [
 const BAD_COMMAND: &str = "{\"error\":\"BadCommand\",\"number\":33}\n";
 
 /// How a run with all defaults ends, over an end of which these calls fail.
-fn run_over<H: AllocGlobal + Wait, R: Read, W: Write>(
+fn run_over<H: AllocGlobal + Threads + Wait + Sync, R: Read, W: Write>(
     rt: &H,
     fuse: Fuse,
     reader: &mut R,
@@ -55,12 +56,12 @@ fn run_over<H: AllocGlobal + Wait, R: Read, W: Write>(
 ) -> Result<Result<(), Ending>, Fail> {
     let settings = Settings::from_toml(rt.alloc(), "")?;
     let store = MemoryStore::new(rt.alloc())?;
-    let mut end = store.end(rt, fuse);
-    Ok(run(rt.alloc(), reader, writer, &mut end, settings))
+    let mut ends = Ends::of(store.end(rt, fuse), Vec::new(rt.alloc()));
+    Ok(run(rt, rt.alloc(), reader, writer, &mut ends, settings))
 }
 
-/// The same of a shard behind a lock: what is flushed is put by the end of which these calls fail, and a query reads by another.
-fn run_locked_over<H: AllocGlobal + Threads + Wait + Sync, R: Read, W: Write>(
+/// The same where more than one chunk is uploaded by a worker: by its end, of which these calls fail, while a query reads by another.
+fn run_aside_over<H: AllocGlobal + Threads + Wait + Sync, R: Read, W: Write>(
     rt: &H,
     fuse: Fuse,
     reader: &mut R,
@@ -69,9 +70,9 @@ fn run_locked_over<H: AllocGlobal + Threads + Wait + Sync, R: Read, W: Write>(
     let alloc = rt.alloc();
     let settings = Settings::from_toml(alloc, "")?;
     let store = MemoryStore::new(alloc)?;
-    let mut end = store.end(rt, Fuse::None);
-    let ends = vec![in alloc; store.end(rt, fuse)]?;
-    Ok(run_shards(rt, alloc, reader, writer, &mut end, ends, settings))
+    let others = vec![in alloc; store.end(rt, fuse)]?;
+    let mut ends = Ends::of(store.end(rt, Fuse::None), others);
+    Ok(run(rt, alloc, reader, writer, &mut ends, settings))
 }
 
 /// How the program ends with these words on an input, and what it has written by then.
@@ -210,7 +211,7 @@ impl Read for Pieces<'_> {
 }
 
 /// How a run on `PUSHES` in pieces of so many bytes ends, and what it has written by then.
-fn run_in_pieces<H: AllocGlobal + Wait>(
+fn run_in_pieces<H: AllocGlobal + Threads + Wait + Sync>(
     rt: &H,
     piece: usize,
     fails: bool,
@@ -229,7 +230,7 @@ fn run_in_pieces<H: AllocGlobal + Wait>(
 const PIECES: [usize; 5] = [1, 2, 3, 7, 1000];
 
 /// Each run on `PUSHES` in pieces ends so, and has written this.
-fn goes_in_pieces<H: AllocGlobal + Wait + Abort>(
+fn goes_in_pieces<H: AllocGlobal + Threads + Wait + Sync + Abort>(
     rt: &H,
     fails: bool,
     ends: Result<(), Ending>,
@@ -408,8 +409,15 @@ fn a_refused_allocation_ends_the_run_and_the_next_is_whole(rt: HostRuntime) -> R
             .chain(SWEEP.as_bytes())
             .chain(FLUSH.as_bytes());
         let mut writer = room.as_mut_slice();
-        let mut end = store.end(&rt, Fuse::None);
-        match run(rt.alloc(), &mut reader, &mut writer, &mut end, settings) {
+        let mut ends = Ends::of(store.end(&rt, Fuse::None), Vec::new(rt.alloc()));
+        match run(
+            &rt,
+            rt.alloc(),
+            &mut reader,
+            &mut writer,
+            &mut ends,
+            settings,
+        ) {
             Ok(()) => break,
             Err(ending) => assert_eq!(rt; ending, Ending::NoMemory),
         }

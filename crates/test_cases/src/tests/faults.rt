@@ -1,7 +1,7 @@
 //! Runs over a log and a store of which each call fails in turn: each time the report adds up.
 use super::{FLUSH, PUSHES, SWEEP};
 use ing_limits::Settings;
-use ing_program::{Ending, run_recovered};
+use ing_program::{Ending, Ends, run_over};
 use ing_store::{Fuse, MemoryStore};
 use ing_wal::MemoryLog;
 use serde_json::Value;
@@ -26,8 +26,8 @@ const QUERY: &str = "{\"cmd\":\"query\",\"tenant\":\"t\",\"query\":\"{a=\\\"1\\\
 /// More calls than such a run makes, of a log or of an end of a store.
 const CALLS: u64 = 40;
 
-/// How a run on these lines ends whose shard is made again from this log, whose flusher puts into the store by an end that fails as
-/// the first of these fuses says, and whose queries read by one that fails as the second says; and what it has written by then.
+/// How a run on these lines ends whose shard is made again from this log, whose worker puts into the store by an end that fails as the
+/// first of these fuses says, and whose own end, by which queries read, fails as the second says; and what it has written by then.
 fn run_failing<H: AllocGlobal + Threads + Wait + Sync>(
     rt: &H,
     log: MemoryLog,
@@ -44,19 +44,18 @@ fn run_failing<H: AllocGlobal + Threads + Wait + Sync>(
         input.push_str(line)?;
     }
     let store = MemoryStore::new(alloc)?;
-    let mut end = store.end(rt, reading);
-    let ends = vec![in alloc; store.end(rt, flusher)]?;
+    let others = vec![in alloc; store.end(rt, flusher)]?;
+    let mut ends = Ends::of(store.end(rt, reading), others);
     let finders = vec![in alloc; store.end(rt, Fuse::None)]?;
     let logs = vec![in alloc; log]?;
     let mut reader = input.as_bytes();
     let mut writer = Vec::new(alloc);
-    let ended = run_recovered(
+    let ended = run_over(
         rt,
         alloc,
         &mut reader,
         &mut writer,
-        &mut end,
-        ends,
+        &mut ends,
         settings,
         logs,
         finders,

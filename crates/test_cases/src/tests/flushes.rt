@@ -1,5 +1,5 @@
 //! Flushes over ends that fail: what a failed upload leaves in memory, and what a later one stores.
-use super::{FLUSH, SWEEP, run_locked_over, run_over};
+use super::{FLUSH, SWEEP, run_aside_over, run_over};
 use ing_store::Fuse;
 use std::alloc::{AllocError, Global};
 use std::process::Abort;
@@ -20,11 +20,11 @@ type Counts = (u64, u64, u64);
 /// How many entries are kept in memory, and how many are stored.
 type Entries = (u64, u64);
 
-/// What the shard of a run lies behind.
+/// What uploads: the run itself, or a worker beside it.
 #[derive(Clone, Copy, Debug, PartialEq, Eq)]
-enum Shard {
-    Alone,
-    Locked,
+enum Uploader {
+    Run,
+    Worker,
 }
 
 /// What a session reads, and what it has to write.
@@ -111,7 +111,7 @@ impl Talk {
     fn holds_over<R: AllocGlobal + Threads + Wait + Sync + Abort>(
         &mut self,
         rt: &R,
-        shard: Shard,
+        uploader: Uploader,
         fuse: Fuse,
         entries: Entries,
     ) -> Result<(), Fail> {
@@ -123,9 +123,9 @@ impl Talk {
         self.output.push_str(report.as_str())?;
         let mut reader = self.input.as_bytes();
         let mut writer = Vec::new(rt.alloc());
-        let ended = match shard {
-            Shard::Alone => run_over(rt, fuse, &mut reader, &mut writer)?,
-            Shard::Locked => run_locked_over(rt, fuse, &mut reader, &mut writer)?,
+        let ended = match uploader {
+            Uploader::Run => run_over(rt, fuse, &mut reader, &mut writer)?,
+            Uploader::Worker => run_aside_over(rt, fuse, &mut reader, &mut writer)?,
         };
         assert_eq!(rt; ended, Ok(()), "over {fuse:?}");
         let written = String::from_utf8(writer).ok().ok_or("the output is text")?;
@@ -134,11 +134,11 @@ impl Talk {
     }
 }
 
-/// Each of these streams gets an entry, and two flushes then count so; the gauges follow each. Behind a lock, where a query reads by
-/// another end, each entry is found after each.
+/// Each of these streams gets an entry, and two flushes then count so; the gauges follow each. Where a worker uploads, so that a query
+/// reads by another end, each entry is found after each.
 fn flushes_twice<R: AllocGlobal + Threads + Wait + Sync + Abort>(
     rt: &R,
-    shard: Shard,
+    uploader: Uploader,
     fuse: Fuse,
     apps: &[&str],
     flushes: [Counts; 2],
@@ -154,11 +154,11 @@ fn flushes_twice<R: AllocGlobal + Threads + Wait + Sync + Abort>(
         stored = stored.saturating_add(counts.2);
         let kept = talk.accepted.saturating_sub(stored);
         talk.gauges(rt.alloc(), (kept, stored))?;
-        if shard == Shard::Locked {
+        if uploader == Uploader::Worker {
             talk.query(rt.alloc(), apps)?;
         }
     }
-    talk.holds_over(rt, shard, fuse, entries)
+    talk.holds_over(rt, uploader, fuse, entries)
 }
 
 #[test]
@@ -173,7 +173,7 @@ fn what_failed_is_stored_by_the_next_flush(rt: HostRuntime) -> Result<(), Fail> 
         // No upload makes a third call.
         (Fuse::Failed(2), [(0, 1, 1), (0, 0, 0)]),
     ] {
-        flushes_twice(&rt, Shard::Alone, fuse, &["web"], flushes, (0, 1))?;
+        flushes_twice(&rt, Uploader::Run, fuse, &["web"], flushes, (0, 1))?;
     }
     Ok(())
 }
@@ -182,7 +182,7 @@ fn what_failed_is_stored_by_the_next_flush(rt: HostRuntime) -> Result<(), Fail> 
 #[test]
 fn a_failed_upload_holds_up_no_other(rt: HostRuntime) -> Result<(), Fail> {
     let apps = ["db", "mail", "web"];
-    for shard in [Shard::Alone, Shard::Locked] {
+    for uploader in [Uploader::Run, Uploader::Worker] {
         for call in 0..7u64 {
             let flushes = if call < 6 {
                 [(1, 3, 2), (0, 0, 1)]
@@ -190,22 +190,22 @@ fn a_failed_upload_holds_up_no_other(rt: HostRuntime) -> Result<(), Fail> {
                 [(0, 3, 3), (0, 0, 0)]
             };
             for fuse in [Fuse::Failed(call), Fuse::StoredYetFailed(call)] {
-                flushes_twice(&rt, shard, fuse, &apps, flushes, (0, 3))?;
+                flushes_twice(&rt, uploader, fuse, &apps, flushes, (0, 3))?;
             }
         }
         let failed = [(3, 3, 0), (3, 0, 0)];
-        flushes_twice(&rt, shard, Fuse::FailedFrom(0), &apps, failed, (3, 0))?;
+        flushes_twice(&rt, uploader, Fuse::FailedFrom(0), &apps, failed, (3, 0))?;
     }
     Ok(())
 }
 
-/// Both sweeps queue an operation for the one chunk. Where the first fails, the second uploads the chunk again.
+/// Both sweeps queue an operation for the one chunk. Where its upload fails, the same flush does not try it again.
 #[test]
 fn unforced_flush_works_off_what_sweeps_queued(rt: HostRuntime) -> Result<(), Fail> {
     for (fuse, counts, entries) in [
         (Fuse::None, (0, 0, 1), (0, 1)),
-        (Fuse::Failed(0), (1, 0, 1), (0, 1)),
-        (Fuse::FailedFrom(0), (2, 0, 0), (1, 0)),
+        (Fuse::Failed(0), (1, 0, 0), (1, 0)),
+        (Fuse::FailedFrom(0), (1, 0, 0), (1, 0)),
     ] {
         let mut talk = Talk::new(rt.alloc());
         talk.push(rt.alloc(), "web")?;
@@ -215,7 +215,7 @@ fn unforced_flush_works_off_what_sweeps_queued(rt: HostRuntime) -> Result<(), Fa
         talk.flush(rt.alloc(), UNFORCED, counts)?;
         // Nothing is queued any more, though a chunk may wait.
         talk.flush(rt.alloc(), UNFORCED, (0, 0, 0))?;
-        talk.holds_over(&rt, Shard::Alone, fuse, entries)?;
+        talk.holds_over(&rt, Uploader::Run, fuse, entries)?;
     }
     Ok(())
 }

@@ -9,7 +9,7 @@ pub seats_of-seats-requires-clause-own : goal.seats_of-seats-requires-clause-own
 seats_of-seats-requires-clause-own g c = own_shares c.args.shards.settings 0 (reverse c.into_parts-settings.result.1.items) c.into_parts-settings.ensures.placed
 
 pub run_own-requires-clause-shards : goal.run_own-requires-clause-shards
-run_own-requires-clause-shards g c =
+run_own-requires-clause-shards g c κs lives =
     let parts = c.into_parts-settings.result in
     let said = c.into_parts-settings.ensures in
     let bs = reverse parts.1.items in
@@ -18,7 +18,7 @@ run_own-requires-clause-shards g c =
     ∙ are_shards c.args.shards.settings bs (length-reverse parts.1.items ∙ sym parts.1.ok.0 ∙ said.all) said.placed)
 
 pub run_own-requires-clause-held : goal.run_own-requires-clause-held
-run_own-requires-clause-held g c =
+run_own-requires-clause-held g c κs lives =
     let parts = c.into_parts-settings.result in
     let bs = reverse parts.1.items in
     c.requires.held ∙ ap (λ v. map (λ begun. shard_held begun.shard) (reverse v.items)) (sym c.into_parts-settings.ensures.same.1)

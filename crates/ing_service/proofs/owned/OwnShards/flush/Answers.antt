@@ -1,4 +1,5 @@
 use Rattle.std.proofs.Common.{◌∙◌, ap, map, subst}
+use Rattle.ing_service.specs.Ends.{failures_in}
 use Rattle.ing_service.specs.Flushes.{IsFlushed}
 use Rattle.ing_service.specs.Held.{held_in, shard_held}
 use Rattle.ing_commands.specs.Views.{flush_view}
@@ -9,9 +10,8 @@ use Rattle.ing_service.proofs.owned.OwnShards.flush.Goals as goal
 pub returns-clause-obeyed : goal.returns-clause-obeyed
 returns-clause-obeyed g c =
     let settings = c.args.self.now.settings in
-    let failures = g.S.StoreEnd.failure_count in
-    let before = failures c.args.end.now in
-    let after = failures c.work_off.new.end in
+    let before = failures_in g.S.StoreEnd.failure_count c.args.ends.now in
+    let after = failures_in g.S.StoreEnd.failure_count c.work_off.new.ends in
     let uploads = c.in_ok-uploads.uploads in
     let flush = flush_view c.args.flush in
     let old = held_in (map (λ seat. shard_held seat.shard) c.args.self.now.seats.items) c.args.self.now.ops.items in

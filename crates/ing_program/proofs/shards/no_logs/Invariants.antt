@@ -1,5 +1,0 @@
-use Rattle.std.proofs.Common.{◌≡◌, vec_len}
-use Rattle.ing_program.proofs.shards.no_logs.Given as goal
-
-abbrev pub invariant-loop : goal.invariant-loop
-invariant-loop l = record { all : vec_len l.logs ≡ l.counter }
