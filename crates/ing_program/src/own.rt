@@ -24,8 +24,9 @@ use std::marker::Brand;
 use std::thread::Threads;
 
 /// Runs over the shards that these logs, one of each shard, are of, as `Shards::recover`, which nobody shares: what they accept and store is
-/// written to their logs. Flushes put into the store by `ends`; the stored chunks are looked for by `finders`, one of each shard. As `run`; what is told durable outlives a crash from then on, as `DurableShard::push` says, and the report tells as recovered what
-/// the logs had. Besides as `run`; `NotRecovered` where a shard is not made again, with the fault of the lowest, before anything is read. (Own.)
+/// written to their logs. Flushes put into the store by `ends`; the stored chunks are looked for by `finders`, one of each shard. As `run`;
+/// what is told durable outlives a crash from then on, as `DurableShard::push` says, and the report tells as recovered what the logs had.
+/// `NotRecovered` where a shard is not made again, with the fault of the lowest, before anything is read. (Own.)
 pub fn run_over<
     H: Threads + Sync,
     I: Read,

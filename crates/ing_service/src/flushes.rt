@@ -26,8 +26,9 @@ use std::mem;
 use std::thread::Threads;
 
 impl<N: Beginning, D: LogDisk + Drop, R: Receipt + Send + Sync> OwnShards<N, D, R> {
-    /// Seals each growing chunk where that is forced, works off what is queued, with uploads side by side where there are workers, puts checkpoints in the place of torn logs where
-    /// something was stored, and gives the reply. It fails only where memory runs out; then a part of it may be done.
+    /// Seals each growing chunk where that is forced, works off what is queued, with uploads side by side where there are several ends, puts
+    /// checkpoints in the place of torn logs where something was stored, and gives the reply. It fails only where memory runs out; then a part
+    /// of it may be done.
     pub fn flush<H: Threads + Sync, S: StoreEnd<Receipt = R> + Send>(
         &mut self,
         rt: &H,

@@ -1,14 +1,18 @@
 //! Uploads of one flush go side by side: each waits for the other.
+ghost use Rattle.std.specs.Prelude.{◌≡◌};
+
 use super::{FLUSH, PUSHES};
 use ing_limits::Settings;
 use ing_program::{Ends, run};
-use ing_store::{Fuse, MemoryStore, StoreEnd, StoreFault};
+use ing_store::{Fuse, MemoryEnd, MemoryStore, StoreEnd, StoreFault};
 use std::alloc::Global;
 use std::borrow::CowSlice;
 use std::io::Read;
+use std::sync::Wait;
 use std::sync::atomic::{AtomicU64, Ordering};
 use std::test::Fail;
 use std::thread;
+use std::thread::Threads;
 use std::time::{Clock, Duration};
 
 /// How often one looks whether the other has come, a millisecond apart.
@@ -89,8 +93,22 @@ impl<'a, C: Clock, S: StoreEnd> StoreEnd for MeetingEnd<'a, C, S> {
     }
 }
 
-#[test]
-fn two_uploads_of_a_flush_overlap(rt: HostRuntime) -> Result<(), Fail> {
+/// An end of this store that meets others.
+fn meeting_end<'a, H: Clock + Wait>(
+    rt: &'a H,
+    meeting: &'a Meeting,
+    store: &'a MemoryStore,
+) -> MeetingEnd<'a, H, MemoryEnd<'a, H>> {
+    MeetingEnd {
+        clock: rt,
+        meeting,
+        end: store.end(rt, Fuse::None),
+        has_come: false,
+    }
+}
+
+/// How many of two uploads of one flush, each by an end of its own, see the other come.
+fn met<H: AllocGlobal + Clock + Threads + Wait + Sync>(rt: &H) -> Result<u64, Fail> {
     let alloc = rt.alloc();
     let settings = Settings::from_toml(alloc, "")?;
     let store = MemoryStore::new(alloc)?;
@@ -98,18 +116,20 @@ fn two_uploads_of_a_flush_overlap(rt: HostRuntime) -> Result<(), Fail> {
         come: AtomicU64::new(0),
         met: AtomicU64::new(0),
     };
-    let an_end = || MeetingEnd {
-        clock: &rt,
-        meeting: &meeting,
-        end: store.end(&rt, Fuse::None),
-        has_come: false,
-    };
-    let others = vec![in alloc; an_end(), an_end()]?;
-    let mut ends = Ends::of(an_end(), others);
+    let mut others = Vec::new(alloc);
+    others.push(meeting_end(rt, &meeting, &store))?;
+    others.push(meeting_end(rt, &meeting, &store))?;
+    let mut ends = Ends::of(meeting_end(rt, &meeting, &store), others);
     let mut reader = PUSHES.as_bytes().chain(FLUSH.as_bytes());
     let mut writer = Vec::new(alloc);
-    let ended = run(&rt, alloc, &mut reader, &mut writer, &mut ends, settings);
-    assert_eq!(rt; ended, Ok(()));
-    assert_eq!(rt; meeting.met.load(Ordering::SeqCst), 2);
+    if run(rt, alloc, &mut reader, &mut writer, &mut ends, settings).is_err() {
+        return Err("a run to its end".into());
+    }
+    Ok(meeting.met.load(Ordering::SeqCst))
+}
+
+#[test]
+fn two_uploads_of_a_flush_overlap(rt: HostRuntime) -> Result<(), Fail> {
+    assert_eq!(rt; met(&rt)?, 2);
     Ok(())
 }
