@@ -10,3 +10,5 @@ mod EndsLaws
 mod FlightsLaws
 mod SeatLaws
 mod UploadsLaws
+mod LedgerLaws
+mod DraftLaws

@@ -6,3 +6,5 @@ pub mod Flying
 pub mod Snapshots
 pub mod Queries
 pub mod ByShards
+pub mod Drafts
+pub mod Ledger

@@ -1,5 +1,5 @@
 //! Queries of shards that nobody shares.
-ghost use Rattle.std.specs.Prelude.{◌≡◌, IfOk, Ok, List, map};
+ghost use Rattle.std.specs.Prelude.{◌≡◌, IfOk, Ok, map};
 ghost use Rattle.ing_labels.specs.Selectors.{IsSelector, IsSelectorText};
 ghost use Rattle.ing_commands.specs.Commands as commands;
 ghost use Rattle.ing_commands.specs.Views.{query_view};

@@ -7,7 +7,7 @@ ghost use Rattle.ing_session.specs.Endings.{is_of_run};
 ghost use Rattle.ing_session.specs.Runs.{AnswersAll, AnswersFirstLines, AnswersFront, AnswersWhatWasRead};
 ghost use Rattle.ing_service.specs.ByShards.{by_shards};
 ghost use Rattle.ing_service.specs.Ends.{NeverFail, failures_in};
-ghost use Rattle.ing_service.specs.Held.{AreShardsOf, begun_new, held_in, new_shard, shard_held, whose_from};
+ghost use Rattle.ing_service.specs.Held.{AreShardsOf, begun_new, held_in, new_shard, shard_held};
 
 use crate::beginning::Beginning;
 use crate::ends::Ends;

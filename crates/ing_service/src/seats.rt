@@ -1,9 +1,10 @@
 //! Shards that nobody shares, one after another.
-ghost use Rattle.std.specs.Prelude.{◌≡◌, ◌<◌, ◌⊎◌, All, IfOk, List, Bool, length, map, vec_len, OnOk};
+ghost use Rattle.std.specs.Prelude.{◌≡◌, ◌<◌, All, IfOk, List, Bool, false, is_some, length, map, OnOk};
 ghost use Rattle.ing_limits.specs.Settings.{StoreSettings};
 ghost use Rattle.ing_rows.specs.Gauges.{gauges_of};
 ghost use Rattle.ing_durable.specs.Kept.{whose};
 ghost use Rattle.ing_service.specs.ByShards.{Publishes, SealEach, counts_of, event_of, reports_of};
+ghost use Rattle.ing_service.specs.Drafts.{IsSynced, IsWaiting, drafted};
 ghost use Rattle.ing_service.specs.Each.{Each};
 ghost use Rattle.ing_service.specs.Flushes.{IsSaved};
 ghost use Rattle.ing_service.specs.Held.{AreShardsOf, IsBelowCount, shard_held};
@@ -24,6 +25,29 @@ use std::alloc::{AllocError, Global};
 pub(crate) struct AllSealed {
     pub(crate) sealed: u64,
     pub(crate) ops: Vec<Op>,
+}
+
+/// Forgets records that a push has left which ran out of memory.
+pub(crate) fn forget_each<D: LogDisk + Drop, R: Receipt>(seats: &mut [Seat<D, R>])
+    ensures none { All (λ seat. is_some seat.unsynced ≡ false) seats.new }
+    ensures held { map (λ seat. shard_held seat.shard) seats.new ≡ map (λ seat. shard_held seat.shard) seats.old }
+    ensures same { map (λ seat. whose seat.shard.memory) seats.new ≡ map (λ seat. whose seat.shard.memory) seats.old }
+{
+    for seat in seats.iter_mut() {
+        seat.forget();
+    }
+}
+
+/// Writes the records that wait, with one sync for each shard that has some.
+pub(crate) fn sync_each<D: LogDisk + Drop, R: Receipt>(seats: &mut [Seat<D, R>])
+    requires waiting { All (λ seat. IsWaiting D.is_honest D.seen seat.shard seat.unsynced) seats.old }
+    ensures synced { Each IsSynced (map (λ seat. drafted seat.shard seat.unsynced) seats.old)
+        (map (λ seat. shard_held seat.shard) seats.old) (map (λ seat. shard_held seat.shard) seats.new) }
+    ensures same { map (λ seat. whose seat.shard.memory) seats.new ≡ map (λ seat. whose seat.shard.memory) seats.old }
+{
+    for seat in seats.iter_mut() {
+        seat.sync();
+    }
 }
 
 /// Seals these growing chunks of each shard.
