@@ -28,7 +28,7 @@ from model import BAD_SELECTORS, Model, Rules, Settings, text_of
 
 TENANTS = ["t", "acme", "a-b.c_d"]
 NAMES, VALUES = ["a", "b", "app"], ["1", "2", "web", 'x"\\\n', "äö"]
-BAD_LABELS = [{}, {"a": ""}, {"1a": "x", "b": "1"}, {"b": "1", "ä": "x"}, {"a": "1", "too_long_a_name": "x"}, {"a": "a long value"}]
+BAD_LABELS = [{}, {"a": ""}, {"1a": "x", "b": "1"}, {"b": "1", "ä": "x"}, {"a": "1", "too_long_a_name": "x"}, {"a": "1", "another_long_name": ""}, {"a": "a long value"}]
 LINES = ["", "x", "hello", 'quote " and \\', "line\nfeed\r\t\x01\x7f", "ä€😀", "a longer line, of forty bytes or so there"]
 BAD_LINES = ["{", "[]", "null", '{"cmd":"nope"}', '{"cmd":1}', '{"cmd":"push"}', '{"cmd":"sweep","now":5}', '{"cmd":"sweep","now":"1x"}']
 BAD_LINES += ['{"cmd":"flush","forced":0}', '{"cmd":"gauges","tenant":".."}', '{"cmd":"gauges"}', '{"cmd":"sweep","now":"9223372036854775808"}']
