@@ -27,7 +27,7 @@ help:
 	@echo 'make kills    200 runs over a folder by lot, most of them killed, then 200 with files that may not grow, then each call for a file failed (by strace); KILLS=N, SEED=N'
 	@echo 'make crashes  10,000 images that a power cut may leave of a folder, each started over, and as many behind a call that failed; then a program without one sync has to be caught, for each of four, and one that tells durable what failed; IMAGES=N, SEED=N'
 	@echo 'make forged   1,000,000 chunk objects, index rows and logs by lot, most of them forged: each is read as a reader written from docs/FORMATS.md alone reads it, or refused alike; TEXTS=N, SEED=N'
-	@echo 'make inputs   10,000 inputs by lot, of one to five shards and one to four flushers, in memory and over a folder with new starts between: each reply is, byte for byte, that of a slow model written from docs/COMMANDS.md alone; INPUTS=N, SEED=N'
+	@echo 'make inputs   10,000 inputs by lot, of one to five shards and one to four flushers, in memory and over a folder with new starts between: each reply is, byte for byte, that of a slow model written from docs/COMMANDS.md and docs/FORMATS.md; INPUTS=N, SEED=N'
 	@echo 'make front    runs the front over the program; SETTINGS=FILE, FOLDER=FOLDER, OPTIONS="--server.http-listen-port 3100" (docs/FRONT.md)'
 	@echo 'make front-install puts the front in place; PREFIX=FOLDER'
 	@echo 'make front-check tests the front without the program'

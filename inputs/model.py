@@ -1,8 +1,14 @@
 """A slow model: what is replied to each line, by docs/COMMANDS.md and docs/FORMATS.md alone. It shares nothing with the program."""
-import hashlib
 import json
+import pathlib
 import re
+import sys
 from dataclasses import dataclass, field
+
+TOP = pathlib.Path(__file__).resolve().parent.parent
+sys.path += [str(TOP / "kills"), str(TOP / "forged")]
+from formats import shard_of  # noqa: E402
+from kills import canonical_name  # noqa: E402
 
 LABEL_NAME = re.compile(r"[a-zA-Z_][a-zA-Z0-9_]*", re.ASCII)
 TENANT = re.compile(r"[a-zA-Z0-9!\-_.*'()]{1,150}", re.ASCII)
@@ -101,16 +107,8 @@ class Stream:
         return [chunk for chunk in self.chunks if chunk.state == "waits"]
 
 
-def canonical_name(labels):
-    def quoted(value):
-        return value.replace("\\", "\\\\").replace('"', '\\"').replace("\n", "\\n")
-
-    return "{" + ", ".join(f'{name}="{quoted(labels[name])}"' for name in sorted(labels)) + "}"
-
-
 def place_of(tenant, name, shards):
-    digest = hashlib.sha256(tenant.encode() + b"\0" + name.encode()).digest()
-    return int.from_bytes(digest[:4], "big") % shards
+    return shard_of(tenant.encode(), name.encode(), shards)
 
 
 def require(holds, name="BadCommand"):
