@@ -397,7 +397,6 @@ class History:
         model = Model(self.place, self.found, may_fail=bool(self.failing))
         for command, reply in itertools.zip_longest(commands, replies):
             model.note(command, reply)
-        model.may_fail = True  # the logs of two shards may be cut at different moments
         return model
 
     def check(self, run, images, commands, replies):

@@ -12,3 +12,4 @@ mod SeatLaws
 mod UploadsLaws
 mod LedgerLaws
 mod DraftLaws
+mod AtHandLaws

@@ -6,6 +6,7 @@ use Rattle.serde_json.specs.Data.{Data}
 use Rattle.ing_labels.specs.TextFaults.{IsSelectorFault, text_fault_place, text_refusal_of}
 use Rattle.ing_labels.specs.declared.text_fault.TextFault.{TextFault}
 use Rattle.ing_labels.specs.declared.text_fault.TextFault.TheVariants as texts
+use Rattle.ing_limits.specs.Ranges.{rules_for}
 use Rattle.ing_limits.specs.Settings.{StoreSettings}
 use Rattle.ing_query.specs.Fetched.{Counts, NotBad}
 use Rattle.ing_query.specs.declared.fault.QueryFault.{QueryFault}
@@ -13,17 +14,20 @@ use Rattle.ing_query.specs.declared.fault.QueryFault.TheVariants.{NoMemory, Stor
 use Rattle.ing_query.specs.QueryFaults.{query_refusal_of}
 use Rattle.ing_commands.specs.Commands.{Command, Flush, Query}
 use Rattle.ing_commands.specs.FlushCommands.{FlushCommand}
+use Rattle.ing_commands.specs.PushCommands.{PushCommand}
 use Rattle.ing_commands.specs.QueryCommands.{QueryCommand}
+use Rattle.ing_durable.specs.Op.{Op}
 use Rattle.ing_session.specs.declared.reply.Reply.{Reply}
 use Rattle.ing_session.specs.Causes.{HaveCause}
-use Rattle.ing_session.specs.Replies.{fault_data, flush_data}
-use Rattle.ing_session.specs.Runs.{IsObeyed}
+use Rattle.ing_session.specs.Replies.{fault_data, flush_data, push_data}
+use Rattle.ing_session.specs.Runs.{IsObeyed, ObeysEach}
 use Rattle.ing_session.specs.Views.{reply_data}
 use Rattle.ing_session.proofs.CausesLaws.{no_failure, one_failure, same_count}
 use Rattle.ing_session.proofs.ObeyLaws.{obeyed}
-use Rattle.ing_service.specs.ByShards.{BeginsFlush, Flushes, ObeysCommand, Queries, by_shards, query_reply, reports_of, rows_of, shard_report}
+use Rattle.ing_service.specs.ByShards.{BeginsFlush, Flushes, ObeysCommand, Pushes, Queries, by_shards, query_reply, reports_of, rows_of, shard_report}
 use Rattle.ing_service.specs.Flushes.{IsFlushed}
-use Rattle.ing_service.specs.Held.{Begun, Held, ShardHeld}
+use Rattle.ing_service.specs.Drafts.{PushesEach}
+use Rattle.ing_service.specs.Held.{Begun, Held, ShardHeld, held_in}
 use Rattle.ing_service.specs.Queries.{Answer, Refused, Failed, Damaged, QueryMayBe, Reads, failed_of}
 
 module _ (honest : Type 0) (begun : Begun) (settings : StoreSettings) (old new : Held) where
@@ -55,6 +59,19 @@ module _ (honest : Type 0) (begun : Begun) (settings : StoreSettings) (old new :
         causes = worked.causes;
         holds = refl;
       }
+
+-- pushes, one after another
+pub obeys_each : (honest : Type 0) (begun : Begun) (settings : StoreSettings) (ops : List Op) (pushes : List PushCommand) (olds news : List ShardHeld) (replies : List Data)
+    → PushesEach (rules_for settings) pushes olds news replies → ObeysEach (by_shards honest begun) settings pushes (held_in olds ops) (held_in news ops) replies
+obeys_each honest begun settings ops [] olds news replies each = (ap (λ shards. held_in shards ops) each.0, each.1)
+obeys_each honest begun settings ops (p ∷ ps) olds news replies each = (
+  held_in each.0 ops,
+  push_data each.1,
+  each.2,
+  Pushes (record { replies = each.1; pushes = each.3; ops = refl; told = refl; failures = refl }),
+  obeys_each honest begun settings ops ps each.0 news each.2 each.4,
+  each.5,
+)
 
 -- a query
 module _ (honest : Type 0) (begun : Begun) (settings : StoreSettings) (query : QueryCommand) (held : Held) where

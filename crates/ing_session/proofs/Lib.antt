@@ -5,5 +5,6 @@ pub mod CausesLaws
 pub mod FrontsLaws
 pub mod RunsLaws
 pub mod ObeyLaws
+mod PushedLaws
 pub mod EndingsLaws
 pub mod FaultsLaws

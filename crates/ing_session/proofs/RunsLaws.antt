@@ -1,11 +1,12 @@
 -- One more line of the input is answered, or the run ends.
-use Rattle.std.proofs.Common.{◌≡◌, ◌≢◌, ℕ, ◌+◌, ◌<◌, ◌≤◌, Bool, true, false, List, [], ◌∷◌, ◌++◌, length, refl, sym, ap, subst, ◌∙◌, arith, append_assoc, append-nil, None, Some, Ok, Err, inl, inr}
+use Rattle.std.proofs.Common.{◌≡◌, ◌≢◌, ℕ, ◌+◌, ◌<◌, ◌≤◌, Bool, true, false, List, [], ◌∷◌, ◌++◌, length, drop, refl, sym, ap, subst, ◌∙◌, arith, append_assoc, append-nil, None, Some, Ok, Err, inl, inr}
 use Rattle.std.specs.Prelude.{Option, Result, IfSome, IfErr, OnOk, IsTrue}
 use Rattle.std.specs.List.{AllByRecursion, flat_map}
 use Rattle.std.specs.Io.KnownBytes.{Appends, Keeps, Consumes, IsAtEnd, prepend_known}
-use Rattle.std.proofs.lemmas.List.{map-append}
+use Rattle.std.proofs.lemmas.Grind.{flat_map-append}
+use Rattle.std.proofs.lemmas.List.{length-append, map-append}
 use Rattle.std.proofs.lemmas.List.Concat.{flat_map-cons}
-use Rattle.std.proofs.lemmas.List.Sums.{sum_by_push}
+use Rattle.std.proofs.lemmas.List.Sums.{sum_by-append, sum_by-cons}
 use Rattle.std.proofs.lemmas.Bool.Decides.{nat_tests}
 use Rattle.ing_limits.specs.Settings.{StoreSettings}
 use Rattle.ing_commands.specs.declared.fault.LineFault.TheVariants.{BadCommand}
@@ -17,8 +18,9 @@ use Rattle.ing_session.specs.Fronts.{AppendsFront, Grows}
 use Rattle.ing_session.specs.Lines.{lines_of, with_feed, EndsLine, TakesLine}
 use Rattle.ing_session.specs.Parts.{HasNoFeed, max_line}
 use Rattle.ing_session.specs.Replies.{line_text}
-use Rattle.ing_session.specs.Manners.{Manner, Turn, turn, MayBe, MayBeFrom, is_long, line_fault, answers_of, failed_in, held_after, lines_in, output_of}
-use Rattle.ing_session.specs.Runs.{AnswersAll, AnswersWhatWasRead, AnswersFirstLines, AnswersFront, Answers, AnswersLines, Reports, Serves, ServesKnown, with_replies}
+use Rattle.ing_session.specs.Manners.{Manner, Turn, turn, MayBeFrom, is_long, line_fault, answers_of, failed_in, held_after, lines_in, output_of}
+use Rattle.ing_session.specs.Causes.{HaveCause}
+use Rattle.ing_session.specs.Runs.{AnswersAll, AnswersWhatWasRead, AnswersFirstLines, AnswersFront, Answers, AnswersAhead, AnswersLines, Reports, Serves, ServesKnown, with_replies}
 use Rattle.ing_session.proofs.CausesLaws.{no_failure, causes_on, causes_more}
 use Rattle.ing_session.proofs.FrontsLaws.{front_held}
 use Rattle.ing_session.proofs.LinesLaws.{lines_of-ended, lines_of-open_last, lines_of-rest}
@@ -60,40 +62,52 @@ pub keeps_same : (a : Option (List ℕ)) → Keeps a a
 keeps_same None = tt
 keeps_same (Some x) = refl
 
--- ---- one line more
+-- ---- lines more
 
-held_more : {H : Type 0} (turns : List (Turn H)) (t : Turn H) (held : H) → held_after held (turns ++ t ∷ []) ≡ t.left
-held_more [] t held = refl
-held_more (u ∷ us) t held = held_more us t u.left
+held_on : {H : Type 0} (turns more : List (Turn H)) (held : H) → held_after held (turns ++ more) ≡ held_after (held_after held turns) more
+held_on [] more held = refl
+held_on (u ∷ us) more held = held_on us more u.left
 
-answers_more : {H : Type 0} (turns : List (Turn H)) (t : Turn H) → answers_of (turns ++ t ∷ []) ≡ answers_of turns ++ t.answer
-answers_more [] t = append-nil t.answer
-answers_more (u ∷ us) t = ap (λ (text : List ℕ). u.answer ++ text) (answers_more us t) ∙ sym (append_assoc u.answer (answers_of us) t.answer)
+answers_on : {H : Type 0} (turns more : List (Turn H)) → answers_of (turns ++ more) ≡ answers_of turns ++ answers_of more
+answers_on [] more = refl
+answers_on (u ∷ us) more = ap (λ (text : List ℕ). u.answer ++ text) (answers_on us more) ∙ sym (append_assoc u.answer (answers_of us) (answers_of more))
 
-may_be_more : (m : Manner) (settings : StoreSettings) (turns : List (Turn m.Held)) (t : Turn m.Held) (held : m.Held) → MayBeFrom m settings held turns → MayBe m settings t (held_after held turns)
-    → MayBeFrom m settings held (turns ++ t ∷ [])
-may_be_more m settings [] t held before this = (this, tt)
-may_be_more m settings (u ∷ us) t held before this = (before.0, may_be_more m settings us t u.left before.1 this)
+may_be_on : (m : Manner) (settings : StoreSettings) (turns more : List (Turn m.Held)) (held : m.Held) → MayBeFrom m settings held turns → MayBeFrom m settings (held_after held turns) more
+    → MayBeFrom m settings held (turns ++ more)
+may_be_on m settings [] more held before these = these
+may_be_on m settings (u ∷ us) more held before these = (before.0, may_be_on m settings us more u.left before.1 these)
 
-failed_more : {H : Type 0} (turns : List (Turn H)) (t : Turn H) → failed_in (turns ++ t ∷ []) ≡ failed_in turns + t.failed
-failed_more {H = H} turns t = sum_by_push (λ (u : Turn H). u.failed) turns t
+failed_on : {H : Type 0} (turns more : List (Turn H)) → failed_in (turns ++ more) ≡ failed_in turns + failed_in more
+failed_on {H = H} turns more = sum_by-append (λ (u : Turn H). u.failed) turns more
 
-lines_more : {H : Type 0} (turns : List (Turn H)) (t : Turn H) → lines_in (turns ++ t ∷ []) ≡ lines_in turns ++ t.line ∷ []
-lines_more turns t = map-append (λ u. u.line) turns (t ∷ [])
+failed_one : {H : Type 0} (t : Turn H) → failed_in (t ∷ []) ≡ t.failed
+failed_one {H = H} t = sum_by-cons (λ (u : Turn H). u.failed) t [] ∙ omega arith
 
-all_more : (lines : List (List ℕ)) (line : List ℕ) → AllByRecursion HasNoFeed lines → HasNoFeed line → AllByRecursion HasNoFeed (lines ++ line ∷ [])
-all_more [] line h k = (k, tt)
-all_more (l ∷ ls) line h k = (h.0, all_more ls line h.1 k)
+lines_on : {H : Type 0} (turns more : List (Turn H)) → lines_in (turns ++ more) ≡ lines_in turns ++ lines_in more
+lines_on turns more = map-append (λ u. u.line) turns more
 
-feeds_more : (lines : List (List ℕ)) (line rest : List ℕ) → flat_map with_feed lines ++ (line ++ 10 ∷ rest) ≡ flat_map with_feed (lines ++ line ∷ []) ++ rest
-feeds_more [] line rest =
-    sym (append_assoc line (10 ∷ []) rest) ∙ ap (λ (l : List ℕ). l ++ rest) (sym (append-nil (with_feed line)) ∙ sym (flat_map-cons with_feed line []))
-feeds_more (l ∷ ls) line rest =
-    ap (λ (bytes : List ℕ). bytes ++ (line ++ 10 ∷ rest)) (flat_map-cons with_feed l ls)
-    ∙ append_assoc (with_feed l) (flat_map with_feed ls) (line ++ 10 ∷ rest)
-    ∙ ap (λ (bytes : List ℕ). with_feed l ++ bytes) (feeds_more ls line rest)
-    ∙ sym (append_assoc (with_feed l) (flat_map with_feed (ls ++ line ∷ [])) rest)
-    ∙ ap (λ (bytes : List ℕ). bytes ++ rest) (sym (flat_map-cons with_feed l (ls ++ line ∷ [])))
+all_on : (lines more : List (List ℕ)) → AllByRecursion HasNoFeed lines → AllByRecursion HasNoFeed more → AllByRecursion HasNoFeed (lines ++ more)
+all_on [] more h k = k
+all_on (l ∷ ls) more h k = (h.0, all_on ls more h.1 k)
+
+feeds_on : (lines more : List (List ℕ)) (rest : List ℕ) → flat_map with_feed lines ++ (flat_map with_feed more ++ rest) ≡ flat_map with_feed (lines ++ more) ++ rest
+feeds_on lines more rest =
+    sym (append_assoc (flat_map with_feed lines) (flat_map with_feed more) rest) ∙ ap (λ (bytes : List ℕ). bytes ++ rest) (sym (flat_map-append with_feed lines more))
+
+-- a line and those behind it
+pub feeds_of : (line : List ℕ) (others : List (List ℕ)) (rest : List ℕ) → line ++ 10 ∷ (flat_map with_feed others ++ rest) ≡ flat_map with_feed (line ∷ others) ++ rest
+feeds_of line others rest =
+    sym (append_assoc line (10 ∷ []) (flat_map with_feed others ++ rest))
+    ∙ sym (append_assoc (with_feed line) (flat_map with_feed others) rest)
+    ∙ ap (λ (bytes : List ℕ). bytes ++ rest) (sym (flat_map-cons with_feed line others))
+
+-- lines that take nothing are none
+no_lines : (lines : List (List ℕ)) (rest : List ℕ) → flat_map with_feed lines ++ rest ≡ [] → (lines ≡ []) × (rest ≡ [])
+no_lines [] rest none = (refl, none)
+no_lines (l ∷ ls) rest none =
+    let long : length (l ++ 10 ∷ (flat_map with_feed ls ++ rest)) ≡ 0 = ap length (feeds_of l ls rest ∙ none) in
+    let more = length-append l (10 ∷ (flat_map with_feed ls ++ rest)) in
+    absurd (grind (arith, long, more))
 
 -- no line is taken where nothing is left
 none_left : (old new line : List ℕ) (at_end : Bool) → old ≡ [] → EndsLine old new at_end line → ⊥
@@ -102,41 +116,69 @@ none_left old new (x ∷ xs) false empty ends = absurd cc
 none_left old new line true empty ends = let nothing : line ≡ [] = sym ends.0 ∙ empty in absurd (omega (arith, ends.1, ap length nothing))
 
 module _ (m : Manner) (settings s1 s2 : StoreSettings) (h1 h2 : m.Held → Type 0) (input : List ℕ) (before b1 b2 : ℕ) (first c k : Option (List ℕ)) (r q s line : List ℕ) where
-  -- a line is taken and answered
-  one_line : (was now : Bool) (left rest : List ℕ) → (serves : Serves m settings s1 h1 input before b1 first (with_replies c r) was left) → HasNoFeed line → EndsLine left rest now line
-      → Keeps (with_replies c r) (with_replies k q) → s2 ≡ settings
-      → Answers m settings line (held_after m.nothing serves.turns) h2 b1 b2 q s
-      → Serves m settings s2 h2 input before b2 first (with_replies k s) now rest
-  one_line true now left rest serves clean ends keeps same answers = absurd (none_left left rest line now (serves.read refl).1 ends)
-  one_line false now left rest serves clean ends keeps same answers =
-      let t = turn line answers.answer answers.failed answers.left in
+  -- a line is taken, and those behind it that are answered with it
+  some_lines : (was now : Bool) (left mid ahead more : List ℕ) (taken : ℕ) → mid ≡ ahead ++ more → (serves : Serves m settings s1 h1 input before b1 first (with_replies c r) was left) → HasNoFeed line
+      → EndsLine left mid now line → Keeps (with_replies c r) (with_replies k q) → s2 ≡ settings
+      → AnswersAhead m settings line ahead taken (held_after m.nothing serves.turns) h2 b1 b2 q s
+      → Serves m settings s2 h2 input before b2 first (with_replies k s) now (drop taken ahead ++ more)
+  some_lines true now left mid ahead more taken is serves clean ends keeps same answers = absurd (none_left left mid line now (serves.read refl).1 ends)
+  some_lines false now left mid ahead more taken is serves clean ends keeps same answers =
       record {
-        turns = serves.turns ++ t ∷ [];
-        no_feeds = subst (AllByRecursion HasNoFeed) (sym lines) (all_more (lines_in serves.turns) line serves.no_feeds clean);
+        turns = serves.turns ++ answers.turns;
+        no_feeds = subst (AllByRecursion HasNoFeed) (sym lines) (all_on (lines_in serves.turns) (line ∷ answers.others) serves.no_feeds (clean, answers.no_feeds));
         taken = λ going. subst (λ ls. input ≡ flat_map with_feed ls ++ rest) (sym lines) (front now ends going);
         read = λ ended. subst (λ ls. (lines_of input ≡ ls) × (rest ≡ [])) (sym lines) (end now ends ended);
         settings_are = same;
-        holds = rw (held_more serves.turns t m.nothing) answers.holds;
+        holds = subst h2 (sym (held_on serves.turns answers.turns m.nothing)) answers.holds;
         may_be = record {
-          flushes = may_be_more m settings serves.turns t m.nothing serves.may_be.flushes answers.may_be;
-          causes = rw (failed_more serves.turns t) (causes_more before b1 b2 (failed_in serves.turns) answers.failed serves.may_be.causes answers.causes);
+          flushes = may_be_on m settings serves.turns answers.turns m.nothing serves.may_be.flushes answers.may_be;
+          causes = rw (failed_on serves.turns answers.turns) (causes_more before b1 b2 (failed_in serves.turns) (failed_in answers.turns) serves.may_be.causes answers.causes);
         };
-        answered = rw (answers_more serves.turns t) (adds first c k r q s (answers_of serves.turns) answers.answer serves.answered keeps answers.told);
+        answered = rw (answers_on serves.turns answers.turns) (adds first c k r q s (answers_of serves.turns) (answers_of answers.turns) serves.answered keeps answers.told);
       } where
-        lines : lines_in (serves.turns ++ turn line answers.answer answers.failed answers.left ∷ []) ≡ lines_in serves.turns ++ line ∷ []
-        lines = lines_more serves.turns (turn line answers.answer answers.failed answers.left)
+        rest : List ℕ
+        rest = drop taken ahead ++ more
+
+        lines : lines_in (serves.turns ++ answers.turns) ≡ lines_in serves.turns ++ line ∷ answers.others
+        lines = lines_on serves.turns answers.turns ∙ ap (λ (ls : List (List ℕ)). lines_in serves.turns ++ ls) answers.lines
+
+        behind : mid ≡ flat_map with_feed answers.others ++ rest
+        behind = is ∙ ap (λ (bytes : List ℕ). bytes ++ more) answers.front ∙ append_assoc (flat_map with_feed answers.others) (drop taken ahead) more
 
         so_far : input ≡ flat_map with_feed (lines_in serves.turns) ++ left
         so_far = serves.taken refl
 
-        front : (b : Bool) → EndsLine left rest b line → b ≡ false → input ≡ flat_map with_feed (lines_in serves.turns ++ line ∷ []) ++ rest
-        front false is going = so_far ∙ ap (λ (l : List ℕ). flat_map with_feed (lines_in serves.turns) ++ l) is ∙ feeds_more (lines_in serves.turns) line rest
+        front : (b : Bool) → EndsLine left mid b line → b ≡ false → input ≡ flat_map with_feed (lines_in serves.turns ++ line ∷ answers.others) ++ rest
+        front false is going =
+            so_far ∙ ap (λ (l : List ℕ). flat_map with_feed (lines_in serves.turns) ++ l) (is ∙ ap (λ (l : List ℕ). line ++ 10 ∷ l) behind ∙ feeds_of line answers.others rest)
+            ∙ feeds_on (lines_in serves.turns) (line ∷ answers.others) rest
         front true is going = absurd cc
 
-        end : (b : Bool) → EndsLine left rest b line → b ≡ true → (lines_of input ≡ lines_in serves.turns ++ line ∷ []) × (rest ≡ [])
+        end : (b : Bool) → EndsLine left mid b line → b ≡ true → (lines_of input ≡ lines_in serves.turns ++ line ∷ answers.others) × (rest ≡ [])
         end false is going = absurd cc
         end true is going =
-            (ap lines_of (so_far ∙ ap (λ (l : List ℕ). flat_map with_feed (lines_in serves.turns) ++ l) is.0) ∙ lines_of-open_last (lines_in serves.turns) line serves.no_feeds clean is.1, is.2)
+            let none = no_lines answers.others rest (sym behind ∙ is.2) in (
+              ap lines_of (so_far ∙ ap (λ (l : List ℕ). flat_map with_feed (lines_in serves.turns) ++ l) is.0) ∙ lines_of-open_last (lines_in serves.turns) line serves.no_feeds clean is.1
+                  ∙ ap (λ (ls : List (List ℕ)). lines_in serves.turns ++ line ∷ ls) (sym none.0),
+              none.1,
+            )
+
+-- a line is answered alone
+pub alone : (m : Manner) (settings : StoreSettings) (line ahead : List ℕ) (held : m.Held) (holds : m.Held → Type 0) (b1 b2 : ℕ) (q s : List ℕ) → Answers m settings line held holds b1 b2 q s
+    → AnswersAhead m settings line ahead 0 held holds b1 b2 q s
+alone m settings line ahead held holds b1 b2 q s answers =
+    let t = turn line answers.answer answers.failed answers.left in
+    record {
+      turns = t ∷ [];
+      others = [];
+      lines = refl;
+      no_feeds = tt;
+      front = refl;
+      may_be = (answers.may_be, tt);
+      told = answers.told ∙ ap (λ (text : List ℕ). q ++ text) (sym (append-nil answers.answer));
+      causes = subst (HaveCause b1 b2) (sym (failed_one t)) answers.causes;
+      holds = answers.holds;
+    }
 
 -- a line that is too long is refused, and changes nothing
 long_answers : (m : Manner) (settings : StoreSettings) (line : List ℕ) (held : m.Held) (holds : m.Held → Type 0) (n : ℕ) (q s : List ℕ) → max_line < length line
@@ -177,19 +219,20 @@ module _ (m : Manner) (settings : StoreSettings) (holds : m.Held → Type 0) (n 
 -- ---- what a turn of the run makes of it
 
 module _ (m : Manner) (settings s1 s2 : StoreSettings) (h1 h2 : m.Held → Type 0) (input : List ℕ) (before b1 b2 : ℕ) (first c k : Option (List ℕ)) (r q s line : List ℕ) (was now : Bool) where
-  pub serves_line : (left rest : Option (List ℕ)) → ServesKnown m settings s1 h1 input before b1 first (with_replies c r) was left → ((was ≡ true → IsAtEnd left) → TakesLine left rest now Line line)
+  pub serves_lines : (ahead : List ℕ) (taken : ℕ) (left known : Option (List ℕ)) → ServesKnown m settings s1 h1 input before b1 first (with_replies c r) was left
+      → ((was ≡ true → IsAtEnd left) → TakesLine left (prepend_known ahead known) now Line line)
       → Keeps (with_replies c r) (with_replies k q)
-      → ((held : m.Held) → h1 held → Answers m s1 line held h2 b1 b2 q s)
+      → ((held : m.Held) → h1 held → AnswersAhead m s1 line ahead taken held h2 b1 b2 q s)
       → s2 ≡ s1
-      → ServesKnown m settings s2 h2 input before b2 first (with_replies k s) now rest
-  serves_line None rest serves takes keeps answers same = absurd serves
-  serves_line (Some left) None serves takes keeps answers same = absurd (takes (λ e. (serves.read e).1))
-  serves_line (Some left) (Some rest) serves takes keeps answers same =
-      let taken = takes (λ e. (serves.read e).1) in
+      → ServesKnown m settings s2 h2 input before b2 first (with_replies k s) now (prepend_known (drop taken ahead) known)
+  serves_lines ahead taken None known serves takes keeps answers same = absurd serves
+  serves_lines ahead taken (Some left) None serves takes keeps answers same = absurd (takes (λ e. (serves.read e).1))
+  serves_lines ahead taken (Some left) (Some more) serves takes keeps answers same =
+      let first_line = takes (λ e. (serves.read e).1) in
       let held = held_after m.nothing serves.turns in
-      one_line m settings s1 s2 h1 h2 input before b1 b2 first c k r q s line was now left rest serves taken.0 taken.1 keeps
+      some_lines m settings s1 s2 h1 h2 input before b1 b2 first c k r q s line was now left (ahead ++ more) ahead more taken refl serves first_line.0 first_line.1 keeps
       (same ∙ serves.settings_are)
-      (subst (λ t. Answers m t line held h2 b1 b2 q s) serves.settings_are (answers held serves.holds))
+      (subst (λ t. AnswersAhead m t line ahead taken held h2 b1 b2 q s) serves.settings_are (answers held serves.holds))
 
   pub serves_long : (left rest : Option (List ℕ)) → ServesKnown m settings s1 h1 input before b1 first (with_replies c r) was left → ((was ≡ true → IsAtEnd left) → TakesLine left rest now TooLong line)
       → Keeps (with_replies c r) (with_replies k q) → s ≡ q ++ line_text (line_fault BadCommand)
@@ -199,9 +242,9 @@ module _ (m : Manner) (settings s1 s2 : StoreSettings) (h1 h2 : m.Held → Type 
   serves_long (Some left) (Some rest) serves takes keeps refused =
       let taken = takes (λ e. (serves.read e).1) in
       let held = held_after m.nothing serves.turns in
-      one_line m settings s1 s1 h1 h1 input before b1 b1 first c k r q s taken.0 was now left rest serves taken.1 taken.2 keeps
+      some_lines m settings s1 s1 h1 h1 input before b1 b1 first c k r q s taken.0 was now left rest [] rest 0 refl serves taken.1 taken.2 keeps
       serves.settings_are
-      (long_answers m settings taken.0 held h1 b1 q s taken.3 refused serves.holds)
+      (alone m settings taken.0 [] held h1 b1 b1 q s (long_answers m settings taken.0 held h1 b1 q s taken.3 refused serves.holds))
 
   all_lines : (left : List ℕ) (serves : Serves m settings s1 h1 input before b1 first (with_replies c r) was left) → left ≡ [] → (b : Bool) → was ≡ b → lines_of input ≡ lines_in serves.turns
   all_lines left serves empty true is = (serves.read is).0

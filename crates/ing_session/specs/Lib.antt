@@ -6,6 +6,7 @@ pub mod Fronts
 pub mod Lines
 pub mod Manners
 pub mod Parts
+pub mod PushLines
 pub mod Replies
 pub mod Runs
 pub mod Unread

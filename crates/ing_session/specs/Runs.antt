@@ -1,15 +1,17 @@
 -- What a run has written by the time it ends, and while it goes on.
-use Rattle.std.specs.Prelude.{◌≡◌, ◌⊎◌, ℕ, false, true, Bool, List, [], ◌++◌, Option, Some, None, Result}
+use Rattle.std.specs.Prelude.{◌≡◌, ◌⊎◌, ℕ, false, true, Bool, List, [], ◌∷◌, ◌++◌, drop, Option, Some, None, Result}
 use Rattle.std.specs.List.{AllByRecursion, flat_map}
 use Rattle.std.specs.Io.KnownBytes.{Appends, Consumes, append_known}
 use Rattle.ing_limits.specs.Settings.{StoreSettings}
 use Rattle.serde_json.specs.Data.{Data}
 use Rattle.ing_commands.specs.declared.fault.LineFault.{LineFault}
-use Rattle.ing_commands.specs.Commands.{Command}
+use Rattle.ing_commands.specs.Commands.{Command, Push}
+use Rattle.ing_commands.specs.PushCommands.{PushCommand}
 use Rattle.ing_session.specs.Causes.{HaveCause}
 use Rattle.ing_session.specs.Fronts.{AppendsFront}
 use Rattle.ing_session.specs.Lines.{lines_of, with_feed}
 use Rattle.ing_session.specs.Parts.{HasNoFeed}
+use Rattle.ing_session.specs.PushLines.{TakesPushes}
 use Rattle.ing_session.specs.Replies.{line_text}
 use Rattle.ing_session.specs.Manners.{Manner, Turn, turn, Obeys, MayBe, MayBeFrom, answers_of, failed_in, held_after, lines_in, output_of}
 
@@ -84,6 +86,26 @@ pub record IsObeyed (m : Manner) (settings : StoreSettings) (said : Result Comma
   pub causes : HaveCause before after failed
   pub holds : now_holds left
 
+-- Pushes are obeyed one after another, each with its reply; at none of them an upload or a query fails.
+abbrev pub ObeysEach : (m : Manner) → StoreSettings → List PushCommand → m.Held → m.Held → List Data → Type 0
+ObeysEach m settings [] old left replies = (left ≡ old) × (replies ≡ [])
+ObeysEach m settings (push ∷ pushes) old left replies =
+    (mid : m.Held) × (reply : Data) × (others : List Data) × m.obeys settings old mid 0 reply (Push push)
+    × ObeysEach m settings pushes mid left others × (replies ≡ reply ∷ others)
+
+-- a push is obeyed, and then those that lines at hand command, which are taken off the front of these bytes
+pub record PushesLines (m : Manner) (settings : StoreSettings) (first : PushCommand) (bytes rest : List ℕ) (old : m.Held) (now_holds : m.Held → Type 0) (replies : List Data) : Type 0 where
+  pub others : List PushCommand
+  pub taken : TakesPushes bytes rest others
+  pub left : m.Held
+  pub obeys : ObeysEach m settings (first ∷ others) old left replies
+  pub holds : now_holds left
+
+-- these replies, each as a line
+abbrev pub lines_text : List Data → List ℕ
+lines_text [] = []
+lines_text (reply ∷ replies) = line_text reply ++ lines_text replies
+
 -- a line is answered, behind the replies that were held back
 pub record Answers (m : Manner) (settings : StoreSettings) (line : List ℕ) (old : m.Held) (now_holds : m.Held → Type 0) (before after : ℕ) (replies with_answer : List ℕ) : Type 0 where
   pub answer : List ℕ
@@ -93,6 +115,18 @@ pub record Answers (m : Manner) (settings : StoreSettings) (line : List ℕ) (ol
   pub told : with_answer ≡ replies ++ answer
   pub causes : HaveCause before after failed
   pub holds : now_holds left
+
+-- a line is answered, and the whole lines that so many of the bytes are which were read ahead of it
+pub record AnswersAhead (m : Manner) (settings : StoreSettings) (line ahead : List ℕ) (taken : ℕ) (old : m.Held) (now_holds : m.Held → Type 0) (before after : ℕ) (replies with_answers : List ℕ) : Type 0 where
+  pub turns : List (Turn m.Held)
+  pub others : List (List ℕ)
+  pub lines : lines_in turns ≡ line ∷ others
+  pub no_feeds : AllByRecursion HasNoFeed others
+  pub front : ahead ≡ flat_map with_feed others ++ drop taken ahead
+  pub may_be : MayBeFrom m settings old turns
+  pub told : with_answers ≡ replies ++ answers_of turns
+  pub causes : HaveCause before after (failed_in turns)
+  pub holds : now_holds (held_after old turns)
 
 -- what a writer holds, and then the replies that are held back
 abbrev pub with_replies : Option (List ℕ) → List ℕ → Option (List ℕ)

@@ -123,6 +123,24 @@ impl Lines {
         self.take(line, false)
     }
 
+    /// What is read ahead of the next line.
+    pub fn ahead(&self) -> &[u8]
+        ensures bytes { result.now ≡ unread self.now }
+        ensures few { length result.now ≤ MAX_LINE }
+    {
+        &self.chunk[self.at..self.filled]
+    }
+
+    /// Skips so many of the bytes that are read ahead. Takes no memory.
+    pub fn skip(&mut self, count: usize)
+        requires { count ≤ length (unread self.old) }
+        ensures bytes { unread self.new ≡ drop count (unread self.old) }
+        ensures end { is_ended self.new ≡ is_ended self.old }
+        ensures no_less { progress self.old ≤ progress self.new }
+    {
+        self.at += count;
+    }
+
     /// Reads until the line that has begun is whole, or the input is at its end. `too_long` says whether the front has more
     /// than `MAX_LINE` bytes already; such a line is skipped and `line` left empty. A read that a signal interrupted is tried
     /// again.
@@ -226,7 +244,7 @@ impl Lines {
 }
 
 /// Where the first line feed stands.
-fn feed_at(bytes: &[u8]) -> Option<usize>
+pub(crate) fn feed_at(bytes: &[u8]) -> Option<usize>
     ensures { MatchOption result (HasNoFeed bytes.now) (λ index. (index < length bytes.now)
         × HasNoFeed (take index bytes.now)
         × (bytes.now ≡ take index bytes.now ++ 10 ∷ drop (index + 1) bytes.now)) }

@@ -1,6 +1,7 @@
 //! The replies, and the lines that they are written as.
 ghost use Rattle.std.specs.Prelude.{◌≡◌, ◌++◌, OnOk, OnErr, codes, decimal, map};
 ghost use Rattle.ing_session.specs.Replies.{verdict_data, verdicts_data, fault_data, judged_data, push_data, sweep_data, flush_data, gauge_data, gauges_data, tenant_data, board_data, counts_data, checkpoint_data, entry_data, query_data, shard_data, report_data, line_text, count};
+ghost use Rattle.ing_session.specs.Runs.{lines_text};
 ghost use Rattle.ing_session.specs.Views.{stream_data, reply_data};
 ghost use Rattle.ing_session.specs.Written.{Adds, member_tokens, data_tokens, tokens_of_each};
 ghost use Rattle.serde_json.specs.Data.{array, boolean, string, object, no_members, member};
@@ -84,6 +85,25 @@ pub fn add_line(alloc: Global, replies: &mut Vec<u8>, reply: &Reply) -> Result<(
     let mut line = out.into_inner();
     line.push(b'\n')?;
     replies.extend_from_slice(&line)?;
+    Ok(())
+}
+
+/// Puts replies behind the others, each as one line: all of them, or none where memory runs out.
+pub fn add_lines(alloc: Global, replies: &mut Vec<u8>, told: &[Reply]) -> Result<(), AllocError>
+    ensures text { OnOk result
+        (replies.new.items ≡ replies.old.items ++ lines_text (map reply_data told.now)) }
+    ensures err { OnErr result (replies.new.items ≡ replies.old.items) }
+{
+    let before = replies.len();
+    for reply in told {
+        match add_line(alloc, replies, reply) {
+            Ok(()) => {}
+            Err(error) => {
+                replies.truncate(before);
+                return Err(error);
+            }
+        }
+    }
     Ok(())
 }
 

@@ -1,19 +1,22 @@
 //! What a run stands on.
 
+use crate::push_lines::PushLines;
 use crate::reply::Reply;
-use ing_commands::Command;
+use ing_commands::{Command, Push};
+use json::Scratch;
 use std::alloc::AllocError;
 
 /// What obeys the commands of a run: shards, whoever has them. S is an end of the store, which is passed to each command. A
-/// service cannot be dropped: it makes its report, or it is put away.
+/// service cannot be dropped: it is put away.
 pub trait Service<S> {
-    ghost use Rattle.std.specs.Prelude.{◌≡◌, ℕ, IfOk, Ok, false};
+    ghost use Rattle.std.specs.Prelude.{◌≡◌, ℕ, IfOk, Ok, false, map};
     ghost use Rattle.ing_limits.specs.Settings.{StoreSettings};
-    ghost use Rattle.ing_commands.specs.Views.{command_view};
+    ghost use Rattle.ing_commands.specs.Views.{command_view, push_view};
     ghost use Rattle.ing_session.specs.Causes.{GoesOn};
     ghost use Rattle.ing_session.specs.FlushCalls.{is_flush};
     ghost use Rattle.ing_session.specs.Manners.{Manner};
-    ghost use Rattle.ing_session.specs.Runs.{IsObeyed};
+    ghost use Rattle.ing_session.specs.PushLines.{rest_of};
+    ghost use Rattle.ing_session.specs.Runs.{IsObeyed, PushesLines};
     ghost use Rattle.ing_session.specs.Views.{reply_data};
 
     /// What it may do at a command, and report at the end.
@@ -41,9 +44,23 @@ pub trait Service<S> {
         ensures settings { settings_of self.new ≡ settings_of self.old }
         ensures end { GoesOn never_fails failures end.old end.new };
 
-    /// Makes the report, and lets go what is in memory.
-    fn report(self) -> Result<Reply, AllocError>
-        ensures { IfOk result (λ reply. (held : manner.Held) → holds self held →
+    /// Does what pushes say, one after another, and gives their replies: `first`, and those of the lines at hand behind it, as far as
+    /// these are pushes in the usual form. What is written for them may share a sync, so none of them is replied to before all are
+    /// done. `scratch` is room that reading takes. It fails only where memory runs out; then a part may be done.
+    fn push_lines(
+        &mut self,
+        first: Push<'_>,
+        lines: &mut PushLines<'_>,
+        scratch: &mut Scratch,
+    ) -> Result<Vec<Reply>, AllocError>
+        ensures obeyed { IfOk result (λ replies. (old : manner.Held) → holds self.old old →
+            PushesLines manner (settings_of self.old) (push_view first.entry) (rest_of lines.old) (rest_of lines.new)
+            old (holds self.new) (map reply_data replies.items)) }
+        ensures settings { settings_of self.new ≡ settings_of self.old };
+
+    /// Makes the report.
+    fn report(&self) -> Result<Reply, AllocError>
+        ensures { IfOk result (λ reply. (held : manner.Held) → holds self.now held →
             manner.reports held (reply_data reply)) };
 
     /// Lets go what is in memory. Takes no memory.

@@ -11,7 +11,7 @@ ghost use Rattle.ing_session.specs.Parts.{HasNoFeed};
 ghost use Rattle.ing_session.specs.Runs.{AnswersAll, AnswersWhatWasRead, AnswersFirstLines, AnswersFront, AnswersLines, Reports, with_replies, ServesKnown};
 ghost use Rattle.ing_session.specs.Unread.{left, is_ended, progress};
 
-use crate::answer::{answer, refuse_long};
+use crate::answer::{AtHand, Scratches, answer, refuse_long};
 use crate::ending::Ending;
 use crate::lines::{Lines, MAX_LINE, NextLine, Part, found};
 use crate::reply::{Reply, add_line};
@@ -68,6 +68,48 @@ pub fn serve_all<
     ensures end { GoesOn C.never_fails C.failures end.old end.new }
     ensures ending { IfErr result (λ e. IsTrue (is_of_run e)) }
 {
+    let mut service = service;
+    let ended = serve_lines(alloc, reader, writer, end, &mut service, flush);
+    // All is written by now: giving back what is in memory may take a while.
+    service.put_away();
+    ended
+}
+
+/// The same, of a service that is put away afterwards.
+fn serve_lines<
+    R: Read,
+    W: Write,
+    S,
+    C: Service<S>,
+    X: Fn(&mut C, &mut S, Flush) -> Result<Reply, AllocError>,
+>(
+    alloc: Global,
+    reader: &mut R,
+    writer: &mut W,
+    end: &mut S,
+    service: &mut C,
+    flush: &X,
+) -> Result<(), Ending>
+    requires may_flush { X.IsAlwaysCallable flush.now }
+    requires flushes { FlushesSo C.manner C.holds C.settings_of C.failures C.never_fails (X.post flush.now) }
+    requires nothing { C.holds service.old C.manner.nothing }
+    ensures output { OnOk result (IfSome (R.remaining reader.old) (λ input.
+        AnswersAll C.manner (C.settings_of service.old) input (C.failures end.old) (C.failures end.new)
+        (W.contents writer.old) (W.contents writer.new))) }
+    ensures input_fault { IsErrOf result Ending.InputFault → IfSome (R.remaining reader.old) (λ input.
+        AnswersWhatWasRead C.manner (C.settings_of service.old) input (R.remaining reader.new)
+        (C.failures end.old) (C.failures end.new)
+        (W.contents writer.old) (W.contents writer.new)) }
+    ensures no_memory { IsErrOf result Ending.NoMemory → IfSome (R.remaining reader.old) (λ input.
+        AnswersFirstLines C.manner (C.settings_of service.old) input (C.failures end.old) (C.failures end.new)
+        (W.contents writer.old) (W.contents writer.new)) }
+    ensures output_fault { IsErrOf result Ending.OutputFault →
+        IfSome (R.remaining reader.old) (λ input.
+        AnswersFront C.manner (C.settings_of service.old) input (C.failures end.old) (C.failures end.new)
+        (W.contents writer.old) (W.contents writer.new)) }
+    ensures end { GoesOn C.never_fails C.failures end.old end.new }
+    ensures ending { IfErr result (λ e. IsTrue (is_of_run e)) }
+{
     let mut replies = Vec::new(alloc);
     let ended = answer_all(alloc, reader, writer, end, service, flush, &mut replies);
     if is_output_fault(&ended) {
@@ -97,58 +139,42 @@ fn answer_all<
     reader: &mut R,
     writer: &mut W,
     end: &mut S,
-    service: C,
+    service: &mut C,
     flush: &X,
     replies: &mut Vec<u8>,
 ) -> Result<(), Ending>
     requires may_flush { X.IsAlwaysCallable flush.now }
     requires flushes { FlushesSo C.manner C.holds C.settings_of C.failures C.never_fails (X.post flush.now) }
-    requires nothing { C.holds service C.manner.nothing }
+    requires nothing { C.holds service.old C.manner.nothing }
     requires none { replies.old.items ≡ [] }
     ensures output { OnOk result (IfSome (R.remaining reader.old) (λ input.
-        AnswersAll C.manner (C.settings_of service) input (C.failures end.old) (C.failures end.new)
+        AnswersAll C.manner (C.settings_of service.old) input (C.failures end.old) (C.failures end.new)
         (W.contents writer.old) (with_replies (W.contents writer.new) replies.new.items))) }
     ensures input_fault { IsErrOf result Ending.InputFault → IfSome (R.remaining reader.old) (λ input.
-        AnswersWhatWasRead C.manner (C.settings_of service) input (R.remaining reader.new)
+        AnswersWhatWasRead C.manner (C.settings_of service.old) input (R.remaining reader.new)
         (C.failures end.old) (C.failures end.new)
         (W.contents writer.old) (with_replies (W.contents writer.new) replies.new.items)) }
     ensures no_memory { IsErrOf result Ending.NoMemory → IfSome (R.remaining reader.old) (λ input.
-        AnswersFirstLines C.manner (C.settings_of service) input (C.failures end.old) (C.failures end.new)
+        AnswersFirstLines C.manner (C.settings_of service.old) input (C.failures end.old) (C.failures end.new)
         (W.contents writer.old) (with_replies (W.contents writer.new) replies.new.items)) }
     ensures output_fault { IsErrOf result Ending.OutputFault →
         IfSome (R.remaining reader.old) (λ input.
-        AnswersFront C.manner (C.settings_of service) input (C.failures end.old) (C.failures end.new)
+        AnswersFront C.manner (C.settings_of service.old) input (C.failures end.old) (C.failures end.new)
         (W.contents writer.old) (W.contents writer.new)) }
     ensures grown { Grows (W.contents writer.old) (W.contents writer.new) }
     ensures end { GoesOn C.never_fails C.failures end.old end.new }
     ensures ending { IfErr result (λ e. IsTrue (is_of_run e)) }
 {
-    let mut service = service;
-    let Ok(mut lines) = Lines::new(alloc) else {
-        service.put_away();
-        return Err(Ending::NoMemory);
-    };
-    match answer_lines(
-        alloc,
-        reader,
-        writer,
-        end,
-        &mut lines,
-        &mut service,
-        flush,
-        replies,
-    ) {
-        Ok(()) => report(alloc, service, replies),
-        Err(ending) => {
-            service.put_away();
-            Err(ending)
-        }
-    }
+    let mut lines = Lines::new(alloc)?;
+    answer_lines(
+        alloc, reader, writer, end, &mut lines, service, flush, replies,
+    )?;
+    report(alloc, service, replies)
 }
 
 /// Makes the report.
-fn report<S, C: Service<S>>(alloc: Global, service: C, replies: &mut Vec<u8>) -> Result<(), Ending>
-    ensures text { OnOk result ((held : C.manner.Held) → C.holds service held →
+fn report<S, C: Service<S>>(alloc: Global, service: &C, replies: &mut Vec<u8>) -> Result<(), Ending>
+    ensures text { OnOk result ((held : C.manner.Held) → C.holds service.now held →
         Reports C.manner held replies.old.items replies.new.items) }
     ensures err { OnErr result (replies.new.items ≡ replies.old.items) }
     ensures ending { IfErr result (λ e. e ≡ Ending.NoMemory) }
@@ -211,7 +237,10 @@ fn answer_lines<
     ensures end { GoesOn C.never_fails C.failures end.old end.new }
     ensures ending { IfErr result (λ e. IsTrue (is_of_run e)) }
 {
-    let mut scratch = Scratch::new(alloc);
+    let mut scratches = Scratches {
+        line: Scratch::new(alloc),
+        ahead: Scratch::new(alloc),
+    };
     let mut line = Vec::new(alloc);
     loop {
         if !serve(
@@ -221,7 +250,7 @@ fn answer_lines<
             end,
             lines,
             &mut line,
-            &mut scratch,
+            &mut scratches,
             service,
             flush,
             replies,
@@ -231,7 +260,7 @@ fn answer_lines<
     }
 }
 
-/// Answers the next line. Gives whether there was one.
+/// Answers the next line, and with it those at hand that may share a sync with it. Gives whether there was one.
 fn serve<
     R: Read,
     W: Write,
@@ -245,7 +274,7 @@ fn serve<
     end: &mut S,
     lines: &mut Lines,
     line: &mut Vec<u8>,
-    scratch: &mut Scratch,
+    scratches: &mut Scratches,
     service: &mut C,
     flush: &X,
     replies: &mut Vec<u8>,
@@ -292,7 +321,12 @@ fn serve<
 {
     match next_line(reader, writer, lines, line, replies)? {
         NextLine::Line => {
-            answer(alloc, service, flush, end, line, scratch, replies)?;
+            let at_hand = AtHand {
+                line,
+                ahead: lines.ahead(),
+            };
+            let taken = answer(alloc, service, flush, end, at_hand, scratches, replies)?;
+            lines.skip(taken);
             Ok(true)
         }
         NextLine::TooLong => {

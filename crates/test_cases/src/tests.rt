@@ -4,7 +4,7 @@ mod aside;
 mod faults;
 mod flushes;
 mod folders;
-mod full;
+mod watched;
 
 use ing_limits::Settings;
 use ing_program::{Disk, Ending, Ends, Folders, conclude, run, start};

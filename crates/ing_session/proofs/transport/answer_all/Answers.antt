@@ -14,29 +14,29 @@ on_err_of (Ok x) e is p = absurd cc
 on_err_of (Err f) e is p = p
 
 -- the report is made
-pub returns-in-Ok-answer_lines-clause-output : goal.returns-in-Ok-answer_lines-clause-output
-returns-in-Ok-answer_lines-clause-output g c =
+pub returns-clause-output : goal.returns-clause-output
+returns-clause-output g c =
     let contents = g.W.Write.contents in
     let failures = g.C.Service.failures in
     let known = g.R.Read.remaining c.args.reader.now in
-    let settings = g.C.Service.settings_of c.args.service in
+    let settings = g.C.Service.settings_of c.args.service.now in
     on_ok_then c.report.result
     (λ text. if_some_then _ _ known
     (λ input serves. reported g.C.Service.manner settings (g.C.Service.holds c.answer_lines.new.service) input (failures c.args.end.now) (failures c.answer_lines.new.end) (contents c.args.writer.now) (contents c.answer_lines.new.writer)
-    c.answer_lines.new.replies.items c.report.new.replies.items (c.in-Ok-answer_lines.ensures.output settings input serves) text)
-    (begins g.C.Service.manner settings (g.C.Service.holds c.args.service) (failures c.args.end.now) (contents c.args.writer.now) c.args.replies.now.items (unread c.in-Ok.lines) (is_ended c.in-Ok.lines)
-    c.requires.none c.in-Ok.ensures.open c.in-Ok.ensures.nothing_read c.requires.nothing known))
+    c.answer_lines.new.replies.items c.report.new.replies.items (c.in_ok-answer_lines.ensures.output settings input serves) text)
+    (begins g.C.Service.manner settings (g.C.Service.holds c.args.service.now) (failures c.args.end.now) (contents c.args.writer.now) c.args.replies.now.items (unread c.in_ok-lines.lines) (is_ended c.in_ok-lines.lines)
+    c.requires.none c.in_ok-lines.ensures.open c.in_ok-lines.ensures.nothing_read c.requires.nothing known))
     c.report.ensures.text
 
 -- memory ran out at the report
-pub returns-in-Ok-answer_lines-clause-no_memory : goal.returns-in-Ok-answer_lines-clause-no_memory
-returns-in-Ok-answer_lines-clause-no_memory g c = λ is.
+pub returns-clause-no_memory : goal.returns-clause-no_memory
+returns-clause-no_memory g c = λ is.
     let contents = g.W.Write.contents in
     let failures = g.C.Service.failures in
     let known = g.R.Read.remaining c.args.reader.now in
-    let settings = g.C.Service.settings_of c.args.service in
+    let settings = g.C.Service.settings_of c.args.service.now in
     if_some_then _ _ known
     (λ input serves. unreported g.C.Service.manner settings (g.C.Service.holds c.answer_lines.new.service) input (failures c.args.end.now) (failures c.answer_lines.new.end) (contents c.args.writer.now) (contents c.answer_lines.new.writer)
-    c.answer_lines.new.replies.items c.report.new.replies.items (c.in-Ok-answer_lines.ensures.output settings input serves) (on_err_of c.report.result _ is c.report.ensures.err))
-    (begins g.C.Service.manner settings (g.C.Service.holds c.args.service) (failures c.args.end.now) (contents c.args.writer.now) c.args.replies.now.items (unread c.in-Ok.lines) (is_ended c.in-Ok.lines)
-    c.requires.none c.in-Ok.ensures.open c.in-Ok.ensures.nothing_read c.requires.nothing known)
+    c.answer_lines.new.replies.items c.report.new.replies.items (c.in_ok-answer_lines.ensures.output settings input serves) (on_err_of c.report.result _ is c.report.ensures.err))
+    (begins g.C.Service.manner settings (g.C.Service.holds c.args.service.now) (failures c.args.end.now) (contents c.args.writer.now) c.args.replies.now.items (unread c.in_ok-lines.lines) (is_ended c.in_ok-lines.lines)
+    c.requires.none c.in_ok-lines.ensures.open c.in_ok-lines.ensures.nothing_read c.requires.nothing known)

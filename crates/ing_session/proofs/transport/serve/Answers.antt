@@ -1,9 +1,12 @@
-use Rattle.std.proofs.Common.{◌≡◌, ap, arith, subst, Err}
+use Rattle.std.proofs.Common.{◌≡◌, ◌∙◌, ap, arith, drop, subst, sym, Err}
+use Rattle.std.specs.Io.KnownBytes.{prepend_known}
 use Rattle.std.proofs.lemmas.Result.{err_from_is_err_and}
-use Rattle.ing_session.specs.Runs.{Answers}
-use Rattle.ing_session.specs.Unread.{left, is_ended}
+use Rattle.ing_session.specs.Lines.{TakesLine}
+use Rattle.ing_session.specs.Runs.{AnswersAhead, ServesKnown, with_replies}
+use Rattle.ing_session.specs.Unread.{left, is_ended, unread}
+use Rattle.ing_session.specs.declared.lines.NextLine.TheVariants.{Line}
 use Rattle.ing_session.proofs.EndingsLaws.{no_output, no_output_read, same_fault}
-use Rattle.ing_session.proofs.RunsLaws.{breaks, fails, serves_line, serves_long, serves_end, stops, held_same}
+use Rattle.ing_session.proofs.RunsLaws.{breaks, fails, serves_lines, serves_long, serves_end, stops, held_same}
 use Rattle.ing_session.proofs.transport.serve.Goals as goal
 
 pub returns-in_err-next_line-clause-no_memory : goal.returns-in_err-next_line-clause-no_memory
@@ -13,12 +16,12 @@ returns-in_err-next_line-clause-no_memory g c = λ is first start settings input
     stops g.C.Service.manner settings (g.C.Service.settings_of c.args.service.now) (g.C.Service.holds c.args.service.now) input start (failures c.args.end.now) (failures c.args.end.now) first _ (is_ended c.args.lines.now) (left c.args.lines.now (g.R.Read.remaining c.args.reader.now)) _ serves
     (c.in_err-next_line.ensures.kept (no_output _ _ _ p.1 p.2 is)) (omega arith)
 
-pub returns-in_err-answer-in-Line-clause-no_memory : goal.returns-in_err-answer-in-Line-clause-no_memory
-returns-in_err-answer-in-Line-clause-no_memory g c = λ is first start settings input serves.
+pub returns-in_err-taken-in-Line-clause-no_memory : goal.returns-in_err-taken-in-Line-clause-no_memory
+returns-in_err-taken-in-Line-clause-no_memory g c = λ is first start settings input serves.
     let contents = g.W.Write.contents in
     let failures = g.C.Service.failures in
     stops g.C.Service.manner settings (g.C.Service.settings_of c.args.service.now) (g.C.Service.holds c.args.service.now) input start (failures c.args.end.now) (failures c.answer.new.end) first _ (is_ended c.args.lines.now) (left c.args.lines.now (g.R.Read.remaining c.args.reader.now)) _ serves
-    (held_same _ (contents c.next_line.new.writer) c.next_line.new.replies.items c.answer.new.replies.items c.in_ok-next_line.ensures.held c.in_err-answer-in-Line.ensures.err) c.in_err-answer-in-Line.ensures.end.0
+    (held_same _ (contents c.next_line.new.writer) c.next_line.new.replies.items c.answer.new.replies.items c.in_ok-next_line.ensures.held c.in_err-taken-in-Line.ensures.err) c.in_err-taken-in-Line.ensures.end.0
 
 pub returns-in_err-refuse_long-in-TooLong-clause-no_memory : goal.returns-in_err-refuse_long-in-TooLong-clause-no_memory
 returns-in_err-refuse_long-in-TooLong-clause-no_memory g c = λ is first start settings input serves.
@@ -27,24 +30,33 @@ returns-in_err-refuse_long-in-TooLong-clause-no_memory g c = λ is first start s
     stops g.C.Service.manner settings (g.C.Service.settings_of c.args.service.now) (g.C.Service.holds c.args.service.now) input start (failures c.args.end.now) (failures c.args.end.now) first _ (is_ended c.args.lines.now) (left c.args.lines.now (g.R.Read.remaining c.args.reader.now)) _ serves
     (held_same _ (contents c.next_line.new.writer) c.next_line.new.replies.items c.refuse_long.new.replies.items c.in_ok-next_line.ensures.held c.in_err-refuse_long-in-TooLong.ensures.err) (omega arith)
 
-pub returns-in_ok-answer-in-Line-clause-served : goal.returns-in_ok-answer-in-Line-clause-served
-returns-in_ok-answer-in-Line-clause-served g c = λ first start settings input serves.
+-- the line is answered, and those at hand with it
+pub returns-in_ok-taken-in-Line-clause-served : goal.returns-in_ok-taken-in-Line-clause-served
+returns-in_ok-taken-in-Line-clause-served g c = λ first start settings input serves.
     let contents = g.W.Write.contents in
     let remaining = g.R.Read.remaining in
     let failures = g.C.Service.failures in
     let line = c.next_line.new.line.items in
     let same : c.deref.result.now ≡ line = c.deref.ensures.value in
+    let ahead = c.ahead.result.now in
+    let taken = c.in_ok-taken-in-Line.taken in
     let before = c.next_line.new.replies.items in
     let after = c.answer.new.replies.items in
-    let answered = c.in_ok-answer-in-Line.ensures in
+    let answered = c.in_ok-taken-in-Line.ensures in
     let settings_of = g.C.Service.settings_of in
     let holds = g.C.Service.holds in
     let service = c.args.service.now in
-    serves_line g.C.Service.manner settings (settings_of service) (settings_of c.answer.new.service) (holds service) (holds c.answer.new.service) input start (failures c.args.end.now) (failures c.answer.new.end) first (contents c.args.writer.now) (contents c.next_line.new.writer) c.args.replies.now.items before after line
-    (is_ended c.args.lines.now) (is_ended c.next_line.new.lines) (left c.args.lines.now (remaining c.args.reader.now)) (left c.next_line.new.lines (remaining c.next_line.new.reader)) serves
-    (rw c.in-Line.is at c.in_ok-next_line.ensures.line) c.in_ok-next_line.ensures.held
-    (λ old is_held. subst (λ l. Answers g.C.Service.manner (settings_of service) l old (holds c.answer.new.service) (failures c.args.end.now) (failures c.answer.new.end) before after) same (answered.answered old is_held))
-    answered.settings
+    let known = remaining c.next_line.new.reader in
+    let line_taken = rw c.in-Line.is at c.in_ok-next_line.ensures.line in
+    let skipped : unread c.skip.new.self ≡ drop taken ahead = c.skip.ensures.bytes ∙ ap (drop taken) (sym c.ahead.ensures.bytes) in
+    let served = serves_lines g.C.Service.manner settings (settings_of service) (settings_of c.answer.new.service) (holds service) (holds c.answer.new.service) input start (failures c.args.end.now) (failures c.answer.new.end) first (contents c.args.writer.now) (contents c.next_line.new.writer) c.args.replies.now.items before after line
+    (is_ended c.args.lines.now) (is_ended c.next_line.new.lines) ahead taken (left c.args.lines.now (remaining c.args.reader.now)) known serves
+    (λ end. subst (λ bytes. TakesLine (left c.args.lines.now (remaining c.args.reader.now)) (prepend_known bytes known) (is_ended c.next_line.new.lines) Line line) (sym c.ahead.ensures.bytes) (line_taken end))
+    c.in_ok-next_line.ensures.held
+    (λ old is_held. subst (λ l. AnswersAhead g.C.Service.manner (settings_of service) l ahead taken old (holds c.answer.new.service) (failures c.args.end.now) (failures c.answer.new.end) before after) same (answered.answered old is_held))
+    answered.settings in
+    subst (λ bytes. ServesKnown g.C.Service.manner settings (settings_of c.answer.new.service) (holds c.answer.new.service) input start (failures c.answer.new.end) first (with_replies (contents c.next_line.new.writer) after) (is_ended c.skip.new.self) (prepend_known bytes known)) (sym skipped)
+    (subst (λ ended. ServesKnown g.C.Service.manner settings (settings_of c.answer.new.service) (holds c.answer.new.service) input start (failures c.answer.new.end) first (with_replies (contents c.next_line.new.writer) after) ended (prepend_known (drop taken ahead) known)) (sym c.skip.ensures.end) served)
 
 pub returns-in_ok-refuse_long-in-TooLong-clause-served : goal.returns-in_ok-refuse_long-in-TooLong-clause-served
 returns-in_ok-refuse_long-in-TooLong-clause-served g c = λ first start settings input serves.

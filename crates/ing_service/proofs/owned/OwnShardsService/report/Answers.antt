@@ -9,12 +9,12 @@ use Rattle.ing_service.proofs.owned.OwnShardsService.report.Goals as goal
 pub returns : goal.returns
 returns g c = λ held is.
     let had = fronts_of g.N.Beginning.begun.shards in
-    subst (λ (h : Held). report_data c.in_ok-reports.field-0.items ≡ report_data (reports_of had h.shards)) (sym is)
-    (ap report_data (c.in_ok-reports.ensures ∙ ap (λ l. reports_of l (map (λ seat. shard_held seat.shard) c.deref.result.now)) (c.deref-2.ensures.value ∙ c.args.self.had)
+    subst (λ (h : Held). report_data c.in_ok-reports.reports.items ≡ report_data (reports_of had h.shards)) (sym is)
+    (ap report_data (c.in_ok-reports.ensures ∙ ap (λ l. reports_of l (map (λ seat. shard_held seat.shard) c.deref.result.now)) (c.deref-2.ensures.value ∙ c.args.self.now.had)
     ∙ ap (λ l. reports_of had (map (λ seat. shard_held seat.shard) l)) c.deref.ensures.value))
 
 -- each shard has begun with a number of entries
-pub reports_of_each-reports-requires : goal.reports_of_each-reports-requires
-reports_of_each-reports-requires g c =
-    let own = c.args.self in
+pub reports_of_each-requires : goal.reports_of_each-requires
+reports_of_each-requires g c =
+    let own = c.args.self.now in
     ap length c.deref-2.ensures.value ∙ sym own.recovered.ok.0 ∙ own.all_had ∙ sym (how_many (λ seat. whose seat.shard.memory) own.settings own.seats.items own.shards) ∙ ap length (sym c.deref.ensures.value)
