@@ -14,7 +14,7 @@ use Rattle.ing_parts.specs.declared.snapshot.Snapshot.{Snapshot}
 use Rattle.ing_parts.specs.Answers.{StandFor}
 use Rattle.ing_parts.specs.Parts.{found_at, wanted, within}
 use Rattle.ing_diary.specs.Answers.{wanted_in}
-use Rattle.ing_durable.specs.Picked.{Picks}
+use Rattle.ing_begun.specs.Picked.{Picks}
 use Rattle.ing_node.specs.Queries.{IsAskedOf, wanted_of}
 
 -- what is wanted of a snapshot stands for what is wanted of its shard's rows

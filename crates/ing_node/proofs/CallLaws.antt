@@ -7,12 +7,12 @@ use Rattle.ing_rows.specs.Events.{Event, Step, Claim, Claimed, Finish, Finished,
 use Rattle.ing_rows.specs.Rows.{State, StreamKey}
 use Rattle.ing_store.specs.ChunkObjects.{chunk_text}
 use Rattle.ing_tally.specs.Books.{ShareState}
-use Rattle.ing_durable.specs.Books.{lent, raised}
-use Rattle.ing_durable.specs.Calls.{IsClaim, IsFinish, IsGiveBack, IsNoClaim, IsSeal}
-use Rattle.ing_durable.specs.Contents.{Contents, IsSameShard, Stands}
-use Rattle.ing_durable.specs.Flights.{FliesAs, Flown, IsInFlight, OtherFlightsStay, entries_in, key_in, object_in}
-use Rattle.ing_durable.specs.Op.{Op}
-use Rattle.ing_durable.specs.Sealing.{ops_from}
+use Rattle.ing_begun.specs.Books.{lent, raised}
+use Rattle.ing_begun.specs.Calls.{IsClaim, IsFinish, IsGiveBack, IsNoClaim, IsSeal}
+use Rattle.ing_begun.specs.Contents.{Contents, IsSameShard, Stands}
+use Rattle.ing_begun.specs.Flights.{FliesAs, Flown, IsInFlight, OtherFlightsStay, entries_in, key_in, object_in}
+use Rattle.ing_begun.specs.Op.{Op}
+use Rattle.ing_begun.specs.Sealing.{ops_from}
 use Rattle.ing_node.proofs.ClosingLaws.{same_state}
 
 module _ (old new : Contents) (same : IsSameShard old new) (listed : new.listed ≡ old.listed) where

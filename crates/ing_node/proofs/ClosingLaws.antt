@@ -8,8 +8,8 @@ use Rattle.ing_rows.specs.Rows.{IsSame, Row, State}
 use Rattle.ing_limits.specs.Settings.{StoreSettings}
 use Rattle.ing_tally.specs.Books.{ShareState}
 use Rattle.ing_diary.specs.Notes.{AreNoted, Note}
-use Rattle.ing_durable.specs.Closed.{ClosedContents, closed_of}
-use Rattle.ing_durable.specs.Contents.{Contents, flying_count, stored_count}
+use Rattle.ing_begun.specs.Closed.{ClosedContents, closed_of}
+use Rattle.ing_begun.specs.Contents.{Contents, flying_count, stored_count}
 use Rattle.ing_tally.specs.declared.report.ShardReport.{ShardReport}
 use Rattle.ing_node.specs.Closing.{AreInPlaces, IsComplete, StandInPlaces, shares_at, shares_in}
 use Rattle.ing_node.specs.Diaries.{HaveNoted}
@@ -30,11 +30,6 @@ pub get_below : {X : Type 0} (xs : List X) (i : ℕ) (x : X) → slice_get xs i 
 get_below [] i x at = absurd cc
 get_below (y ∷ xs) zero x at = omega arith
 get_below (y ∷ xs) (suc i) x at = let rest = get_below xs i x at in omega (arith, rest)
-
--- where there would be a last item if there were any, and there is none
-pub none_left : (n : ℕ) → (0 < n → false ≡ true) → n ≡ 0
-none_left zero some = refl
-none_left (suc n) some = let no : false ≡ true = some (omega arith) in absurd cc
 
 -- what stands at a place of a list in which one item was replaced
 pub set_get : {X : Type 0} (xs : List X) (place : ℕ) (y : X) (i : ℕ) (x : X) → slice_get (slice_set xs place y) i ≡ Some x

@@ -6,7 +6,7 @@ use Rattle.std.specs.Vec.{vec_capacity}
 use Rattle.std.proofs.lemmas.List.Sums.{sum_by-append}
 use Rattle.std.proofs.lemmas.List.Elements.{All-append, All-nil, All-cons}
 use Rattle.ing_tally.specs.Books.{AreOf, BookName, ShareState, amount_of}
-use Rattle.ing_durable.specs.Books.{BookNames}
+use Rattle.ing_begun.specs.Books.{BookNames}
 use Rattle.ing_flush.specs.Tallies.{AreStoredIn, amount_at}
 use Rattle.ing_node.specs.Names.{AreAcceptedIn}
 use Rattle.ing_node.specs.Closing.{one_at, one_in, shares_at}

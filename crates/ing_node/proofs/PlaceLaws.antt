@@ -1,12 +1,10 @@
 -- Shards that stand at their places.
-use Rattle.std.proofs.Common.{◌≡◌, ◌⊎◌, inl, inr, ℕ, zero, suc, ◌+◌, List, [], ◌∷◌, ◌++◌, length, Some, refl, sym, ap, subst, ◌∙◌, arith, reverse}
-use Rattle.std.proofs.lemmas.List.{reverse-append}
+use Rattle.std.proofs.Common.{◌≡◌, ◌⊎◌, inl, inr, ℕ, zero, suc, ◌+◌, List, [], ◌∷◌, ◌++◌, length, Some, refl, sym, ap, ◌∙◌, arith}
 use Rattle.std.specs.Prelude.{slice_get}
-use Rattle.ing_limits.specs.Settings.{StoreSettings}
-use Rattle.ing_durable.specs.Books.{BookNames, names_of}
+use Rattle.ing_begun.specs.Books.{BookNames, names_of}
 use Rattle.ing_tally.specs.Books.{ShareState}
 use Rattle.ing_flush.specs.Tallies.{AreStoredIn}
-use Rattle.ing_node.specs.Begun.{AreBegunFrom, BegunState, IsBegunAs}
+use Rattle.ing_begun.specs.Begun.{BegunState}
 use Rattle.ing_node.specs.Names.{AreAcceptedIn}
 
 -- what stands at a place once one more is put behind a list
@@ -42,22 +40,3 @@ pub named_from : {D : Type 0} (books : ℕ → BookNames) (number : ℕ) (bs : L
 named_from books number [] named = tt
 named_from books number (b ∷ bs) named =
     (named 0 b refl ∙ ap books (omega arith), named_from books (number + 1) bs (λ i c at. named (suc i) c at ∙ ap books (omega arith)))
-
--- one more in front
-pub begun_cons : {D : Type 0} (settings : StoreSettings) (number : ℕ) (b : BegunState D) (bs : List (BegunState D))
-    → IsBegunAs settings number b → AreBegunFrom settings (number + 1) bs → AreBegunFrom settings number (b ∷ bs)
-begun_cons settings number b bs is are zero c at =
-    let same : b ≡ c = cc in
-    subst (λ x. IsBegunAs settings (number + 0) x) same (subst (λ n. IsBegunAs settings n b) (omega arith) is)
-begun_cons settings number b bs is are (suc i) c at = subst (λ n. IsBegunAs settings n c) (omega arith) (are i c at)
-
--- the first, and the others
-pub begun_first : {D : Type 0} (settings : StoreSettings) (number : ℕ) (b : BegunState D) (bs : List (BegunState D)) → AreBegunFrom settings number (b ∷ bs) → IsBegunAs settings number b
-begun_first settings number b bs are = subst (λ n. IsBegunAs settings n b) (omega arith) (are 0 b refl)
-
-pub begun_others : {D : Type 0} (settings : StoreSettings) (number : ℕ) (b : BegunState D) (bs : List (BegunState D)) → AreBegunFrom settings number (b ∷ bs) → AreBegunFrom settings (number + 1) bs
-begun_others settings number b bs are i c at = subst (λ n. IsBegunAs settings n c) (omega arith) (are (suc i) c at)
-
--- the last of a list is the first of the turned one
-pub turned_last : {X : Type 0} (xs : List X) (x : X) → reverse (xs ++ x ∷ []) ≡ x ∷ reverse xs
-turned_last xs x = reverse-append xs (x ∷ [])

@@ -1,5 +1,5 @@
 -- What the rounds of several workers come to.
-use Rattle.std.proofs.Common.{◌≡◌, ◌<◌, ◌≤◌, ◌+◌, ℕ, suc, List, [], ◌∷◌, length, slice_index_or, subst, arith}
+use Rattle.std.proofs.Common.{◌≡◌, ◌<◌, ◌≤◌, ◌+◌, ℕ, suc, List, [], ◌∷◌, length, slice_index_or, arith}
 use Rattle.std.specs.Prelude.{sum_by}
 use Rattle.std.specs.List.{AllZip}
 use Rattle.std.proofs.lemmas.List.Sums.{sum_by-cons}
@@ -14,10 +14,6 @@ zip_of P [] (new ∷ news) long each = absurd (omega (arith, long))
 zip_of P (old ∷ olds) [] long each = absurd (omega (arith, long))
 zip_of P (old ∷ olds) (new ∷ news) long each =
     (each 0 old (omega arith), zip_of P olds news (omega (arith, long)) (λ i d below. each (suc i) d (omega (arith, below))))
-
--- what holds of two holds of those that they are the same as
-pub of_same : {W : Type 0} (P : W → W → Type 0) (a b old new : W) → a ≡ old → b ≡ new → P a b → P old new
-of_same P a b old new first then holds = subst (λ x. P x new) first (subst (λ y. P a y) then holds)
 
 module _ {W : Type 0} (seen : W → WorkerState) where
   -- all shares together rise by an entry at least for each chunk that was stored

@@ -4,8 +4,8 @@ use Rattle.std.specs.Prelude.{All, replicate}
 use Rattle.std.proofs.lemmas.List.Elements.{All-nil, All-append, All-replicate}
 use Rattle.ing_rows.specs.Rows.{State, StreamKey}
 use Rattle.ing_rows.specs.Claims.{claimable_count}
-use Rattle.ing_durable.specs.Op.{Op}
-use Rattle.ing_durable.specs.Sealing.{op, ops_from}
+use Rattle.ing_begun.specs.Op.{Op}
+use Rattle.ing_begun.specs.Sealing.{op, ops_from}
 
 pub ops_have_number : (shard number : ℕ) (listed : List StreamKey) (state : State) → All (λ o. o.shard ≡ shard) (ops_from shard number listed state)
 ops_have_number shard number [] state = All-nil (λ (o : Op). o.shard ≡ shard)

@@ -13,7 +13,7 @@ use Rattle.ing_parts.specs.Answers.{AreSomeOf}
 use Rattle.ing_parts.specs.Parts.{HasRows, KeepsInRange, found_at, is_within, standing}
 use Rattle.ing_diary.specs.Gathered.{IsOf}
 use Rattle.ing_rows.specs.Rows.{Row, StreamKey}
-use Rattle.ing_durable.specs.Picked.{Picks}
+use Rattle.ing_begun.specs.Picked.{Picks}
 use Rattle.ing_node.specs.Queries.{AreSelected, IsAskedOf, key_named}
 
 -- what holds of a list holds of its front

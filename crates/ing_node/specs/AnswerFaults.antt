@@ -3,7 +3,7 @@ use Rattle.std.specs.Prelude.{◌≡◌, ℕ, Result, Ok, Err}
 use Rattle.ing_refusals.specs.declared.refusal.Refusal.{Refusal}
 use Rattle.ing_diary.specs.Fetched.{Counts, NotBad}
 use Rattle.ing_diary.specs.QueryFaults.{query_refusal_of}
-use Rattle.ing_durable.specs.NodeFaults.{refusal_of}
+use Rattle.ing_begun.specs.NodeFaults.{refusal_of}
 use Rattle.ing_node.specs.Refusals.{IsRoundRefusal}
 use Rattle.ing_node.specs.declared.query.AnswerFault.{AnswerFault}
 use Rattle.ing_node.specs.declared.query.AnswerFault.TheVariants.{Node, Query}

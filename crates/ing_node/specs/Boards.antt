@@ -2,7 +2,7 @@
 use Rattle.std.specs.Prelude.{◌≡◌, ◌≤◌, ℕ, List, Option, Some, None, slice_get}
 use Rattle.ing_tally.specs.Counts.{ReaderState}
 use Rattle.ing_tally.specs.declared.counts.Counts.{Counts}
-use Rattle.ing_durable.specs.Books.{BookNames}
+use Rattle.ing_begun.specs.Books.{BookNames}
 
 -- each reads the counts of the shard whose number is its place
 abbrev pub AreReadersOf : (ℕ → BookNames) → List ReaderState → Type 0

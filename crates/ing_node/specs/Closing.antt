@@ -4,8 +4,8 @@ use Rattle.std.specs.Global.{Vec}
 use Rattle.std.specs.Vec.{vec_capacity}
 use Rattle.ing_tally.specs.Books.{ShareState}
 use Rattle.ing_limits.specs.Settings.{StoreSettings}
-use Rattle.ing_durable.specs.Closed.{ClosedContents}
-use Rattle.ing_durable.specs.Contents.{Contents}
+use Rattle.ing_begun.specs.Closed.{ClosedContents}
+use Rattle.ing_begun.specs.Contents.{Contents}
 
 -- ---- lists of shares, one for each shard
 

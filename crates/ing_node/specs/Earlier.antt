@@ -1,7 +1,7 @@
 -- What the shards of one ingester began with (own).
 use Rattle.std.specs.Prelude.{◌≡◌, All, List, [], map}
 use Rattle.ing_tally.specs.Books.{ShareState}
-use Rattle.ing_node.specs.Begun.{BegunState}
+use Rattle.ing_begun.specs.Begun.{BegunState}
 
 -- shares of the entries, and of those of them that are stored, shard by shard
 pub record EarlierState : Type 0 where

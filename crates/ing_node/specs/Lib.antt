@@ -8,15 +8,13 @@ pub mod Closing
 pub mod AnswerFaults
 pub mod Sweeps
 pub mod Diaries
-pub mod Begun
-pub mod Recovering
 pub mod Earlier
 -- what its clauses speak of in the crates below
-pub use Rattle.ing_durable.specs.Contents
-pub use Rattle.ing_durable.specs.Kept
-pub use Rattle.ing_durable.specs.NodeFault
-pub use Rattle.ing_durable.specs.NodeFaults
-pub use Rattle.ing_durable.specs.RecoverFault
+pub use Rattle.ing_begun.specs.Begun
+pub use Rattle.ing_begun.specs.Contents
+pub use Rattle.ing_begun.specs.Kept
+pub use Rattle.ing_begun.specs.NodeFault
+pub use Rattle.ing_begun.specs.NodeFaults
 pub use Rattle.ing_flush.specs.Rounds
 pub use Rattle.ing_flush.specs.Tallies
 pub use Rattle.ing_flush.specs.declared.worker.Worker

@@ -4,9 +4,9 @@ use Rattle.std.specs.FinMap.{from_entries}
 use Rattle.ing_rows.specs.Defaults.{defaults}
 use Rattle.ing_limits.specs.Settings.{StoreSettings}
 use Rattle.ing_tally.specs.Books.{ShareState, no_book}
-use Rattle.ing_durable.specs.Books.{BookNames, names_of}
-use Rattle.ing_durable.specs.Contents.{Contents}
-use Rattle.ing_node.specs.Begun.{BegunState}
+use Rattle.ing_begun.specs.Books.{BookNames, names_of}
+use Rattle.ing_begun.specs.Contents.{Contents}
+use Rattle.ing_begun.specs.Begun.{BegunState}
 use Rattle.ing_flush.specs.Tallies.{AreStoredIn}
 
 -- each share is of the accepted entries of the shard whose number is its place

@@ -9,8 +9,8 @@ use Rattle.ing_rows.specs.declared.verdict.Verdict.TheVariants.{Accepted, Duplic
 use Rattle.ing_rows.specs.Rows.{State, StreamKey}
 use Rattle.ing_rows.specs.Steps.{verdicts_of}
 use Rattle.ing_rows.specs.Verdicts.{accepted_number}
-use Rattle.ing_durable.specs.NodeFault.{NodeFault}
-use Rattle.ing_durable.specs.NodeFault.TheVariants.{NoMemory, CounterFull, TooManyEntries, Misplaced}
+use Rattle.ing_begun.specs.NodeFault.{NodeFault}
+use Rattle.ing_begun.specs.NodeFault.TheVariants.{NoMemory, CounterFull, TooManyEntries, Misplaced}
 
 -- what a verdict tells of its entry, whatever stood in the shard: its line is too long exactly where it is longer than the limit, and
 -- what is too far behind has a stamp below what is named

@@ -11,7 +11,7 @@ use Rattle.ing_rows.specs.Gauges.{gauges_of}
 use Rattle.ing_rows.specs.Placement.{shard_of}
 use Rattle.ing_rows.specs.Rows.{Row, StreamKey}
 use Rattle.ing_rows.specs.declared.gauges.Gauges.{Gauges}
-use Rattle.ing_durable.specs.Picked.{Picks}
+use Rattle.ing_begun.specs.Picked.{Picks}
 use Rattle.ing_tally.specs.Books.{ShareState}
 use Rattle.ing_flush.specs.Tallies.{amount_at}
 

@@ -1,7 +1,7 @@
 -- Why a call through a lock is refused (own).
 use Rattle.std.specs.Prelude.{◌≡◌, ◌≢◌, ◌<◌, ℕ}
-use Rattle.ing_durable.specs.NodeFault.{NodeFault}
-use Rattle.ing_durable.specs.NodeFault.TheVariants.{NoMemory, CounterFull, TooManyEntries, Misplaced}
+use Rattle.ing_begun.specs.NodeFault.{NodeFault}
+use Rattle.ing_begun.specs.NodeFault.TheVariants.{NoMemory, CounterFull, TooManyEntries, Misplaced}
 
 -- by the holder of the lock at a place: memory ran out, or the shard there, of this number, is another one
 abbrev pub IsHeldRefusal : ℕ → ℕ → NodeFault → Type 0

@@ -1,6 +1,6 @@
 -- What a round of sweeping queues, and what it leaves (own).
 use Rattle.std.specs.Prelude.{◌≡◌, ℕ, ◌<◌, All, IsTrue, List, ◌++◌, length}
-use Rattle.ing_durable.specs.Op.{Op}
+use Rattle.ing_begun.specs.Op.{Op}
 use Rattle.ing_flush.specs.Queues.{PassState, standing}
 
 -- Of the operations of a list so many are queued, from its first on, and those behind them are left: what was put by the pass and what

@@ -5,7 +5,7 @@ ghost use Rattle.ing_node.specs.Refusals.{IsRoundRefusal};
 
 use crate::ingester::Ingester;
 use crate::names::NodeName;
-use ing_durable::NodeFault;
+use ing_begun::NodeFault;
 use ing_store::Receipt;
 use ing_tally::{Counts, CountsReader};
 use ing_wal::LogDisk;

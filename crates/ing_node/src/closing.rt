@@ -1,7 +1,7 @@
 //! The end of an ingester.
 ghost use Rattle.std.specs.Prelude.{◌≡◌, [], ℕ, ◌+◌, ◌<◌, ◌≤◌, ◌^◌, All, IfOk, IfErr, OnOk, length, map, sum_by, true, vec_capacity, vec_len};
 ghost use Rattle.ing_tally.specs.Books.{AreOf, amount_of};
-ghost use Rattle.ing_durable.specs.Closed.{closed_of};
+ghost use Rattle.ing_begun.specs.Closed.{closed_of};
 ghost use Rattle.ing_flush.specs.Tallies.{amount_at};
 ghost use Rattle.ing_node.specs.Closing.{AreComplete, HaveRoom, IsComplete, StandInPlaces, shares_at};
 ghost use Rattle.ing_node.specs.Diaries.{HaveNoted, KeepsDiary, NamesOtherIn, notes_at};
@@ -17,7 +17,7 @@ use crate::names::NodeName;
 use crate::pusher::Pusher;
 use crate::report::{CloseRefusal, Closed, Report};
 use crate::settling::{keep_diaries, settle_all};
-use ing_durable::{ClosedShard, Gathered, Missing};
+use ing_begun::{ClosedShard, Gathered, Missing};
 use ing_flush::FlusherTally;
 use ing_store::{Receipt, StoreEnd};
 use ing_tally::{ShardReport, Share, strand_each};

@@ -4,7 +4,7 @@ ghost use Rattle.ing_rows.specs.declared.entry.Entry.{Entry};
 ghost use Rattle.ing_rows.specs.Rows.{StreamKey};
 ghost use Rattle.ing_diary.specs.Notes.{noted};
 ghost use Rattle.ing_node.specs.Diaries.{IsBegun, notes_in, notes_kept, with_notes};
-ghost use Rattle.ing_durable.specs.Contents.{stream_of};
+ghost use Rattle.ing_begun.specs.Contents.{stream_of};
 
 use ing_diary::Diary;
 use ing_labels::Labels;

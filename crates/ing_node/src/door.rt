@@ -1,11 +1,11 @@
 //! The locks are the way to the shards.
 ghost use Rattle.std.specs.Prelude.{◌≡◌, ◌+◌, ◌<◌, IfOk, IfErr, IfSome, OnOk, OnErr};
-ghost use Rattle.ing_durable.specs.Flights.{IsUploaded, entries_in};
+ghost use Rattle.ing_begun.specs.Flights.{IsUploaded, entries_in};
 ghost use Rattle.ing_flush.specs.Unfinished.{GivesBack};
 
 use crate::ingester::Ingester;
 use crate::names::NodeName;
-use ing_durable::{FinishFault, Finished, Flushed, Op, Stranger, Stray, Ticket};
+use ing_begun::{FinishFault, Finished, Flushed, Op, Stranger, Stray, Ticket};
 use ing_flush::{Door, Unfinished};
 use ing_store::Receipt;
 use ing_tally::Share;

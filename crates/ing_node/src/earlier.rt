@@ -5,7 +5,7 @@ ghost use Rattle.ing_node.specs.Earlier.{HasNone};
 ghost use Rattle.ing_node.specs.Reports.{recovered_at};
 
 use crate::names::NodeName;
-use crate::told::{Told, strand_told};
+use ing_begun::{Told, strand_told};
 use ing_flush::FlusherTally;
 use ing_tally::ShardReport;
 use std::marker::{Model, PhantomData};

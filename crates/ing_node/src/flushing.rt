@@ -7,7 +7,7 @@ ghost use Rattle.ing_node.specs.Sweeps.{AreQueued, IsFullAt};
 use crate::ingester::Ingester;
 use crate::names::NodeName;
 use crate::swept::Swept;
-use ing_durable::{NodeFault, Op};
+use ing_begun::{NodeFault, Op};
 use ing_flush::{FlushQueue, Flusher, Gate, QueuePass, Worker};
 use ing_limits::Settings;
 use ing_store::{Receipt, StoreEnd};

@@ -8,7 +8,7 @@ ghost use Rattle.ing_node.specs.Closing.{HaveRoom, one_at, shares_at};
 use crate::earlier::Earlier;
 use crate::names::NodeName;
 use crate::pusher::Pusher;
-use crate::told::Told;
+use ing_begun::Told;
 use ing_flush::FlusherTally;
 use ing_tally::Share;
 use std::alloc::{AllocError, Global};

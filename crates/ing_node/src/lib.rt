@@ -1,8 +1,11 @@
 //! One ingester: shards behind locks, those who push and flush through them, and the close that finds every entry.
+//!
+//! `Ingester::open` takes shards that are new or made again (`ing_begun`), and puts each behind a lock. Any number of threads push, sweep, flush
+//! and query through it, each with shares of what it was told, or stored; `close` takes all of them, and tells what became of every entry.
+//! Below stand one flush and its queue (`ing_flush`), and what pushers note (`ing_diary`).
 #![tactic(auto)]
 
 mod abandon;
-mod begun;
 mod board;
 mod closing;
 mod diaries;
@@ -18,16 +21,12 @@ mod no_store;
 mod opening;
 mod pusher;
 mod query;
-mod recovering;
 mod report;
 mod rounds;
 mod settling;
-mod shards;
 mod swept;
-mod told;
 
 pub use abandon::{strand_pushers, strand_tallies};
-pub use begun::Begun;
 pub use board::BoardReader;
 pub use closing::CloseFault;
 pub use earlier::Earlier;
@@ -38,9 +37,8 @@ pub use no_store::NoStore;
 pub use pusher::Pusher;
 pub use query::{Answer, AnswerFault};
 pub use report::{CloseRefusal, Closed, Report};
-pub use shards::Shards;
 pub use swept::Swept;
 
 // What its callers meet of the crates below.
-pub use ing_durable::{ClosedShard, NodeFault, Op, RecoverFault};
+pub use ing_begun::{ClosedShard, NodeFault, Op, Shards};
 pub use ing_flush::{FlusherTally, FreeGate, Round, Worker};

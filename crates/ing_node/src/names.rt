@@ -9,7 +9,7 @@ use std::marker::Brand;
 pub trait NodeName {
     ghost use Rattle.std.specs.Prelude.{Bool};
     ghost use Rattle.ing_limits.specs.Settings.{StoreSettings};
-    ghost use Rattle.ing_durable.specs.Books.{BookNames};
+    ghost use Rattle.ing_begun.specs.Books.{BookNames};
     ghost use Rattle.ing_node.specs.Earlier.{EarlierState};
 
     /// The settings.

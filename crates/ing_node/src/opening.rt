@@ -1,14 +1,13 @@
 //! The locks of an ingester, and what its shards begin with, while it is opened.
 ghost use Rattle.std.specs.Prelude.{◌≡◌, ◌+◌, ◌++◌, ◌∷◌, [], ◌≤◌, false, IfOk, vec_capacity, vec_len};
 ghost use Rattle.ing_flush.specs.Tallies.{AreStoredIn};
-ghost use Rattle.ing_node.specs.Begun.{HasTornLog, IsBegunAs};
+ghost use Rattle.ing_begun.specs.Begun.{HasTornLog, IsBegunAs};
 ghost use Rattle.ing_node.specs.Names.{AreAcceptedIn};
-ghost use Rattle.ing_durable.specs.Books.{names_of};
+ghost use Rattle.ing_begun.specs.Books.{names_of};
 
-use crate::begun::Begun;
 use crate::held::Held;
 use crate::names::NodeName;
-use crate::told::Told;
+use ing_begun::{Begun, Told};
 use ing_store::Receipt;
 use ing_tally::Share;
 use ing_wal::LogDisk;

@@ -2,8 +2,8 @@
 ghost use Rattle.std.specs.Prelude.{◌≡◌};
 ghost use Rattle.ing_node.specs.Reports.{close_refusal_of};
 
+use ing_begun::{ClosedShard, Missing};
 use ing_diary::Unsettled;
-use ing_durable::{ClosedShard, Missing};
 use ing_refusals::Refusal;
 use ing_store::Receipt;
 use ing_tally::ShardReport;

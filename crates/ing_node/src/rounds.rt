@@ -4,7 +4,7 @@ ghost use Rattle.std.specs.List.{AllZip};
 ghost use Rattle.ing_tally.specs.Books.{amount_of};
 ghost use Rattle.ing_flush.specs.Rounds.{IsRound, IsSumOf, worker_of};
 ghost use Rattle.ing_node.specs.Names.{IsTallyOf};
-ghost use Rattle.ing_durable.specs.Op.{Op};
+ghost use Rattle.ing_begun.specs.Op.{Op};
 ghost use Rattle.ing_node.specs.Refusals.{IsRoundRefusal};
 ghost use Rattle.ing_node.specs.Sweeps.{AreBelow, AreQueued, IsFullAt};
 
@@ -12,7 +12,7 @@ use crate::flushing::{Flushing, Sweeper};
 use crate::ingester::Ingester;
 use crate::names::NodeName;
 use crate::swept::Swept;
-use ing_durable::{Due, NodeFault};
+use ing_begun::{Due, NodeFault};
 use ing_flush::{Gate, Round, Worker, flush_queued};
 use ing_rows::Stamp;
 use ing_store::{Receipt, StoreEnd};

@@ -1,6 +1,6 @@
 //! What a round of sweeping left.
 
-use ing_durable::Op;
+use ing_begun::Op;
 
 /// What a round of sweeping left.
 #[derive(Debug, Drop)]

@@ -3,9 +3,9 @@ ghost use Rattle.std.specs.Prelude.{◌≡◌, ◌+◌, ◌<◌, ◌^◌, ◌⊎
 ghost use Rattle.ing_session.specs.declared.ending.Ending.{Ending};
 ghost use Rattle.ing_program.specs.Starting.{IsOfFolder};
 
+use ing_begun::RecoverFault;
 use ing_folder::{FolderFault, FolderHold, FolderLog, FolderStore, HoldFault};
 use ing_limits::Settings;
-use ing_node::RecoverFault;
 use ing_session::Ending;
 use ing_store::StoreEnd;
 use ing_wal::LogDisk;

@@ -1,9 +1,9 @@
 //! Runs over shards that nobody shares, as their logs say.
 ghost use Rattle.std.specs.Prelude.{◌≡◌, ◌+◌, ◌≤◌, ◌⊎◌, All, IfErr, IfOk, IfSome, IsErrOf, IsTrue, List, OnOk, map, reverse, true, vec_capacity, vec_len};
-ghost use Rattle.ing_node.specs.Kept.{whose};
-ghost use Rattle.ing_node.specs.Begun.{AreBegunFrom};
-ghost use Rattle.ing_node.specs.RecoverFault.{RecoverFault};
-ghost use Rattle.ing_node.specs.Recovering.{AreOwnLogs, IsLowestRefused};
+ghost use Rattle.ing_begun.specs.Kept.{whose};
+ghost use Rattle.ing_begun.specs.Begun.{AreBegunFrom};
+ghost use Rattle.ing_begun.specs.RecoverFault.{RecoverFault};
+ghost use Rattle.ing_begun.specs.Recovering.{AreOwnLogs, IsLowestRefused};
 ghost use Rattle.ing_service.specs.ByShards.{by_shards};
 ghost use Rattle.ing_service.specs.Ends.{NeverFail, failures_in};
 ghost use Rattle.ing_service.specs.Held as held;
@@ -12,8 +12,8 @@ ghost use Rattle.ing_session.specs.Causes.{GoesOn};
 ghost use Rattle.ing_session.specs.Endings.{IsNotRecovered, is_of_run};
 ghost use Rattle.ing_session.specs.Runs.{AnswersAll, AnswersFirstLines, AnswersFront, AnswersWhatWasRead};
 
+use ing_begun::{Begun, Shards};
 use ing_limits::Settings;
-use ing_node::{Begun, Shards};
 use ing_service::{Beginning, Ends, Seat, run_own};
 use ing_session::Ending;
 use ing_store::{Receipt, StoreEnd};

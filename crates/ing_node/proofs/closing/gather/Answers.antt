@@ -1,6 +1,6 @@
 use Rattle.std.proofs.Common.{◌-◌, ◌∙◌, ap, arith, subst}
 use Rattle.ing_tally.specs.Books.{amount_of}
-use Rattle.ing_durable.specs.Contents.{Contents}
+use Rattle.ing_begun.specs.Contents.{Contents}
 use Rattle.ing_node.specs.Reports.{CountsRows}
 use Rattle.ing_node.proofs.ClosingLaws.{counted_by, gathered_by, same_state}
 use Rattle.ing_node.proofs.closing.gather.Goals as goal

@@ -1,10 +1,11 @@
 use Rattle.std.proofs.Common.{append-nil, refl, ◌≡◌, ◌<◌, ◌+◌, ◌++◌, [], ◌∷◌, ℕ, List, length, Some, arith, subst, sym, ap, ◌∙◌, slice_get, slice_index_or, slice_set, vec_len}
 use Rattle.ing_tally.specs.Books.{AreOf, ShareState, amount_of}
 use Rattle.std.specs.Prelude.{map, reverse}
-use Rattle.ing_durable.specs.Closed.{closed_of}
+use Rattle.ing_begun.specs.Closed.{closed_of}
 use Rattle.ing_node.specs.Closing.{shares_at}
 use Rattle.ing_node.specs.Reports.{IsGathered, recovered_at}
-use Rattle.ing_node.proofs.ClosingLaws.{below_set, complete_as, get_below, handed_on, recovered_there, gathered_as, gathered_set, left_get, left_same, left_shares, no_item, none_left, popped_get, popped_shares, rows_set}
+use Rattle.ing_begun.proofs.Lists.{none_left}
+use Rattle.ing_node.proofs.ClosingLaws.{below_set, complete_as, get_below, handed_on, recovered_there, gathered_as, gathered_set, left_get, left_same, left_shares, no_item, popped_get, popped_shares, rows_set}
 use Rattle.ing_node.proofs.closing.gather_all.Goals as goal
 
 pub gather-shard-requires-clause-own_pushing : goal.gather-shard-requires-clause-own_pushing

@@ -1,6 +1,6 @@
 use Rattle.std.proofs.Common.{◌≡◌, ◌≤◌, ◌<◌, ◌+◌, ◌++◌, ℕ, Some, length, map, reverse, slice_get, vec_len}
 use Rattle.std.specs.Vec.{vec_capacity}
-use Rattle.ing_durable.specs.Closed.{closed_of}
+use Rattle.ing_begun.specs.Closed.{closed_of}
 use Rattle.ing_tally.specs.Books.{amount_of}
 use Rattle.ing_tally.specs.declared.report.ShardReport.{ShardReport}
 use Rattle.ing_node.specs.Closing.{AreComplete, shares_at}

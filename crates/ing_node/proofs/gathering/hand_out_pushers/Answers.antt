@@ -3,7 +3,7 @@ use Rattle.ing_tally.specs.Books.{ShareState}
 use Rattle.ing_node.specs.Closing.{HaveRoom, one_at, shares_at}
 use Rattle.ing_node.specs.Diaries.{PusherState}
 use Rattle.ing_node.specs.Names.{AreAcceptedIn}
-use Rattle.ing_node.proofs.ClosingLaws.{none_left}
+use Rattle.ing_begun.proofs.Lists.{none_left}
 use Rattle.ing_node.proofs.Handing.{accepted_one, gathered_count, gathered_own, gathered_sum}
 use Rattle.ing_node.proofs.gathering.hand_out_pushers.Goals as goal
 

@@ -3,7 +3,7 @@ use Rattle.std.proofs.lemmas.List.Elements.{All-pop}
 use Rattle.ing_tally.specs.Books.{ShareState}
 use Rattle.ing_node.specs.Closing.{HaveRoom, one_at, shares_at}
 use Rattle.ing_node.specs.Names.{IsTallyOf}
-use Rattle.ing_node.proofs.ClosingLaws.{none_left}
+use Rattle.ing_begun.proofs.Lists.{none_left}
 use Rattle.ing_node.proofs.Handing.{gathered_count, gathered_own, gathered_sum, stored_one}
 use Rattle.ing_node.proofs.gathering.hand_out_tallies.Goals as goal
 

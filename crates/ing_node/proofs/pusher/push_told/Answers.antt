@@ -1,7 +1,7 @@
 use Rattle.std.proofs.Common.{rules, ◌≡◌, ◌<◌, ◌≤◌, ◌+◌, ◌∙◌, ap, sym, arith, length}
 use Rattle.ing_limits.specs.Ranges.{rules_for}
 use Rattle.ing_rows.specs.Turns.{accepted_among}
-use Rattle.ing_durable.specs.Contents.{stream_of}
+use Rattle.ing_begun.specs.Contents.{stream_of}
 use Rattle.ing_node.specs.Pushes.{accepted_in}
 use Rattle.ing_node.proofs.PusherLaws.{accepted_at, accepted_set, others_set}
 use Rattle.ing_node.proofs.pusher.push_told.Goals as goal

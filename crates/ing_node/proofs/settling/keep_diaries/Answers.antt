@@ -1,7 +1,7 @@
 use Rattle.std.proofs.Common.{◌≡◌, ◌+◌, suc, arith, List, sym, subst, ◌∙◌, take, take_all}
 use Rattle.std.specs.Prelude.{All}
 use Rattle.ing_node.specs.Diaries.{KeepsDiary, PusherState}
-use Rattle.ing_node.proofs.Keeping.{all_next}
+use Rattle.ing_begun.proofs.Lists.{all_next}
 use Rattle.ing_node.proofs.settling.keep_diaries.Goals as goal
 
 pub loop-pusher-preserved : goal.loop-pusher-preserved

@@ -1,7 +1,7 @@
 use Rattle.std.proofs.Common.{◌∙◌, ap, map, subst, sym, inl, inr, reverse}
 use Rattle.std.specs.Prelude.{◌⊎◌, IsTrue}
 use Rattle.std.proofs.lemmas.Result.{on_ok_weaker}
-use Rattle.ing_node.specs.Recovering.{IsLowestRefused}
+use Rattle.ing_begun.specs.Recovering.{IsLowestRefused}
 use Rattle.ing_session.specs.Runs.{AnswersAll, AnswersWhatWasRead, AnswersFirstLines, AnswersFront}
 use Rattle.ing_session.specs.Endings.{IsNotRecovered, is_of_run}
 use Rattle.ing_session.specs.declared.ending.Ending.TheVariants.{NotRecovered}

@@ -2,7 +2,8 @@ use Rattle.std.proofs.Common.{◌≡◌, ◌<◌, arith, length, slice_index_or}
 use Rattle.ing_flush.specs.declared.worker.Worker.{Worker}
 use Rattle.ing_flush.specs.Rounds.{IsRound, worker_of}
 use Rattle.ing_node.specs.Names.{IsTallyOf}
-use Rattle.ing_node.proofs.RoundLaws.{all_rose, none_rose, of_same, zip_of}
+use Rattle.ing_begun.proofs.Lists.{of_same}
+use Rattle.ing_node.proofs.RoundLaws.{all_rose, none_rose, zip_of}
 use Rattle.ing_node.proofs.flushing.Flushing.flush_round.Goals as goal
 
 pub returns-clause-own : goal.returns-clause-own

@@ -1,7 +1,7 @@
 use Rattle.std.proofs.Common.{◌≡◌, ◌≤◌, ◌∙◌, ap, length, arith, subst, sym}
 use Rattle.std.proofs.lemmas.List.Sorted.{IsPermutation-refl}
 use Rattle.ing_rows.specs.Rows.{IsSame}
-use Rattle.ing_durable.specs.Contents.{Contents, Stands}
+use Rattle.ing_begun.specs.Contents.{Contents, Stands}
 use Rattle.ing_node.proofs.ClosingLaws.{same_state}
 use Rattle.ing_node.proofs.held.Held.snapshot.Goals as goal
 

@@ -2,7 +2,7 @@ use Rattle.std.proofs.Common.{◌≡◌, ◌<◌, ◌+◌, ap, arith, List, leng
 use Rattle.std.specs.Prelude.{All, sum_by}
 use Rattle.ing_tally.specs.Books.{amount_of}
 use Rattle.std.proofs.lemmas.List.{length-map}
-use Rattle.ing_durable.specs.Closed.{closed_of}
+use Rattle.ing_begun.specs.Closed.{closed_of}
 use Rattle.ing_flush.specs.Tallies.{amount_at}
 use Rattle.ing_node.specs.Closing.{shares_at}
 use Rattle.ing_node.proofs.ClosingLaws.{closed_by, closed_counted, closed_noted, closed_placed, complete_as, gathered_as, get_below, is_yes}

@@ -3,9 +3,11 @@ use Rattle.std.proofs.lemmas.List.{append_assoc}
 use Rattle.std.specs.List.{AllByRecursion}
 use Rattle.ing_tally.specs.Books.{ShareState}
 use Rattle.ing_flush.specs.Tallies.{AreStoredIn}
-use Rattle.ing_node.specs.Begun.{AreBegunFrom, HasTornLog}
-use Rattle.ing_node.proofs.ClosingLaws.{no_item, none_left}
-use Rattle.ing_node.proofs.PlaceLaws.{AreNamedFrom, begun_first, begun_others, named_from, turned_last}
+use Rattle.ing_begun.specs.Begun.{AreBegunFrom, HasTornLog}
+use Rattle.ing_begun.proofs.Lists.{none_left, turned_last}
+use Rattle.ing_node.proofs.ClosingLaws.{no_item}
+use Rattle.ing_begun.proofs.PlaceLaws.{begun_first, begun_others}
+use Rattle.ing_node.proofs.PlaceLaws.{AreNamedFrom, named_from}
 use Rattle.ing_node.proofs.ingester.Ingester.open.Goals as goal
 
 pub loop-begun-init : goal.loop-begun-init

@@ -1,7 +1,7 @@
 use Rattle.std.proofs.Common.{◌≡◌, ◌+◌, ◌++◌, ◌≤◌, false, map, reverse, vec_len}
 use Rattle.std.specs.List.{AllByRecursion}
 use Rattle.std.specs.Vec.{vec_capacity}
-use Rattle.ing_node.specs.Begun.{AreBegunFrom, HasTornLog}
+use Rattle.ing_begun.specs.Begun.{AreBegunFrom, HasTornLog}
 use Rattle.ing_node.proofs.PlaceLaws.{AreNamedFrom}
 use Rattle.ing_node.proofs.ingester.Ingester.open.Given as goal
 

@@ -1,5 +1,0 @@
-use Rattle.std.proofs.Common.{vec_len}
-use Rattle.ing_node.proofs.told.strand_told.Given as goal
-
-abbrev pub decreases-loop-told : goal.decreases-loop-told
-decreases-loop-told l = vec_len l.all
