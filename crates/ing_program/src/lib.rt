@@ -15,5 +15,7 @@ pub use own::run_over;
 pub use program::{start, start_on};
 
 // What its callers meet of the crates below.
+pub use ing_folder::{FolderLog, FolderStore, hold_streams};
 pub use ing_service::{Ends, run};
 pub use ing_session::{Ending, conclude};
+pub use ing_store::DigestReceipt;

@@ -2,9 +2,9 @@
 //! it is.
 #![tactic(auto)]
 
-use ing_folder::{FolderLog, FolderStore, hold_streams};
-use ing_program::{Disk, Ending, conclude, start};
-use ing_store::DigestReceipt;
+use ing_program::{
+    DigestReceipt, Disk, Ending, FolderLog, FolderStore, conclude, hold_streams, start,
+};
 use ing_version::{asks_version, write_version};
 use std::fs::File;
 use std::io::ErrorKind;
