@@ -1,4 +1,4 @@
--- What the shards of an ingester begin with (own).
+-- What shards begin with (own).
 use Rattle.std.specs.Prelude.{◌≡◌, ℕ, ◌+◌, true, List, Some, length, refl, slice_get}
 use Rattle.std.specs.Coded.{Coded, code_by, coded×}
 use Rattle.ing_limits.specs.Settings.{StoreSettings}
