@@ -5,7 +5,7 @@ use crate::status::Status;
 use anyhow::{Context, Result, bail};
 use clap::ArgMatches;
 use ctl_show::{Checked, Mended, RecoverFault, RelistFault, begun_words, mend_log, other_version};
-use ing_codec::{chunk_key, chunk_name, decode_chunk};
+use ing_codec::{CodecFault, chunk_key, chunk_name, decode_chunk};
 use ing_folder::{FolderStore, Looked, Noted, look_at};
 use ing_limits::Settings;
 use ing_refusals::Refusal;
@@ -231,6 +231,7 @@ pub fn object_words(rt: &HostRuntime, folder: &str, key: &[u8; 32]) -> Result<St
         Err(error) if error.kind() == ErrorKind::NotFound => {
             return Ok(format!(in alloc; "objects/{name} is not there")?);
         }
+        Err(error) if error.kind() == ErrorKind::OutOfMemory => bail!("out of memory"),
         Err(error) => return Ok(format!(in alloc; "objects/{name}: {error}")?),
     };
     let why = if chunk_key(&bytes) == *key {
@@ -240,6 +241,7 @@ pub fn object_words(rt: &HostRuntime, folder: &str, key: &[u8; 32]) -> Result<St
     };
     Ok(match decode_chunk(alloc, &bytes) {
         Ok(_) => format!(in alloc; "objects/{name} {why}")?,
+        Err(CodecFault::NoMemory) => bail!("out of memory"),
         Err(fault) => format!(in alloc; "objects/{name} {why}, and {fault}")?,
     })
 }

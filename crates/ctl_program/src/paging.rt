@@ -4,7 +4,7 @@ use crate::status::Status;
 use anyhow::{Context, Result, bail};
 use clap::ArgMatches;
 use ctl_pages::{Next, ReplyFault, Told, Wanted, may_answer, new_entries, next_page, page_of};
-use ing_commands::{Command, Query, command_of, read_value};
+use ing_commands::{Command, LineFault, Query, command_of, read_value};
 use ing_rows::Order;
 use serde_json::{Number, Value, json};
 use std::alloc::{AllocError, Global};
@@ -50,12 +50,13 @@ pub fn write_next<I: BufRead, O: Write, E: Write>(
 ) -> Result<Status> {
     let alloc = rt.alloc();
     let path = given.get_str("asked").context("ASKED")?;
-    let asked = read_value(alloc, &fs::read(rt, path).context(path)?);
-    let Ok(asked) = asked else {
+    let Some(asked) = value_of(alloc, &fs::read(rt, path).context(path)?)? else {
         bail!("{path}: no query: it is no JSON object in one line");
     };
-    let Ok(Command::Query(query)) = command_of(alloc, &asked) else {
-        bail!("{path}: no query that ingestd takes");
+    let query = match command_of(alloc, &asked) {
+        Ok(Command::Query(query)) => query,
+        Err(LineFault::NoMemory) => bail!("out of memory"),
+        _ => bail!("{path}: no query that ingestd takes"),
     };
     let wanted = wanted_of(&query);
     let page = reply_page(rt, given.get_str("reply"), input)?;
@@ -150,7 +151,7 @@ fn page_in(alloc: Global, path: &str, bytes: &[u8]) -> Result<Vec<Told>> {
     if bytes.is_empty() {
         bail!("{path}: no reply: it is empty");
     }
-    let Ok(reply) = read_value(alloc, bytes) else {
+    let Some(reply) = value_of(alloc, bytes)? else {
         bail!("{path}: no reply: it is not one line of JSON");
     };
     if let Some(error) = reply.get("error").and_then(Value::as_str) {
@@ -160,5 +161,14 @@ fn page_in(alloc: Global, path: &str, bytes: &[u8]) -> Result<Vec<Told>> {
         Ok(page) => Ok(page),
         Err(ReplyFault::NoAnswer) => bail!("{path}: no reply to a query"),
         Err(ReplyFault::NoMemory) => bail!("out of memory"),
+    }
+}
+
+/// The JSON object in this line, if it is one.
+fn value_of(alloc: Global, line: &[u8]) -> Result<Option<Value>> {
+    match read_value(alloc, line) {
+        Ok(value) => Ok(Some(value)),
+        Err(LineFault::NoMemory) => bail!("out of memory"),
+        Err(_) => Ok(None),
     }
 }
