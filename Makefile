@@ -1,5 +1,5 @@
 # `make help` lists what there is.
-.PHONY: help try try-ctl run build install check test mutants bench worlds stress kills crashes forged inputs documents front front-install front-check front-test front-bench
+.PHONY: help try try-ctl run build install check test mutants bench worlds stress kills channels crashes forged inputs memory documents front front-install front-check front-test front-bench
 program = crates/ingestd/out/ingestd
 ctl = crates/ingestctl/out/ingestctl
 PREFIX = /usr/local
@@ -10,6 +10,8 @@ postings_figures = crates/bench_postings/out/bench_postings
 codec_figures = crates/bench_codec/out/bench_codec
 worlds_by_lot = crates/test_worlds/out/test_worlds
 nodes_by_lot = crates/test_nodes/out/test_nodes
+refusing_program = memory/out/ingestd
+refusing_ctl = memory/out/ingestctl
 sources = crates.txt $(shell find crates -name out -prune -o \( -name '*.rt' -o -name '*.antt' \) -print)
 
 help:
@@ -25,9 +27,11 @@ help:
 	@echo 'make worlds   10,000 lists of events by lot, beside a slow program'
 	@echo 'make stress   10,000 lives of an ingester by lot, each of several threads'
 	@echo 'make kills    200 runs over a folder by lot, most of them killed, then 200 with files that may not grow, then each call for a file failed (by strace); KILLS=N, SEED=N'
+	@echo 'make channels 200 runs by lot with one to eight channels, of which some break, and some are killed, and fixed scenes; then what was told is altered in each of some ways, and every time it has to show; CHANNELS=N, SEED=N'
 	@echo 'make crashes  10,000 images that a power cut may leave of a folder, each started over, and as many behind a call that failed; then a program without one sync has to be caught, for each of four, and one that tells durable what failed; IMAGES=N, SEED=N'
 	@echo 'make forged   1,000,000 chunk objects, index rows and logs by lot, most of them forged: each is read as a reader written from docs/FORMATS.md alone reads it, or refused alike; TEXTS=N, SEED=N'
 	@echo 'make inputs   10,000 inputs by lot, of one to five shards and one to four flushers, in memory and over a folder with new starts between: each reply is, byte for byte, that of a slow model written from docs/COMMANDS.md and docs/FORMATS.md; INPUTS=N, SEED=N'
+	@echo 'make memory   runs small inputs with each growth of memory refused in turn, one alone, by programs that are built for that, unproved; BODY=WORD'
 	@echo 'make front    runs the front over the program; SETTINGS=FILE, FOLDER=FOLDER, OPTIONS="--server.http-listen-port 3100" (docs/FRONT.md)'
 	@echo 'make front-install puts the front in place; PREFIX=FOLDER'
 	@echo 'make front-check tests the front without the program'
@@ -99,6 +103,7 @@ bench: $(postings_figures) $(codec_figures) $(nodes_by_lot) $(program)
 	@bench/flushers.sh $(program)
 	@bench/pushes.sh $(program)
 	@python3 bench/recovery.py $(program) --parent /dev/shm
+	@python3 bench/channels.py $(program)
 
 $(postings_figures): $(sources)
 	@scripts/build.sh bench_postings counts 100
@@ -127,6 +132,10 @@ kills: $(program)
 	@python3 kills/kills.py $(program) $(if $(KILLS),--rounds $(KILLS)) $(if $(SEED),--seed $(SEED)) --full
 	@if command -v strace >/dev/null; then python3 kills/kills.py $(program) --fail $(if $(SEED),--seed $(SEED)); else echo 'no strace: no call fails in turn'; fi
 
+channels: $(program)
+	@python3 channels/channels.py $(program) $(if $(CHANNELS),--rounds $(CHANNELS)) $(if $(SEED),--seed $(SEED))
+	@python3 channels/channels.py $(program) --plant each $(if $(SEED),--seed $(SEED))
+
 crashes: $(program) $(ctl)
 	@python3 crashes/crashes.py $(program) --ctl $(ctl) $(if $(IMAGES),--images $(IMAGES)) $(if $(SEED),--seed $(SEED))
 	@python3 crashes/crashes.py $(program) --ctl $(ctl) --fail $(if $(IMAGES),--images $(IMAGES)) $(if $(SEED),--seed $(SEED))
@@ -139,6 +148,17 @@ forged: $(program) $(ctl)
 
 inputs: $(program)
 	@python3 inputs/inputs.py $(program) $(if $(INPUTS),--inputs $(INPUTS)) $(if $(SEED),--seed $(SEED))
+
+memory: $(refusing_program) $(refusing_ctl)
+	@python3 memory/memory.py $(refusing_program) --ctl $(refusing_ctl) $(if $(BODY),--body "$(BODY)")
+
+# Nothing is proved here, so proofs do not count.
+$(refusing_program): $(filter-out %.antt,$(sources))
+	@python3 memory/refusing.py ingestd $@
+
+# With this word it reads the file that is named behind it.
+$(refusing_ctl): $(filter-out %.antt,$(sources))
+	@python3 memory/refusing.py ingestctl $@ settings
 
 # One file, which Python runs: the package without its tests.
 $(front): $(wildcard front/sarymbeu_front/*.py)

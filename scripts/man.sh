@@ -36,12 +36,13 @@ case $1 in
     printf '.TP\n2\nit could not be looked at; one line on standard error says why\n'
     printf '.SH SEE ALSO\n.BR ingestd (1)\n' ;;
   ingestd)
-    printf '.SH NAME\ningestd \\- the write path of a log store\n.SH SYNOPSIS\n.B ingestd\n[SETTINGS [FOLDER]]\n.br\n.B ingestd \\-\\-version\n.SH DESCRIPTION\n'
+    printf '.SH NAME\ningestd \\- the write path of a log store\n.SH SYNOPSIS\n.B ingestd\n[SETTINGS [FOLDER]]\n.br\n.B ingestd\nSETTINGS FOLDER IN OUT [IN OUT ..]\n.br\n.B ingestd \\-\\-version\n.SH DESCRIPTION\n'
     section docs/COMMANDS.md '# Commands' | sed '/^    ingestd /d' | filled
     for command in push sweep flush gauges board checkpoint query; do
       printf '.SH %s\n' "$(echo $command | tr '[:lower:]' '[:upper:]')"
       section docs/COMMANDS.md "## $command" | filled
     done
+    printf '.SH CHANNELS\n'; section docs/COMMANDS.md '## Channels' | filled
     printf '.SH SETTINGS\n'; section docs/COMMANDS.md '## Settings' | filled
     printf '.SH EXIT STATUS\n'; section docs/COMMANDS.md '## Refusals' | filled
     printf '.SH FILES\nIn FOLDER:\n'; section docs/OPERATING.md '## What lies there' | filled

@@ -59,6 +59,13 @@ same-flushers old new f = setting_same Top (codes "flushers") 1 (get_member (cod
 same-flush_queue_length : (old new : Members) → FillsIn default_members old new → setting Top (codes "flush_queue_length") 1024 new ≡ setting Top (codes "flush_queue_length") 1024 old
 same-flush_queue_length old new f = setting_same Top (codes "flush_queue_length") 1024 (get_member (codes "flush_queue_length") old) (get_member (codes "flush_queue_length") new) (integer (pos 1024)) (f (codes "flush_queue_length")) refl
 
+same-flush_check_period : (old new : Members) → FillsIn default_members old new → setting Top (codes "flush_check_period") 0 new ≡ setting Top (codes "flush_check_period") 0 old
+unfolding parts_sum
+same-flush_check_period old new f = setting_same Top (codes "flush_check_period") 0 (get_member (codes "flush_check_period") old) (get_member (codes "flush_check_period") new) (string (codes "0s")) (f (codes "flush_check_period")) refl
+
+same-checkpoint_log_size : (old new : Members) → FillsIn default_members old new → setting Top (codes "checkpoint_log_size") 0 new ≡ setting Top (codes "checkpoint_log_size") 0 old
+same-checkpoint_log_size old new f = setting_same Top (codes "checkpoint_log_size") 0 (get_member (codes "checkpoint_log_size") old) (get_member (codes "checkpoint_log_size") new) (integer (pos 0)) (f (codes "checkpoint_log_size")) refl
+
 same-chunk_block_size : (old new : Members) → FillsIn default_members old new → setting Top (codes "chunk_block_size") 262144 new ≡ setting Top (codes "chunk_block_size") 262144 old
 same-chunk_block_size old new f = setting_same Top (codes "chunk_block_size") 262144 (get_member (codes "chunk_block_size") old) (get_member (codes "chunk_block_size") new) (integer (pos 262144)) (f (codes "chunk_block_size")) refl
 
@@ -119,6 +126,8 @@ same_settings old new f = λ i. record {
   shards = same-shards old new f i;
   flushers = same-flushers old new f i;
   flush_queue_length = same-flush_queue_length old new f i;
+  flush_check_period = same-flush_check_period old new f i;
+  checkpoint_log_size = same-checkpoint_log_size old new f i;
   rules = same-rules old new f i;
   tenants = from_entries (rules_by_tenant (same-rules old new f i) (entries_of (same-tenants old new f i)));
 }
@@ -148,6 +157,8 @@ filled_is_whole old new f = rw (
   has_one (get_member (codes "shards") old) (get_member (codes "shards") new) (integer (pos 1)) (f (codes "shards")),
   has_one (get_member (codes "flushers") old) (get_member (codes "flushers") new) (integer (pos 1)) (f (codes "flushers")),
   has_one (get_member (codes "flush_queue_length") old) (get_member (codes "flush_queue_length") new) (integer (pos 1024)) (f (codes "flush_queue_length")),
+  has_one (get_member (codes "flush_check_period") old) (get_member (codes "flush_check_period") new) (string (codes "0s")) (f (codes "flush_check_period")),
+  has_one (get_member (codes "checkpoint_log_size") old) (get_member (codes "checkpoint_log_size") new) (integer (pos 0)) (f (codes "checkpoint_log_size")),
   has_one (get_member (codes "chunk_block_size") old) (get_member (codes "chunk_block_size") new) (integer (pos 262144)) (f (codes "chunk_block_size")),
   has_one (get_member (codes "chunk_target_size") old) (get_member (codes "chunk_target_size") new) (integer (pos 1572864)) (f (codes "chunk_target_size")),
   has_one (get_member (codes "chunk_idle_period") old) (get_member (codes "chunk_idle_period") new) (string (codes "30m")) (f (codes "chunk_idle_period")),

@@ -23,7 +23,7 @@ use Rattle.ing_rows.specs.Texts.{is_tenant}
 use Rattle.ing_limits.specs.Durations.{parts_sum}
 use Rattle.ing_limits.specs.Settings.{StoreSettings, Refusal, kind_in, kind_of, number_of, fits, is_table, is_misfit, has_flaw, store_keys, limit_keys, entries_of, members_in, members_at, tenants_flawed, all_flawed, least_with, least_of, settings_in, settings_of_table, or_refused}
 use Rattle.ing_limits.specs.declared.keys.Kind.{Kind}
-use Rattle.ing_limits.specs.declared.keys.Kind.TheVariants.{Whole, Duration, Table, Nothing}
+use Rattle.ing_limits.specs.declared.keys.Kind.TheVariants.{Whole, UpTo, Duration, Table, Nothing}
 use Rattle.ing_limits.specs.declared.keys.Level.{Level}
 use Rattle.ing_limits.specs.declared.keys.Level.TheVariants.{Top, Tenants, Tenant}
 use Rattle.ing_limits.specs.declared.flaws.Flaw.TheVariants.{Unknown, Bad}
@@ -213,21 +213,31 @@ settings_are_written ms e = let f = settings_fit ms e in let two = f.deep in (om
 
 abbrev is_table_kind : Kind → Bool
 is_table_kind (Whole most) = false
+is_table_kind (UpTo most) = false
 is_table_kind Duration = false
 is_table_kind Table = true
 is_table_kind Nothing = false
 
 abbrev is_no_kind : Kind → Bool
 is_no_kind (Whole most) = false
+is_no_kind (UpTo most) = false
 is_no_kind Duration = false
 is_no_kind Table = false
 is_no_kind Nothing = true
 
 abbrev is_duration : Kind → Bool
 is_duration (Whole most) = false
+is_duration (UpTo most) = false
 is_duration Duration = true
 is_duration Table = false
 is_duration Nothing = false
+
+abbrev is_up_to : Kind → Bool
+is_up_to (Whole most) = false
+is_up_to (UpTo most) = true
+is_up_to Duration = false
+is_up_to Table = false
+is_up_to Nothing = false
 
 or_later : (a : Bool) → (a || true) ≡ true
 or_later true = refl
@@ -256,6 +266,15 @@ whole_plain p most (datetime x) e = absurd cc
 whole_plain p most (array ds) e = absurd cc
 whole_plain p most (table ms) e = absurd cc
 
+up_to_plain : (p : List ℕ → Data → Bool) (most : ℕ) (d : Data) → is_some (number_of (UpTo most) d) ≡ true → is_plain_or p d ≡ true
+up_to_plain p most (string s) e = refl
+up_to_plain p most (integer z) e = refl
+up_to_plain p most (float x) e = absurd cc
+up_to_plain p most (boolean b) e = absurd cc
+up_to_plain p most (datetime x) e = absurd cc
+up_to_plain p most (array ds) e = absurd cc
+up_to_plain p most (table ms) e = absurd cc
+
 duration_plain : (p : List ℕ → Data → Bool) (d : Data) → is_some (number_of Duration d) ≡ true → is_plain_or p d ≡ true
 duration_plain p (string s) e = refl
 duration_plain p (integer z) e = refl
@@ -274,6 +293,7 @@ top_plain_at : (o : Option Kind) (k : List ℕ) (d : Data) → kind_of Top k ≡
     → (bytes_eq k (codes "tenants") ≡ true → is_table d ≡ true → is_setting k d ≡ true) → is_setting k d ≡ true
 top_plain_at None k d is known good tenants = absurd cc
 top_plain_at (Some (Whole most)) k d is known good tenants = whole_plain is_tenant_table most d (not_true _ good)
+top_plain_at (Some (UpTo most)) k d is known good tenants = up_to_plain is_tenant_table most d (not_true _ good)
 top_plain_at (Some Duration) k d is known good tenants = duration_plain is_tenant_table d (not_true _ good)
 top_plain_at (Some Table) k d is known good tenants =
     tenants (or_false (bytes_eq k (codes "tenants")) (kind_there is_table_kind (store_keys ++ limit_keys) k Table is refl)) (not_true _ good)
@@ -296,6 +316,7 @@ whole_limit k most (table ms) e = absurd cc
 limit_plain_at : (o : Option Kind) (k : List ℕ) (d : Data) → kind_in limit_keys k ≡ o → not (is_some o) ≡ false → is_misfit o d ≡ false → is_limit k d ≡ true
 limit_plain_at None k d is known good = absurd cc
 limit_plain_at (Some (Whole most)) k d is known good = whole_limit k most d (not_true _ good)
+limit_plain_at (Some (UpTo most)) k d is known good = absurd (cc (kind_there is_up_to limit_keys k (UpTo most) is refl))
 limit_plain_at (Some Duration) k d is known good = absurd (cc (kind_there is_duration limit_keys k Duration is refl))
 limit_plain_at (Some Table) k d is known good = absurd (cc (kind_there is_table_kind limit_keys k Table is refl))
 limit_plain_at (Some Nothing) k d is known good = absurd (cc (kind_there is_no_kind limit_keys k Nothing is refl))

@@ -25,6 +25,8 @@ default_members =
     (codes "shards", integer (pos 1))
     ∷ (codes "flushers", integer (pos 1))
     ∷ (codes "flush_queue_length", integer (pos 1024))
+    ∷ (codes "flush_check_period", string (codes "0s"))
+    ∷ (codes "checkpoint_log_size", integer (pos 0))
     ∷ (codes "chunk_block_size", integer (pos 262144))
     ∷ (codes "chunk_target_size", integer (pos 1572864))
     ∷ (codes "chunk_idle_period", string (codes "30m"))
@@ -75,7 +77,7 @@ rule_names =
 
 -- the names beside the tables of tenants
 abbrev pub all_names : List (List ℕ)
-all_names = codes "shards" ∷ codes "flushers" ∷ codes "flush_queue_length" ∷ rule_names
+all_names = codes "shards" ∷ codes "flushers" ∷ codes "flush_queue_length" ∷ codes "flush_check_period" ∷ codes "checkpoint_log_size" ∷ rule_names
 
 -- a text with every key, which is read as these settings
 pub record WritesOut (settings : StoreSettings) (text : List ℕ) : Type 0 where

@@ -37,10 +37,12 @@ pub enum Given<'a> {
 
 /// The keys beside the tables of tenants, each with its default (Loki documentation: ingester and limits
 /// configuration; what has another default there is own).
-static DEFAULTS: [(&str, Given<'static>); 13] = [
+static DEFAULTS: [(&str, Given<'static>); 15] = [
     ("shards", Given::Whole(1)),
     ("flushers", Given::Whole(1)),
     ("flush_queue_length", Given::Whole(1024)),
+    ("flush_check_period", Given::Text("0s")),
+    ("checkpoint_log_size", Given::Whole(0)),
     ("chunk_block_size", Given::Whole(262_144)),
     ("chunk_target_size", Given::Whole(1_572_864)),
     ("chunk_idle_period", Given::Text("30m")),

@@ -12,7 +12,7 @@ use Rattle.toml.specs.Data.{Data, Members, string, integer, float, boolean, date
 use Rattle.ing_limits.specs.Durations.{parts_sum, capped}
 use Rattle.ing_limits.specs.Settings.{setting, number_of, kind_of, limits_in, common_rules, rules_by_tenant, settings_in, members_in, members_at, entries_of}
 use Rattle.ing_limits.specs.Ranges.{IsUpTo, AreLimitsInRange, AreRulesInRange, AreSizesOf, AreInRange}
-use Rattle.ing_limits.specs.declared.keys.Kind.TheVariants.{Whole, Duration}
+use Rattle.ing_limits.specs.declared.keys.Kind.TheVariants.{Whole, UpTo, Duration}
 use Rattle.ing_limits.specs.declared.keys.Level.{Level}
 use Rattle.ing_limits.specs.declared.keys.Level.TheVariants.{Top, Tenant}
 use Rattle.ing_limits.proofs.Numbers.{number_from}
@@ -40,6 +40,30 @@ whole_found most default (Some d) h = whole_value most default d h
 pub whole_setting : (level : Level) (key : List ℕ) (default most : ℕ) (ms : Members) → Some (Whole most) ≡ kind_of level key → IsUpTo most default → IsUpTo most (setting level key default ms)
 whole_setting level key default most ms kind h =
     subst (λ k. IsUpTo most (number_from (get_member key ms) k default)) kind (whole_found most default (get_member key ms) h)
+
+not_above : (most default n : ℕ) (b : Bool) → b ≡ nat_le n most → default ≤ most → unwrap_or (cond b (Some n) None) default ≤ most
+not_above most default n true e h = within e where
+  within : true ≡ nat_le n most → n ≤ most
+  within e = grind (arith, nat_tests)
+not_above most default n false e h = h
+
+up_to_value : (most default : ℕ) (d : Data) → default ≤ most → unwrap_or (number_of (UpTo most) d) default ≤ most
+up_to_value most default (integer (pos n)) h = not_above most default n _ refl h
+up_to_value most default (integer (negsuc n)) h = h
+up_to_value most default (string s) h = h
+up_to_value most default (float x) h = h
+up_to_value most default (boolean b) h = h
+up_to_value most default (datetime t) h = h
+up_to_value most default (array a) h = h
+up_to_value most default (table ms) h = h
+
+up_to_found : (most default : ℕ) (found : Option Data) → default ≤ most → number_from found (Some (UpTo most)) default ≤ most
+up_to_found most default None h = h
+up_to_found most default (Some d) h = up_to_value most default d h
+
+pub up_to_setting : (level : Level) (key : List ℕ) (default most : ℕ) (ms : Members) → Some (UpTo most) ≡ kind_of level key → default ≤ most → setting level key default ms ≤ most
+up_to_setting level key default most ms kind h =
+    subst (λ k. number_from (get_member key ms) k default ≤ most) kind (up_to_found most default (get_member key ms) h)
 
 below_cap : (default n : ℕ) (b : Bool) → b ≡ nat_lt n (2 ^ 63) → default < 2 ^ 63 → unwrap_or (cond b (Some n) None) default < 2 ^ 63
 below_cap default n true e h = short e where
@@ -133,6 +157,8 @@ settings_in-range ms = record {
   shards = whole_setting Top (codes "shards") 1 64 ms refl (omega arith, omega arith);
   flushers = whole_setting Top (codes "flushers") 1 32 ms refl (omega arith, omega arith);
   queue_length = whole_setting Top (codes "flush_queue_length") 1024 65536 ms refl (omega arith, omega arith);
+  check_period = duration_setting Top (codes "flush_check_period") 0 ms refl (omega arith);
+  log_size = up_to_setting Top (codes "checkpoint_log_size") 0 1099511627776 ms refl (omega arith);
   rules =
       λ tenant.
       let es = entries_of (members_at (codes "tenants") ms) in

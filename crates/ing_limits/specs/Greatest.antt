@@ -13,6 +13,10 @@ most_flushers = 32
 abbrev pub most_queued : ℕ
 most_queued = 65536
 
+-- bytes of a log behind which it is replaced
+abbrev pub most_log_bytes : ℕ
+most_log_bytes = 1099511627776
+
 -- bytes of a block, and of a chunk
 abbrev pub most_bytes : ℕ
 most_bytes = 1073741824

@@ -22,6 +22,8 @@ held_settings a = record {
   shards = a.shards;
   flushers = a.flushers;
   flush_queue_length = a.flush_queue_length;
+  flush_check_period = a.flush_check_period;
+  checkpoint_log_size = a.checkpoint_log_size;
   rules = a.rules;
   tenants = from_entries (held_tenants a.tenants.entries);
 }

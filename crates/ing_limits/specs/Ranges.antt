@@ -3,7 +3,7 @@ use Rattle.std.specs.Prelude.{◌≡◌, ℕ, ◌≤◌, ◌<◌, ◌^◌, List}
 use Rattle.std.specs.Option.{unwrap_or}
 use Rattle.std.specs.FinMap.{get}
 use Rattle.ing_rows.specs.declared.rules.Rules.{Rules}
-use Rattle.ing_limits.specs.Greatest.{most_shards, most_flushers, most_queued, most_bytes, most_label_names, most_name_bytes, most_value_bytes, most_line_bytes, most_streams, most_entries}
+use Rattle.ing_limits.specs.Greatest.{most_shards, most_flushers, most_queued, most_log_bytes, most_bytes, most_label_names, most_name_bytes, most_value_bytes, most_line_bytes, most_streams, most_entries}
 use Rattle.ing_limits.specs.Settings.{StoreSettings}
 
 -- from 1 to the greatest
@@ -40,5 +40,7 @@ pub record AreInRange (s : StoreSettings) : Type 0 where
   pub shards : IsUpTo most_shards s.shards
   pub flushers : IsUpTo most_flushers s.flushers
   pub queue_length : IsUpTo most_queued s.flush_queue_length
+  pub check_period : s.flush_check_period < 2 ^ 63
+  pub log_size : s.checkpoint_log_size ≤ most_log_bytes
   pub rules : (tenant : List ℕ) → AreRulesInRange (rules_for s tenant)
   pub sizes : (tenant : List ℕ) → AreSizesOf s.rules.chunk_block_size s.rules.chunk_target_size (rules_for s tenant)

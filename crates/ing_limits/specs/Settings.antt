@@ -12,9 +12,9 @@ use Rattle.ing_rows.specs.declared.rules.Rules.{Rules}
 use Rattle.toml.specs.Data.{Data, string, integer, table, Members, no_members, member, get_member}
 use Rattle.toml.specs.Parse.{parse_document}
 use Rattle.ing_limits.specs.Durations.{duration_of}
-use Rattle.ing_limits.specs.Greatest.{most_shards, most_flushers, most_queued, most_bytes, most_label_names, most_name_bytes, most_value_bytes, most_line_bytes, most_streams, most_entries}
+use Rattle.ing_limits.specs.Greatest.{most_shards, most_flushers, most_queued, most_log_bytes, most_bytes, most_label_names, most_name_bytes, most_value_bytes, most_line_bytes, most_streams, most_entries}
 use Rattle.ing_limits.specs.declared.keys.Kind.{Kind}
-use Rattle.ing_limits.specs.declared.keys.Kind.TheVariants.{Whole, Duration, Table, Nothing}
+use Rattle.ing_limits.specs.declared.keys.Kind.TheVariants.{Whole, UpTo, Duration, Table, Nothing}
 use Rattle.ing_limits.specs.declared.keys.Level.{Level}
 use Rattle.ing_limits.specs.declared.keys.Level.TheVariants.{Top, Tenants, Tenant}
 use Rattle.ing_limits.specs.declared.flaws.Flaw.{Flaw}
@@ -26,6 +26,8 @@ store_keys =
     (codes "shards", Whole most_shards)
     ∷ (codes "flushers", Whole most_flushers)
     ∷ (codes "flush_queue_length", Whole most_queued)
+    ∷ (codes "flush_check_period", Duration)
+    ∷ (codes "checkpoint_log_size", UpTo most_log_bytes)
     ∷ (codes "chunk_block_size", Whole most_bytes)
     ∷ (codes "chunk_target_size", Whole most_bytes)
     ∷ (codes "chunk_idle_period", Duration)
@@ -56,9 +58,10 @@ kind_of Top key = kind_in (store_keys ++ limit_keys) key
 kind_of Tenants key = Some (if is_tenant key then Table else Nothing)
 kind_of Tenant key = kind_in limit_keys key
 
--- the number from 1 to the greatest, or the nanoseconds of the duration, that a value of this kind is
+-- the number from 1 to the greatest or up to it, or the nanoseconds of the duration, that a value of this kind is
 abbrev pub number_of : Kind → Data → Option ℕ
 number_of (Whole most) (integer (pos n)) = if nat_le 1 n && nat_le n most then Some n else None
+number_of (UpTo most) (integer (pos n)) = if nat_le n most then Some n else None
 number_of Duration (string text) = duration_of text
 number_of _ _ = None
 
@@ -69,6 +72,7 @@ is_table _ = false
 -- the value is one of this kind
 abbrev pub fits : Kind → Data → Bool
 fits (Whole most) d = is_some (number_of (Whole most) d)
+fits (UpTo most) d = is_some (number_of (UpTo most) d)
 fits Duration d = is_some (number_of Duration d)
 fits Table d = is_table d
 fits Nothing d = false
@@ -176,6 +180,8 @@ pub record StoreSettings : Type 0 where
   pub shards : ℕ
   pub flushers : ℕ
   pub flush_queue_length : ℕ
+  pub flush_check_period : ℕ
+  pub checkpoint_log_size : ℕ
   pub rules : Rules
   pub tenants : TenantRules
 
@@ -185,6 +191,8 @@ settings_in ms = record {
   shards = setting Top (codes "shards") 1 ms;
   flushers = setting Top (codes "flushers") 1 ms;
   flush_queue_length = setting Top (codes "flush_queue_length") 1024 ms;
+  flush_check_period = setting Top (codes "flush_check_period") 0 ms;
+  checkpoint_log_size = setting Top (codes "checkpoint_log_size") 0 ms;
   rules = common_rules ms;
   tenants = from_entries (rules_by_tenant (common_rules ms) (entries_of (members_at (codes "tenants") ms)));
 }

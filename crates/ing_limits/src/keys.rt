@@ -12,6 +12,8 @@ use toml::Value;
 pub enum Kind {
     /// A whole number from 1 to this.
     Whole(u64),
+    /// A whole number up to this.
+    UpTo(u64),
     /// A duration.
     Duration,
     /// A table.
@@ -33,6 +35,9 @@ pub enum Level {
 
 /// The greatest size of a block and of a chunk, in bytes.
 const MAX_SIZE: u64 = 1_073_741_824;
+
+/// The greatest length of a log behind which it is replaced, in bytes.
+const MAX_LOG_SIZE: u64 = 1_099_511_627_776;
 
 /// The kind of a key, and `None` where it is unknown.
 pub(crate) fn kind_of(level: Level, key: &str) -> Option<Kind>
@@ -63,8 +68,10 @@ fn store_kind(key: &str) -> Option<Kind>
         Some(Kind::Whole(65_536))
     } else if key == "chunk_block_size" || key == "chunk_target_size" {
         Some(Kind::Whole(MAX_SIZE))
-    } else if key == "chunk_idle_period" || key == "max_chunk_age" {
+    } else if key == "flush_check_period" || key == "chunk_idle_period" || key == "max_chunk_age" {
         Some(Kind::Duration)
+    } else if key == "checkpoint_log_size" {
+        Some(Kind::UpTo(MAX_LOG_SIZE))
     } else if key == "tenants" {
         Some(Kind::Table)
     } else {
@@ -99,6 +106,7 @@ pub(crate) fn number_of(kind: Kind, value: &Value) -> Option<u64>
 {
     match kind {
         Kind::Whole(most) => whole_of(most, value),
+        Kind::UpTo(most) => up_to(most, value),
         Kind::Duration => match value.as_str() {
             Some(text) => duration_of(text.as_bytes()),
             None => None,
@@ -120,12 +128,21 @@ fn whole_of(most: u64, value: &Value) -> Option<u64>
     }
 }
 
+/// The whole number up to `most` that a value is.
+fn up_to(most: u64, value: &Value) -> Option<u64>
+    ensures { result ≡ settings.number_of (Kind.UpTo most) (view value.now) }
+{
+    let number = value.as_integer()?;
+    let number = u64::try_from(number).ok()?;
+    if number <= most { Some(number) } else { None }
+}
+
 /// Whether a value is one of this kind.
 pub(crate) fn fits(kind: Kind, value: &Value) -> bool
     ensures { result ≡ settings.fits kind (view value.now) }
 {
     match kind {
-        Kind::Whole(_) | Kind::Duration => number_of(kind, value).is_some(),
+        Kind::Whole(_) | Kind::UpTo(_) | Kind::Duration => number_of(kind, value).is_some(),
         Kind::Table => value.is_table(),
         Kind::Nothing => false,
     }

@@ -1,5 +1,5 @@
 //! The settings of a store.
-ghost use Rattle.std.specs.Prelude.{◌≡◌, ◌<◌, ℕ, List, if◌then◌else◌, Some, None, IfOk, IfErr, IfSome, OnOk, Ok, Err, codes, bytes_eq, string_bytes};
+ghost use Rattle.std.specs.Prelude.{◌≡◌, ◌≤◌, ◌<◌, ◌^◌, ℕ, List, if◌then◌else◌, Some, None, IfOk, IfErr, IfSome, OnOk, Ok, Err, codes, bytes_eq, string_bytes};
 ghost use Rattle.std.specs.BTreeMap.{get_by_text};
 ghost use Rattle.std.specs.Option.{option_or};
 ghost use Rattle.toml.specs.View.{view, table_view};
@@ -22,6 +22,8 @@ pub struct Settings {
     shards: u32,
     flushers: u32,
     flush_queue_length: u32,
+    flush_check_period: u64,
+    checkpoint_log_size: u64,
     rules: Rules,
     tenants: BTreeMap<String, Rules>,
 }
@@ -172,7 +174,7 @@ fn all_tenants(
 impl Settings {
     ghost use Rattle.ing_limits.specs.Settings.{settings_of, settings_in};
     ghost use Rattle.ing_limits.specs.Faults.{refusal_of};
-    ghost use Rattle.ing_limits.specs.Greatest.{most_bytes, most_shards, most_flushers, most_queued};
+    ghost use Rattle.ing_limits.specs.Greatest.{most_bytes, most_log_bytes, most_shards, most_flushers, most_queued};
     ghost use Rattle.ing_limits.specs.Ranges.{IsUpTo, AreRulesInRange, AreSizesOf, rules_for};
 
     /// The settings that a TOML text gives. The text is tested in this order:
@@ -212,6 +214,8 @@ impl Settings {
             shards: count_of(table, "shards", 1),
             flushers: count_of(table, "flushers", 1),
             flush_queue_length: count_of(table, "flush_queue_length", 1024),
+            flush_check_period: setting(table, Level::Top, "flush_check_period", 0),
+            checkpoint_log_size: setting(table, Level::Top, "checkpoint_log_size", 0),
             rules,
             tenants,
         })
@@ -225,6 +229,8 @@ impl Settings {
             shards: self.shards,
             flushers: self.flushers,
             flush_queue_length: self.flush_queue_length,
+            flush_check_period: self.flush_check_period,
+            checkpoint_log_size: self.checkpoint_log_size,
             rules: self.rules,
             tenants: self.tenants.clone()?,
         })
@@ -252,6 +258,22 @@ impl Settings {
         ensures range { IsUpTo most_queued result }
     {
         self.flush_queue_length
+    }
+
+    /// How many nanoseconds pass from one look for due chunks to the next; 0 where none is made by the clock.
+    pub fn flush_check_period(&self) -> u64
+        ensures value { result ≡ self.now.flush_check_period }
+        ensures range { result < 2 ^ 63 }
+    {
+        self.flush_check_period
+    }
+
+    /// The length in bytes behind which the clock has a log replaced by a checkpoint; 0 where it has none replaced.
+    pub fn checkpoint_log_size(&self) -> u64
+        ensures value { result ≡ self.now.checkpoint_log_size }
+        ensures range { result ≤ most_log_bytes }
+    {
+        self.checkpoint_log_size
     }
 
     /// The sizes in bytes at which a block is closed and a chunk is sealed as full: no tenant has others. Takes no memory.

@@ -86,6 +86,18 @@ impl<N: NodeName> Flushing<N> {
         }
     }
 
+    /// Another who sweeps, in a thread of its own, say. Takes no memory.
+    pub fn another(&self, sweeper: &mut Sweeper) -> Sweeper
+        requires { sweeper.old.pass.queue ≡ self.now.queue.name }
+        ensures other { result.pass ≡
+            record { queue = self.now.queue.name; put = []; taken = []; alone = false } }
+        ensures sweeper { sweeper.new.pass ≡ record sweeper.old.pass { alone = false } }
+    {
+        Sweeper {
+            pass: self.queue.another(&mut sweeper.pass),
+        }
+    }
+
     /// A flusher of an ingester, which has stored nothing yet, with a pass of its queue. `CounterFull` where 2^62 shares of a shard
     /// are out, `Misplaced`, and `NoMemory`: then end and gate come back, and no share more is out.
     pub fn flusher<D, R, S, G, W>(

@@ -1,2 +1,3 @@
+pub mod ChannelsLaws
 pub mod StartingLaws
 pub mod OwnLaws

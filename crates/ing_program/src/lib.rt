@@ -4,15 +4,22 @@
 //! has the shards made again from their logs, side by side (`start_over`, `run_over`). What is served, and how, is `ing_service`'s.
 #![tactic(auto)]
 
+mod channels;
 mod folders;
+mod lengths;
 mod over;
 mod own;
+mod paths;
 mod program;
+mod ticks;
 
+pub use channels::{asks_channels, start_channels};
 pub use folders::{Disk, Folders};
 pub use over::start_over;
 pub use own::run_over;
+pub use paths::{Input, Output, Paths};
 pub use program::{start, start_on};
+pub use ticks::{Ticking, Ticks};
 
 // What its callers meet of the crates below.
 pub use ing_folder::{FolderLog, FolderStore, hold_streams};

@@ -87,7 +87,7 @@ fn settings_file<F: Files + AllocGlobal>(rt: &F, words: &[String]) -> Result<Vec
 }
 
 /// The bytes of a file.
-fn read_file<F: Files + AllocGlobal>(rt: &F, path: &str) -> Result<Vec<u8>, Ending>
+pub(crate) fn read_file<F: Files + AllocGlobal>(rt: &F, path: &str) -> Result<Vec<u8>, Ending>
     ensures ending { IfErr result (λ e. (e ≡ Ending.NoMemory) ⊎ (e ≡ Ending.NoSettings)) }
 {
     match fs::read(rt, path) {

@@ -28,7 +28,8 @@ use Rattle.ing_service.specs.ByShards.{BeginsFlush, Flushes, ObeysCommand, Pushe
 use Rattle.ing_service.specs.Flushes.{IsFlushed}
 use Rattle.ing_service.specs.Drafts.{PushesEach}
 use Rattle.ing_service.specs.Held.{Begun, Held, ShardHeld, held_in}
-use Rattle.ing_service.specs.Queries.{Answer, Refused, Failed, Damaged, QueryMayBe, Reads, failed_of}
+use Rattle.ing_service.specs.Queries.{Answer, Refused, Failed, Damaged, QueryMayBe, failed_of}
+use Rattle.ing_session.specs.Selecting.{Reads}
 
 module _ (honest : Type 0) (begun : Begun) (settings : StoreSettings) (old new : Held) where
   -- what works nothing off and asks no store, from what is held

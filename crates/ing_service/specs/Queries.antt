@@ -10,6 +10,7 @@ use Rattle.ing_parts.specs.Parts.{found_at, within}
 use Rattle.ing_rows.specs.Rows.{Row, StreamKey}
 use Rattle.ing_durable.specs.Picked.{Picks}
 use Rattle.ing_commands.specs.QueryCommands.{QueryCommand}
+use Rattle.ing_session.specs.Selecting.{Reads}
 
 -- What a query comes to: its text is refused; these entries are given; the store failed; or an object of the store is not the
 -- chunk that is listed.
@@ -25,12 +26,6 @@ failed_of (Refused fault) = 0
 failed_of (Given found) = 0
 failed_of Failed = 1
 failed_of Damaged = 0
-
--- a text that may be asked for, by its matchers
-pub record Reads (text : List ℕ) : Type 0 where
-  pub ms : List Match
-  pub spelt : IsSelectorText ms text
-  pub usable : IsSelector ms
 
 -- these entries are the answer to a query, of these rows in whatever order
 pub record IsFound (query : QueryCommand) (rows : List Row) (found : List Found) : Type 0 where

@@ -1,5 +1,5 @@
 //! Runs over shards that nobody shares.
-ghost use Rattle.std.specs.Prelude.{◌≡◌, ◌⊎◌, IfErr, IfOk, IfSome, IsErrOf, IsTrue, OnOk, false, map, replicate};
+ghost use Rattle.std.specs.Prelude.{◌≡◌, ◌⊎◌, ⊤, IfErr, IfOk, IfSome, IsErrOf, IsTrue, OnOk, false, map, replicate};
 ghost use Rattle.ing_durable.specs.Kept.{whose};
 ghost use Rattle.ing_session.specs.Causes.{GoesOn};
 ghost use Rattle.ing_session.specs.FlushCalls.{ObeysFlush};
@@ -107,8 +107,8 @@ pub fn run_own<
     let own: OwnShards<N, D, R> = OwnShards::of(alloc, settings, seats, is_logged)?;
     let flush = |own: &mut OwnShards<N, D, R>, ends: &mut Ends<S>, said: Flush|
         ensures { ObeysFlush (by_shards S.is_honest N.begun)
-            (λ own held. held ≡ held_in (map (λ seat. shard_held seat.shard) own.seats.items) own.ops.items) (λ own. own.settings)
-            (failures_in S.failure_count) (NeverFail S.never_fails) said own.entry.now own.exit.now
+            (λ own held. held ≡ held_in (map (λ seat. shard_held seat.shard) own.seats.items) own.ops.items) (λ _ _. ⊤)
+            (λ own. own.settings) (failures_in S.failure_count) (NeverFail S.never_fails) said own.entry.now own.exit.now
             ends.entry.now ends.exit.now result }
     { own.flush(rt, ends, said) };
     serve_all(alloc, reader, writer, ends, own, &flush)

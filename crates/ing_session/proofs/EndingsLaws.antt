@@ -1,5 +1,5 @@
 -- Faults as the endings that they become.
-use Rattle.std.proofs.Common.{◌≡◌, ◌≢◌, ◌⊎◌, inl, inr, false, true, refl, subst, Result, Ok, Err}
+use Rattle.std.proofs.Common.{◌≡◌, ◌≢◌, ◌⊎◌, inl, inr, false, true, refl, subst, sym, Result, Ok, Err}
 use Rattle.std.specs.Prelude.{IfErr, IsErrOf, IsTrue}
 use Rattle.ing_shard.specs.declared.recover_fault.RecoverFault.{RecoverFault}
 use Rattle.ing_shard.specs.declared.recover_fault.RecoverFault.TheVariants as recover
@@ -21,6 +21,10 @@ no_output r fault ending is passed other same = absurd (cc (is, passed, other, s
 -- a fault that is passed on is the same
 pub same_fault : {T : Type 0} (r : Result T Ending) (fault ending other : Ending) → r ≡ Err ending → ending ≡ fault → r ≡ Err other → fault ≡ other
 same_fault r fault ending other is passed same = cc
+
+-- and a fault that is passed on is none of it
+pub no_output_on : {T : Type 0} (r : Result T Ending) (fault ending other : Ending) → r ≡ Err ending → ending ≡ fault → r ≡ Err other → other ≢ OutputFault → fault ≢ OutputFault
+no_output_on r fault ending other is passed same none = subst (λ x. x ≢ OutputFault) (sym (same_fault r fault ending other is passed same)) none
 
 -- what ends the reading of a line is no fault of the output
 pub no_line_output : (fault : LineError) → ending_of_line fault ≢ OutputFault

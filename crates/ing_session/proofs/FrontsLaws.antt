@@ -1,5 +1,5 @@
 -- Fronts of a text that a writer has taken.
-use Rattle.std.proofs.Common.{◌≡◌, ℕ, ◌-◌, List, [], ◌++◌, length, take, drop, refl, sym, ap, ◌∙◌, append_assoc, take-append-drop, None, Some}
+use Rattle.std.proofs.Common.{◌≡◌, ℕ, ◌-◌, List, [], ◌++◌, length, take, drop, refl, sym, ap, ◌∙◌, append_assoc, append-nil, take-append-drop, None, Some}
 use Rattle.std.specs.Prelude.{Option}
 use Rattle.std.specs.Io.KnownBytes.{Appends, Keeps}
 use Rattle.std.proofs.KnownBytes.{Appends-nil, Appends-trans}
@@ -73,3 +73,16 @@ pub front_kept : (a c k : Option (List ℕ)) (r q : List ℕ) → Grows a c → 
 front_kept None c k r q grown keeps f = record { front = []; rest = r; whole = refl; added = tt }
 front_kept (Some x) None k r q grown keeps f = absurd keeps
 front_kept (Some x) (Some y) k r q grown keeps f = front_held (Some x) (Some y) k q r grown keeps f
+
+-- ---- all of a text
+
+-- what is written whole is a front of it
+pub front_of : (a b : Option (List ℕ)) (text : List ℕ) → Appends a b text → AppendsFront a b text
+front_of a b text added = record { front = text; rest = []; whole = append-nil text; added = added }
+
+-- with the replies they were a text: they are written behind what stood, and so is the text
+pub all_written : (first c k : Option (List ℕ)) (replies text : List ℕ) → Appends first (with_replies c replies) text → Appends c k replies → Appends first k text
+all_written None c k replies text told written = tt
+all_written (Some x) None k replies text told written = absurd told
+all_written (Some x) (Some y) None replies text told written = absurd written
+all_written (Some x) (Some y) (Some z) replies text told written = written ∙ told

@@ -1,6 +1,6 @@
 -- One more line of the input is answered, or the run ends.
 use Rattle.std.proofs.Common.{◌≡◌, ◌≢◌, ℕ, ◌+◌, ◌<◌, ◌≤◌, Bool, true, false, List, [], ◌∷◌, ◌++◌, length, drop, refl, sym, ap, subst, ◌∙◌, arith, append_assoc, append-nil, None, Some, Ok, Err, inl, inr}
-use Rattle.std.specs.Prelude.{Option, Result, IfSome, IfErr, OnOk, IsTrue}
+use Rattle.std.specs.Prelude.{Option, Result, IfSome, IfErr, OnOk, OnErr, IsTrue}
 use Rattle.std.specs.List.{AllByRecursion, flat_map}
 use Rattle.std.specs.Io.KnownBytes.{Appends, Keeps, Consumes, IsAtEnd, prepend_known}
 use Rattle.std.proofs.lemmas.Grind.{flat_map-append}
@@ -12,7 +12,7 @@ use Rattle.ing_limits.specs.Settings.{StoreSettings}
 use Rattle.ing_commands.specs.declared.fault.LineFault.TheVariants.{BadCommand}
 use Rattle.ing_session.specs.declared.lines.NextLine.TheVariants.{Line, TooLong, End}
 use Rattle.ing_session.specs.declared.ending.Ending.{Ending}
-use Rattle.ing_session.specs.declared.ending.Ending.TheVariants.{NoMemory, NotToml, UnknownSetting, BadSetting, InputFault, OutputFault, BadArguments, NoSettings, NoFolder, NoObjects, FolderInUse, MissingLog, NotRecovered}
+use Rattle.ing_session.specs.declared.ending.Ending.TheVariants.{NoMemory, NotToml, UnknownSetting, BadSetting, InputFault, OutputFault, BadArguments, NoSettings, NoFolder, NoObjects, FolderInUse, MissingLog, NotRecovered, NotServed}
 use Rattle.ing_session.specs.Endings.{is_of_run}
 use Rattle.ing_session.specs.Fronts.{AppendsFront, Grows}
 use Rattle.ing_session.specs.Lines.{lines_of, with_feed, EndsLine, TakesLine}
@@ -20,9 +20,9 @@ use Rattle.ing_session.specs.Parts.{HasNoFeed, max_line}
 use Rattle.ing_session.specs.Replies.{line_text}
 use Rattle.ing_session.specs.Manners.{Manner, Turn, turn, MayBeFrom, is_long, line_fault, answers_of, failed_in, held_after, lines_in, output_of}
 use Rattle.ing_session.specs.Causes.{HaveCause}
-use Rattle.ing_session.specs.Runs.{AnswersAll, AnswersWhatWasRead, AnswersFirstLines, AnswersFront, Answers, AnswersAhead, AnswersLines, Reports, Serves, ServesKnown, with_replies}
+use Rattle.ing_session.specs.Runs.{AnswersAll, AnswersWhatWasRead, AnswersFirstLines, AnswersFront, Answers, AnswersAhead, AnswersLines, BreaksOff, Reports, Serves, ServesKnown, with_replies}
 use Rattle.ing_session.proofs.CausesLaws.{no_failure, causes_on, causes_more}
-use Rattle.ing_session.proofs.FrontsLaws.{front_held}
+use Rattle.ing_session.proofs.FrontsLaws.{all_written, front_held, front_of}
 use Rattle.ing_session.proofs.LinesLaws.{lines_of-ended, lines_of-open_last, lines_of-rest}
 
 -- ---- what is written and held back
@@ -318,6 +318,23 @@ module _ (m : Manner) (settings now_settings : StoreSettings) (holds : m.Held �
         answered = kept first now h (answers_of serves.turns) serves.answered keeps;
       }
 
+  -- what the last call leaves of that
+  pub stops_off : (is_left : m.Held → Type 0) (left h : Option (List ℕ)) → ServesKnown m settings now_settings holds input before b1 first now was left → Keeps now h → b1 ≤ b2
+      → ((held : m.Held) → holds held → is_left held) → BreaksOff m settings is_left input before b2 (Appends first h)
+  stops_off is_left None h serves keeps risen leaves = absurd serves
+  stops_off is_left (Some left) h serves keeps risen leaves =
+      record {
+        turns = serves.turns;
+        others = lines_of left;
+        first = first_lines m settings now_settings holds input before b1 first now was left serves was refl;
+        may_be = record {
+          flushes = serves.may_be.flushes;
+          causes = causes_on before b1 b2 (failed_in serves.turns) serves.may_be.causes risen;
+        };
+        answered = kept first now h (answers_of serves.turns) serves.answered keeps;
+        left = leaves (held_after m.nothing serves.turns) serves.holds;
+      }
+
   -- a read failed
   pub fails : (left rest h : Option (List ℕ)) (bytes : List ℕ) → ServesKnown m settings now_settings holds input before b1 first now was left → was ≡ false → HasNoFeed bytes → Consumes left rest bytes → Keeps now h
       → AnswersWhatWasRead m settings input rest before b1 first h
@@ -346,6 +363,102 @@ breaks m settings now_settings holds input before after first c k r was (Some le
       may_be = serves.may_be;
       front = inl (front_held first c k r (answers_of serves.turns) grown serves.answered f);
     }
+
+-- and what was held stays
+pub breaks_cut : (m : Manner) (settings now_settings : StoreSettings) (holds is_left : m.Held → Type 0) (input : List ℕ) (before after : ℕ) (first c k : Option (List ℕ)) (r : List ℕ) (was : Bool) (left : Option (List ℕ))
+    → ServesKnown m settings now_settings holds input before after first (with_replies c r) was left → Grows first c → AppendsFront c k r → ((held : m.Held) → holds held → is_left held)
+    → BreaksOff m settings is_left input before after (AppendsFront first k)
+breaks_cut m settings now_settings holds is_left input before after first c k r was None serves grown f stays = absurd serves
+breaks_cut m settings now_settings holds is_left input before after first c k r was (Some left) serves grown f stays =
+    record {
+      turns = serves.turns;
+      others = lines_of left;
+      first = first_lines m settings now_settings holds input before after first (with_replies c r) was left serves was refl;
+      may_be = serves.may_be;
+      answered = front_held first c k r (answers_of serves.turns) grown serves.answered f;
+      left = stays (held_after m.nothing serves.turns) serves.holds;
+    }
+
+-- of a channel, whose answers were still to be written
+module _ (m : Manner) (settings : StoreSettings) (is_left : m.Held → Type 0) (before after : ℕ) (first c k : Option (List ℕ)) (r : List ℕ) where
+  -- a front of them is, since a write failed
+  pub channel_cut : (known : Option (List ℕ)) → IfSome known (λ input. BreaksOff m settings is_left input before after (Appends first (with_replies c r))) → Grows first c → AppendsFront c k r
+      → IfSome known (λ input. BreaksOff m settings is_left input before after (AppendsFront first k))
+  channel_cut None broken grown f = tt
+  channel_cut (Some input) broken grown f =
+      record {
+        turns = broken.turns;
+        others = broken.others;
+        first = broken.first;
+        may_be = broken.may_be;
+        answered = front_held first c k r (answers_of broken.turns) grown broken.answered f;
+        left = broken.left;
+      }
+
+  -- all of them are
+  pub channel_written : (known : Option (List ℕ)) → IfSome known (λ input. BreaksOff m settings is_left input before after (Appends first (with_replies c r))) → Grows first c → Appends c k r
+      → IfSome known (λ input. BreaksOff m settings is_left input before after (AppendsFront first k))
+  channel_written known broken grown written = channel_cut known broken grown (front_of c k r written)
+
+  -- all lines were answered, and a front of the answers is written
+  pub channel_lost : (holds : m.Held → Type 0) (known : Option (List ℕ)) → IfSome known (λ input. AnswersLines m settings holds input before after first (with_replies c r)) → Grows first c
+      → AppendsFront c k r → ((held : m.Held) → holds held → is_left held) → IfSome known (λ input. BreaksOff m settings is_left input before after (AppendsFront first k))
+  channel_lost holds None lines grown f stays = tt
+  channel_lost holds (Some input) lines grown f stays =
+      record {
+        turns = lines.turns;
+        others = [];
+        first = lines.all ∙ sym (append-nil (lines_in lines.turns));
+        may_be = lines.may_be;
+        answered = front_held first c k r (answers_of lines.turns) grown lines.answered f;
+        left = stays (held_after m.nothing lines.turns) lines.holds;
+      }
+
+-- all lines were answered, and the answers are written
+pub channel_answered : (m : Manner) (settings : StoreSettings) (holds : m.Held → Type 0) (before after : ℕ) (first c k : Option (List ℕ)) (r : List ℕ) (known : Option (List ℕ))
+    → IfSome known (λ input. AnswersLines m settings holds input before after first (with_replies c r)) → Appends c k r → IfSome known (λ input. AnswersLines m settings holds input before after first k)
+channel_answered m settings holds before after first c k r None lines written = tt
+channel_answered m settings holds before after first c k r (Some input) lines written =
+    record {
+      turns = lines.turns;
+      all = lines.all;
+      holds = lines.holds;
+      may_be = lines.may_be;
+      answered = all_written first c k r (answers_of lines.turns) lines.answered written;
+    }
+
+-- nothing was answered yet
+none_added : (known : Option (List ℕ)) (replies : List ℕ) → replies ≡ [] → Appends known (with_replies known replies) []
+none_added None replies none = tt
+none_added (Some x) replies none = ap (λ (l : List ℕ). x ++ l) none
+
+pub channel_unread : (m : Manner) (settings : StoreSettings) (is_left : m.Held → Type 0) (n : ℕ) (contents : Option (List ℕ)) (replies : List ℕ) → replies ≡ [] → is_left m.nothing → (known : Option (List ℕ))
+    → IfSome known (λ input. BreaksOff m settings is_left input n n (Appends contents (with_replies contents replies)))
+channel_unread m settings is_left n contents replies none stays None = tt
+channel_unread m settings is_left n contents replies none stays (Some input) =
+    record {
+      turns = [];
+      others = lines_of input;
+      first = refl;
+      may_be = record { flushes = tt; causes = no_failure n };
+      answered = none_added contents replies none;
+      left = stays;
+    }
+
+-- a channel ends, with what was still to be written
+module _ (m : Manner) (settings : StoreSettings) (holds is_left : m.Held → Type 0) (before after : ℕ) (first c k : Option (List ℕ)) (r : List ℕ) (known : Option (List ℕ)) (ended : Result (Unit {0}) Ending)
+    (other : ended ≢ Err OutputFault) (grown : Grows first c)
+    (broken : (e : Ending) → ended ≡ Err e → e ≢ OutputFault → IfSome known (λ input. BreaksOff m settings is_left input before after (Appends first (with_replies c r)))) where
+  -- it is not written whole
+  pub channel_breaks : (b : Result (Unit {0}) Ending) → ended ≡ b → OnOk b (IfSome known (λ input. AnswersLines m settings holds input before after first (with_replies c r))) → AppendsFront c k r
+      → ((held : m.Held) → holds held → is_left held) → IfSome known (λ input. BreaksOff m settings is_left input before after (AppendsFront first k))
+  channel_breaks (Ok done) is lines f stays = channel_lost m settings is_left before after first c k r holds known lines grown f stays
+  channel_breaks (Err e) is lines f stays = channel_cut m settings is_left before after first c k r known (broken e is (λ (same : e ≡ OutputFault). other (is ∙ ap (λ x. Err x) same))) grown f
+
+  -- it is
+  pub channel_ends : (b : Result (Unit {0}) Ending) → ended ≡ b → Appends c k r → OnErr b (IfSome known (λ input. BreaksOff m settings is_left input before after (AppendsFront first k)))
+  channel_ends (Ok done) is written = tt
+  channel_ends (Err e) is written = channel_written m settings is_left before after first c k r known (broken e is (λ (same : e ≡ OutputFault). other (is ∙ ap (λ x. Err x) same))) grown written
 
 -- the last write failed
 module _ (m : Manner) (settings : StoreSettings) (input : List ℕ) (before after : ℕ) (first c k : Option (List ℕ)) (r : List ℕ) (grown : Grows first c) (f : AppendsFront c k r) where
@@ -402,6 +515,7 @@ module _ (m : Manner) (settings : StoreSettings) (input : List ℕ) (before afte
   breaks_known rest (Err FolderInUse) other of_run all read memory = absurd cc
   breaks_known rest (Err MissingLog) other of_run all read memory = absurd cc
   breaks_known rest (Err (NotRecovered fault)) other of_run all read memory = absurd cc
+  breaks_known rest (Err (NotServed refusal)) other of_run all read memory = absurd cc
 
 -- the same, of what is known of the input
 pub breaks_ended : (m : Manner) (settings : StoreSettings) (before after : ℕ) (first c k : Option (List ℕ)) (r : List ℕ) (known rest : Option (List ℕ)) (ended : Result (Unit {0}) Ending) → Grows first c → AppendsFront c k r

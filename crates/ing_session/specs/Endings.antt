@@ -13,7 +13,7 @@ use Rattle.ing_shard.specs.RelistFault.TheVariants as relist_faults
 use Rattle.ing_session.specs.declared.lines.LineError.{LineError}
 use Rattle.ing_session.specs.declared.lines.LineError.TheVariants as lines
 use Rattle.ing_session.specs.declared.ending.Ending.{Ending}
-use Rattle.ing_session.specs.declared.ending.Ending.TheVariants.{NoMemory, NotToml, UnknownSetting, BadSetting, InputFault, OutputFault, BadArguments, NoSettings, NoFolder, NoObjects, FolderInUse, MissingLog, NotRecovered}
+use Rattle.ing_session.specs.declared.ending.Ending.TheVariants.{NoMemory, NotToml, UnknownSetting, BadSetting, InputFault, OutputFault, BadArguments, NoSettings, NoFolder, NoObjects, FolderInUse, MissingLog, NotRecovered, NotServed}
 
 abbrev pub ending_refusal : Ending → table.Refusal
 ending_refusal NoMemory = refusals.NoMemory
@@ -29,9 +29,10 @@ ending_refusal NoObjects = refusals.Failed
 ending_refusal FolderInUse = refusals.FolderInUse
 ending_refusal MissingLog = refusals.MissingLog
 ending_refusal (NotRecovered fault) = recover_refusal_of fault
+ending_refusal (NotServed refusal) = refusal
 
 -- the exit status: 1 where arguments or settings are refused, 2 where input, output or a folder failed, the folder is in use or
--- lacks a log, or a shard was not made again, 3 where memory ran out
+-- lacks a log, a shard was not made again, or shards were not opened or closed, 3 where memory ran out
 abbrev pub ending_status : Ending → ℕ
 ending_status NoMemory = 3
 ending_status NotToml = 1
@@ -46,6 +47,7 @@ ending_status NoObjects = 2
 ending_status FolderInUse = 2
 ending_status MissingLog = 2
 ending_status (NotRecovered fault) = 2
+ending_status (NotServed refusal) = 2
 
 -- the exit status of the program
 abbrev pub status_of : Result (Unit {0}) Ending → ℕ
@@ -71,6 +73,7 @@ is_of_run NoObjects = false
 is_of_run FolderInUse = false
 is_of_run MissingLog = false
 is_of_run (NotRecovered fault) = false
+is_of_run (NotServed refusal) = false
 
 -- what it says of a settings text; the other endings say nothing of it
 abbrev pub refusal_of : Ending → Option Refusal
@@ -87,6 +90,7 @@ refusal_of NoObjects = None
 refusal_of FolderInUse = None
 refusal_of MissingLog = None
 refusal_of (NotRecovered fault) = None
+refusal_of (NotServed refusal) = None
 
 -- the ending where a line could not be read
 abbrev pub ending_of_line : LineError → Ending

@@ -9,6 +9,7 @@ pub mod Parts
 pub mod PushLines
 pub mod Replies
 pub mod Runs
+pub mod Selecting
 pub mod Unread
 pub mod Views
 pub mod Written

@@ -117,6 +117,11 @@ shard_data shard =
 abbrev pub report_data : List ShardReport → Data
 report_data shards = object (member (codes "report") (array (items_of (map shard_data shards))) no_members)
 
+-- the same of a run of several channels, and how many of these broke
+abbrev pub channels_data : ℕ → List ShardReport → Data
+channels_data broken shards =
+    object (member (codes "broken") (count broken) (member (codes "report") (array (items_of (map shard_data shards))) no_members))
+
 -- a reply is one line
 abbrev pub line_text : Data → List ℕ
 line_text d = compact_text d ++ 10 ∷ []

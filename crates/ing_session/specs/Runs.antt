@@ -62,15 +62,29 @@ pub record AnswersFront (m : Manner) (settings : StoreSettings) (input : List �
   pub may_be : MayBeAnswered m settings before after turns
   pub front : AppendsFront old new (answers_of turns) ⊎ ((others ≡ []) × BeginsReport m turns old new)
 
--- ---- for private clauses
+-- What is held, or, where memory ran out in a call, at least what the service says of that.
+abbrev pub IsLeft : {C H : Type 0} → (C → H → Type 0) → (C → H → Type 0) → C → H → Type 0
+IsLeft holds leaves c held = holds c held ⊎ leaves c held
 
--- all lines are answered, and nothing is reported yet
+-- Where it ends before the input does: of the answers to the first lines of the input so much is written, and what these lines leave
+-- is left.
+pub record BreaksOff (m : Manner) (settings : StoreSettings) (is_left : m.Held → Type 0) (input : List ℕ) (before after : ℕ) (written : List ℕ → Type 0) : Type 0 where
+  pub turns : List (Turn m.Held)
+  pub others : List (List ℕ)
+  pub first : lines_of input ≡ lines_in turns ++ others
+  pub may_be : MayBeAnswered m settings before after turns
+  pub answered : written (answers_of turns)
+  pub left : is_left (held_after m.nothing turns)
+
+-- all lines are answered, and what they leave is held
 pub record AnswersLines (m : Manner) (settings : StoreSettings) (now_holds : m.Held → Type 0) (input : List ℕ) (before after : ℕ) (old new : Option (List ℕ)) : Type 0 where
   pub turns : List (Turn m.Held)
   pub all : lines_of input ≡ lines_in turns
   pub holds : now_holds (held_after m.nothing turns)
   pub may_be : MayBeAnswered m settings before after turns
   pub answered : Appends old new (answers_of turns)
+
+-- ---- for private clauses
 
 -- a report of this is put behind the replies
 pub record Reports (m : Manner) (held : m.Held) (replies with_report : List ℕ) : Type 0 where

@@ -6,7 +6,7 @@ use Rattle.ing_session.specs.declared.reply.StreamReply.{StreamReply}
 use Rattle.ing_session.specs.declared.reply.StreamReply.TheVariants as replies_of_streams
 use Rattle.ing_labels.specs.Canonical.{canonical_of}
 use Rattle.serde_json.specs.Data.{Data}
-use Rattle.ing_session.specs.Replies.{fault_data, judged_data, push_data, sweep_data, flush_data, gauges_data, board_data, checkpoint_data, query_data, report_data}
+use Rattle.ing_session.specs.Replies.{fault_data, judged_data, push_data, sweep_data, flush_data, gauges_data, board_data, checkpoint_data, query_data, report_data, channels_data}
 
 -- the reply to a stream
 abbrev pub stream_data : StreamReply → Data
@@ -25,3 +25,4 @@ reply_data (replies.Checkpoint shards) = checkpoint_data shards.items
 reply_data (replies.Refused refusal at) = fault_data refusal at
 reply_data (replies.Query found fronts) = query_data found.items fronts.items
 reply_data (replies.Report shards) = report_data shards.items
+reply_data (replies.Channels broken shards) = channels_data broken shards.items

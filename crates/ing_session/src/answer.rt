@@ -7,7 +7,7 @@ ghost use Rattle.ing_session.specs.FlushCalls.{FlushesSo};
 ghost use Rattle.ing_session.specs.Manners.{is_blank, is_long, line_fault};
 ghost use Rattle.ing_session.specs.PushLines.{SaysPush};
 ghost use Rattle.ing_session.specs.Replies.{line_text};
-ghost use Rattle.ing_session.specs.Runs.{AnswersAhead, IsObeyed};
+ghost use Rattle.ing_session.specs.Runs.{AnswersAhead, IsLeft, IsObeyed};
 ghost use Rattle.ing_session.specs.Views.{reply_data};
 
 use crate::push_lines::PushLines;
@@ -47,13 +47,15 @@ pub fn answer<S, C: Service<S>, X: Fn(&mut C, &mut S, Flush) -> Result<Reply, Al
     requires short { is_long at_hand.line.now ≡ false }
     requires few { length at_hand.ahead.now ≤ 16777216 }
     requires may_flush { X.IsAlwaysCallable flush.now }
-    requires flushes { FlushesSo C.manner C.holds C.settings_of C.failures C.never_fails (X.post flush.now) }
+    requires flushes { FlushesSo C.manner C.holds C.leaves C.settings_of C.failures C.never_fails (X.post flush.now) }
     ensures answered { IfOk result (λ taken. (old : C.manner.Held) → C.holds service.old old →
         AnswersAhead C.manner (C.settings_of service.old) at_hand.entry.line.now at_hand.entry.ahead.now taken old (C.holds service.new)
         (C.failures end.old) (C.failures end.new) replies.old.items replies.new.items) }
     ensures within { IfOk result (λ taken. taken ≤ length at_hand.entry.ahead.now) }
     ensures settings { C.settings_of service.new ≡ C.settings_of service.old }
     ensures end { GoesOn C.never_fails C.failures end.old end.new }
+    ensures left { OnErr result ((old : C.manner.Held) → C.holds service.old old →
+        IsLeft C.holds C.leaves service.new old) }
     ensures err { OnErr result (replies.new.items ≡ replies.old.items) }
 {
     let line = at_hand.line;
@@ -92,6 +94,7 @@ fn answer_pushes<S, C: Service<S>>(
         count count replies.old.items replies.new.items) }
     ensures within { IfOk result (λ taken. taken ≤ length ahead.now) }
     ensures settings { C.settings_of service.new ≡ C.settings_of service.old }
+    ensures left { (old : C.manner.Held) → C.holds service.old old → C.leaves service.new old }
     ensures err { OnErr result (replies.new.items ≡ replies.old.items) }
 {
     let mut lines = PushLines::new(ahead);
@@ -119,12 +122,14 @@ fn reply_to<S, C: Service<S>, X: Fn(&mut C, &mut S, Flush) -> Result<Reply, Allo
     line: &[u8],
 ) -> Result<Reply, AllocError>
     requires may_flush { X.IsAlwaysCallable flush.now }
-    requires flushes { FlushesSo C.manner C.holds C.settings_of C.failures C.never_fails (X.post flush.now) }
+    requires flushes { FlushesSo C.manner C.holds C.leaves C.settings_of C.failures C.never_fails (X.post flush.now) }
     ensures obeyed { IfOk result (λ reply. (old : C.manner.Held) → C.holds service.old old →
         IsObeyed C.manner (C.settings_of service.old) (command_of line.now) old (C.holds service.new)
         (C.failures end.old) (C.failures end.new) (reply_data reply)) }
     ensures settings { C.settings_of service.new ≡ C.settings_of service.old }
     ensures end { GoesOn C.never_fails C.failures end.old end.new }
+    ensures left { (old : C.manner.Held) → C.holds service.old old →
+        IsLeft C.holds C.leaves service.new old }
 {
     let value = match read_value(alloc, line) {
         Ok(value) => value,

@@ -37,6 +37,8 @@ pub enum Ending {
     MissingLog,
     /// A shard was not made again from its log, before anything was read.
     NotRecovered(RecoverFault),
+    /// Shards were not opened for several channels, or not closed behind them, for this reason.
+    NotServed(Refusal),
 }
 
 impl Ending {
@@ -58,11 +60,12 @@ impl Ending {
             Ending::FolderInUse => Refusal::FolderInUse,
             Ending::MissingLog => Refusal::MissingLog,
             Ending::NotRecovered(fault) => fault.refusal(),
+            Ending::NotServed(refusal) => *refusal,
         }
     }
 
     /// The exit status of the program: 1 where arguments or settings are refused, 2 where input, output or a folder failed, the
-    /// folder is in use or lacks a log, or a shard was not made again, 3 where memory ran out (own). Takes no memory.
+    /// folder is in use or lacks a log, a shard was not made again, or shards were not opened or closed, 3 where memory ran out (own). Takes no memory.
     pub fn status(&self) -> u8
         ensures { result ≡ ending_status self.now }
     {
@@ -78,7 +81,8 @@ impl Ending {
             | Ending::NoObjects
             | Ending::FolderInUse
             | Ending::MissingLog
-            | Ending::NotRecovered(_) => 2,
+            | Ending::NotRecovered(_)
+            | Ending::NotServed(_) => 2,
             Ending::NoMemory => 3,
         }
     }

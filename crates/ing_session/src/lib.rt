@@ -22,5 +22,5 @@ pub use laws::lines_end_at_line_feeds;
 pub use lines::{LineError, Lines, NextLine, Part};
 pub use push_lines::PushLines;
 pub use reply::{Reply, StreamReply};
-pub use service::Service;
-pub use transport::serve_all;
+pub use service::{Reporter, Service};
+pub use transport::{put_reply, serve_all, serve_channel};

@@ -1,6 +1,6 @@
 //! The replies, and the lines that they are written as.
 ghost use Rattle.std.specs.Prelude.{◌≡◌, ◌++◌, OnOk, OnErr, codes, decimal, map};
-ghost use Rattle.ing_session.specs.Replies.{verdict_data, verdicts_data, fault_data, judged_data, push_data, sweep_data, flush_data, gauge_data, gauges_data, tenant_data, board_data, counts_data, checkpoint_data, entry_data, query_data, shard_data, report_data, line_text, count};
+ghost use Rattle.ing_session.specs.Replies.{verdict_data, verdicts_data, fault_data, judged_data, push_data, sweep_data, flush_data, gauge_data, gauges_data, tenant_data, board_data, counts_data, checkpoint_data, entry_data, query_data, shard_data, report_data, channels_data, line_text, count};
 ghost use Rattle.ing_session.specs.Runs.{lines_text};
 ghost use Rattle.ing_session.specs.Views.{stream_data, reply_data};
 ghost use Rattle.ing_session.specs.Written.{Adds, member_tokens, data_tokens, tokens_of_each};
@@ -52,6 +52,11 @@ pub enum Reply {
     },
     /// What is reported of each shard, by its number.
     Report(Vec<ShardReport>),
+    /// The same of a run of several channels, and how many of these broke.
+    Channels {
+        broken: u64,
+        shards: Vec<ShardReport>,
+    },
 }
 
 /// The reply to one stream of a push.
@@ -126,6 +131,7 @@ fn write_reply(alloc: Global, out: &mut Writer, reply: &Reply) -> Result<(), All
         Reply::Refused { refusal, at } => write_fault(out, *refusal, *at),
         Reply::Query { found, fronts } => write_query(out, found, fronts),
         Reply::Report(shards) => write_report(out, shards),
+        Reply::Channels { broken, shards } => write_channels(out, *broken, shards),
     }
 }
 
@@ -532,6 +538,21 @@ fn write_report(out: &mut Writer, shards: &[ShardReport]) -> Result<(), AllocErr
     ensures before { out.new.before ≡ out.old.before }
 {
     out.begin_object()?;
+    out.key("report")?;
+    out.begin_array()?;
+    write_each_shard(out, shards)?;
+    out.end_array()?;
+    out.end_object()?;
+    Ok(())
+}
+
+/// Writes how many channels broke, and the report of each shard.
+fn write_channels(out: &mut Writer, broken: u64, shards: &[ShardReport]) -> Result<(), AllocError>
+    ensures tokens { OnOk result (Adds out.old out.new (data_tokens (channels_data broken shards.now))) }
+    ensures before { out.new.before ≡ out.old.before }
+{
+    out.begin_object()?;
+    write_count(out, "broken", broken)?;
     out.key("report")?;
     out.begin_array()?;
     write_each_shard(out, shards)?;

@@ -6,8 +6,7 @@ use ing_commands::{Command, Push};
 use json::Scratch;
 use std::alloc::AllocError;
 
-/// What obeys the commands of a run: shards, whoever has them. S is an end of the store, which is passed to each command. A
-/// service cannot be dropped: it is put away.
+/// What obeys the commands of a run: shards, whoever has them. S is an end of the store, which is passed to each command.
 pub trait Service<S> {
     ghost use Rattle.std.specs.Prelude.{◌≡◌, ℕ, IfOk, Ok, false, map};
     ghost use Rattle.ing_limits.specs.Settings.{StoreSettings};
@@ -25,6 +24,9 @@ pub trait Service<S> {
     /// What is held, as far as it can be known.
     ghost holds: { Self → manner.Held → Type 0 };
 
+    /// What a call leaves of what was held, as far as that can be known also where memory ran out in it.
+    ghost leaves: { Self → manner.Held → Type 0 };
+
     /// The settings.
     ghost settings_of: { Self → StoreSettings };
 
@@ -41,6 +43,7 @@ pub trait Service<S> {
         ensures obeyed { IfOk result (λ reply. (old : manner.Held) → holds self.old old →
             IsObeyed manner (settings_of self.old) (Ok (command_view command.entry)) old (holds self.new)
             (failures end.old) (failures end.new) (reply_data reply)) }
+        ensures left { (old : manner.Held) → holds self.old old → leaves self.new old }
         ensures settings { settings_of self.new ≡ settings_of self.old }
         ensures end { GoesOn never_fails failures end.old end.new };
 
@@ -56,12 +59,19 @@ pub trait Service<S> {
         ensures obeyed { IfOk result (λ replies. (old : manner.Held) → holds self.old old →
             PushesLines manner (settings_of self.old) (push_view first.entry) (rest_of lines.old) (rest_of lines.new)
             old (holds self.new) (map reply_data replies.items)) }
+        ensures left { (old : manner.Held) → holds self.old old → leaves self.new old }
         ensures settings { settings_of self.new ≡ settings_of self.old };
+}
+
+/// A service that reports what became of all. It cannot be dropped: it is put away.
+pub trait Reporter<S>: Service<S> {
+    ghost use Rattle.std.specs.Prelude.{IfOk};
+    ghost use Rattle.ing_session.specs.Views.{reply_data};
 
     /// Makes the report.
     fn report(&self) -> Result<Reply, AllocError>
-        ensures { IfOk result (λ reply. (held : manner.Held) → holds self.now held →
-            manner.reports held (reply_data reply)) };
+        ensures { IfOk result (λ reply. (held : Self.manner.Held) → Self.holds self.now held →
+            Self.manner.reports held (reply_data reply)) };
 
     /// Lets go what is in memory. Takes no memory.
     fn put_away(self);

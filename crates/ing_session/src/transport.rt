@@ -1,5 +1,5 @@
 //! Lines in from a reader, replies out to a writer. What a line says is not looked at here.
-ghost use Rattle.std.specs.Prelude.{◌≡◌, ◌≢◌, ◌<◌, ◌≤◌, [], ℕ, List, Option, IfOk, IfErr, OnOk, OnErr, IsErrOf, IfSome, IsTrue, MatchBool, Err, true, false, vec_len};
+ghost use Rattle.std.specs.Prelude.{◌≡◌, ◌≢◌, ◌⊎◌, ◌<◌, ◌≤◌, [], ℕ, List, Option, IfOk, IfErr, OnOk, OnErr, IsErrOf, IfSome, IsTrue, MatchBool, Err, true, false, vec_len};
 ghost use Rattle.std.specs.Io.KnownBytes.{Appends, Consumes, Keeps, IsAtEnd};
 ghost use Rattle.ing_limits.specs.Settings.{StoreSettings};
 ghost use Rattle.ing_session.specs.Endings.{is_of_run};
@@ -8,14 +8,16 @@ ghost use Rattle.ing_session.specs.FlushCalls.{FlushesSo};
 ghost use Rattle.ing_session.specs.Fronts.{AppendsFront, Grows};
 ghost use Rattle.ing_session.specs.Lines.{TakesLine};
 ghost use Rattle.ing_session.specs.Parts.{HasNoFeed};
-ghost use Rattle.ing_session.specs.Runs.{AnswersAll, AnswersWhatWasRead, AnswersFirstLines, AnswersFront, AnswersLines, Reports, with_replies, ServesKnown};
+ghost use Rattle.ing_session.specs.Replies.{line_text};
+ghost use Rattle.ing_session.specs.Views.{reply_data};
+ghost use Rattle.ing_session.specs.Runs.{AnswersAll, AnswersWhatWasRead, AnswersFirstLines, AnswersFront, AnswersLines, BreaksOff, IsLeft, Reports, with_replies, ServesKnown};
 ghost use Rattle.ing_session.specs.Unread.{left, is_ended, progress};
 
 use crate::answer::{AtHand, Scratches, answer, refuse_long};
 use crate::ending::Ending;
 use crate::lines::{Lines, MAX_LINE, NextLine, Part, found};
 use crate::reply::{Reply, add_line};
-use crate::service::Service;
+use crate::service::{Reporter, Service};
 use ing_commands::Flush;
 use json::Scratch;
 use std::alloc::{AllocError, Global};
@@ -37,7 +39,7 @@ pub fn serve_all<
     R: Read,
     W: Write,
     S,
-    C: Service<S>,
+    C: Reporter<S>,
     X: Fn(&mut C, &mut S, Flush) -> Result<Reply, AllocError>,
 >(
     alloc: Global,
@@ -48,7 +50,7 @@ pub fn serve_all<
     flush: &X,
 ) -> Result<(), Ending>
     requires may_flush { X.IsAlwaysCallable flush.now }
-    requires flushes { FlushesSo C.manner C.holds C.settings_of C.failures C.never_fails (X.post flush.now) }
+    requires flushes { FlushesSo C.manner C.holds C.leaves C.settings_of C.failures C.never_fails (X.post flush.now) }
     requires nothing { C.holds service C.manner.nothing }
     // What is written is, line for line, what the service may answer to the lines read.
     ensures output { OnOk result (IfSome (R.remaining reader.old) (λ input.
@@ -75,8 +77,12 @@ pub fn serve_all<
     ended
 }
 
-/// The same, of a service that is put away afterwards.
-fn serve_lines<
+/// As `serve_all`, of one channel of several, whose service goes on afterwards: it writes no report. Where all went well each line is
+/// answered, and what these lines leave is held.
+///
+/// `InputFault`, `NoMemory` and `OutputFault` as `serve_all`; then the answers to the first lines of the input are written, or a front
+/// of them where a write failed, and nothing else; what is held is what these lines leave, or where memory ran out at least that. (Own.)
+pub fn serve_channel<
     R: Read,
     W: Write,
     S,
@@ -91,7 +97,85 @@ fn serve_lines<
     flush: &X,
 ) -> Result<(), Ending>
     requires may_flush { X.IsAlwaysCallable flush.now }
-    requires flushes { FlushesSo C.manner C.holds C.settings_of C.failures C.never_fails (X.post flush.now) }
+    requires flushes { FlushesSo C.manner C.holds C.leaves C.settings_of C.failures C.never_fails (X.post flush.now) }
+    requires nothing { C.holds service.old C.manner.nothing }
+    ensures output { OnOk result (IfSome (R.remaining reader.old) (λ input.
+        AnswersLines C.manner (C.settings_of service.old) (C.holds service.new) input (C.failures end.old) (C.failures end.new)
+        (W.contents writer.old) (W.contents writer.new))) }
+    ensures broken { OnErr result (IfSome (R.remaining reader.old) (λ input.
+        BreaksOff C.manner (C.settings_of service.old) (IsLeft C.holds C.leaves service.new) input
+        (C.failures end.old) (C.failures end.new)
+        (AppendsFront (W.contents writer.old) (W.contents writer.new)))) }
+    ensures end { GoesOn C.never_fails C.failures end.old end.new }
+    ensures ending { IfErr result (λ e. IsTrue (is_of_run e)) }
+{
+    let mut replies = Vec::new(alloc);
+    let ended = answer_channel(alloc, reader, writer, end, service, flush, &mut replies);
+    if is_output_fault(&ended) {
+        return Err(Ending::OutputFault);
+    }
+    write_out(writer, &mut replies)?;
+    ended
+}
+
+/// Answers all lines of the input. What it leaves in `replies` is still to be written.
+fn answer_channel<
+    R: Read,
+    W: Write,
+    S,
+    C: Service<S>,
+    X: Fn(&mut C, &mut S, Flush) -> Result<Reply, AllocError>,
+>(
+    alloc: Global,
+    reader: &mut R,
+    writer: &mut W,
+    end: &mut S,
+    service: &mut C,
+    flush: &X,
+    replies: &mut Vec<u8>,
+) -> Result<(), Ending>
+    requires may_flush { X.IsAlwaysCallable flush.now }
+    requires flushes { FlushesSo C.manner C.holds C.leaves C.settings_of C.failures C.never_fails (X.post flush.now) }
+    requires nothing { C.holds service.old C.manner.nothing }
+    requires none { replies.old.items ≡ [] }
+    ensures output { OnOk result (IfSome (R.remaining reader.old) (λ input.
+        AnswersLines C.manner (C.settings_of service.old) (C.holds service.new) input (C.failures end.old) (C.failures end.new)
+        (W.contents writer.old) (with_replies (W.contents writer.new) replies.new.items))) }
+    ensures broken { (e : Ending) → IsErrOf result e → e ≢ Ending.OutputFault → IfSome (R.remaining reader.old) (λ input.
+        BreaksOff C.manner (C.settings_of service.old) (IsLeft C.holds C.leaves service.new) input
+        (C.failures end.old) (C.failures end.new)
+        (Appends (W.contents writer.old) (with_replies (W.contents writer.new) replies.new.items))) }
+    ensures cut { IsErrOf result Ending.OutputFault → IfSome (R.remaining reader.old) (λ input.
+        BreaksOff C.manner (C.settings_of service.old) (IsLeft C.holds C.leaves service.new) input
+        (C.failures end.old) (C.failures end.new)
+        (AppendsFront (W.contents writer.old) (W.contents writer.new))) }
+    ensures grown { Grows (W.contents writer.old) (W.contents writer.new) }
+    ensures end { GoesOn C.never_fails C.failures end.old end.new }
+    ensures ending { IfErr result (λ e. IsTrue (is_of_run e)) }
+{
+    let mut lines = Lines::new(alloc)?;
+    answer_lines(
+        alloc, reader, writer, end, &mut lines, service, flush, replies,
+    )
+}
+
+/// The same, of a service that is put away afterwards.
+fn serve_lines<
+    R: Read,
+    W: Write,
+    S,
+    C: Reporter<S>,
+    X: Fn(&mut C, &mut S, Flush) -> Result<Reply, AllocError>,
+>(
+    alloc: Global,
+    reader: &mut R,
+    writer: &mut W,
+    end: &mut S,
+    service: &mut C,
+    flush: &X,
+) -> Result<(), Ending>
+    requires may_flush { X.IsAlwaysCallable flush.now }
+    requires flushes { FlushesSo C.manner C.holds C.leaves C.settings_of C.failures C.never_fails (X.post flush.now) }
     requires nothing { C.holds service.old C.manner.nothing }
     ensures output { OnOk result (IfSome (R.remaining reader.old) (λ input.
         AnswersAll C.manner (C.settings_of service.old) input (C.failures end.old) (C.failures end.new)
@@ -132,7 +216,7 @@ fn answer_all<
     R: Read,
     W: Write,
     S,
-    C: Service<S>,
+    C: Reporter<S>,
     X: Fn(&mut C, &mut S, Flush) -> Result<Reply, AllocError>,
 >(
     alloc: Global,
@@ -144,7 +228,7 @@ fn answer_all<
     replies: &mut Vec<u8>,
 ) -> Result<(), Ending>
     requires may_flush { X.IsAlwaysCallable flush.now }
-    requires flushes { FlushesSo C.manner C.holds C.settings_of C.failures C.never_fails (X.post flush.now) }
+    requires flushes { FlushesSo C.manner C.holds C.leaves C.settings_of C.failures C.never_fails (X.post flush.now) }
     requires nothing { C.holds service.old C.manner.nothing }
     requires none { replies.old.items ≡ [] }
     ensures output { OnOk result (IfSome (R.remaining reader.old) (λ input.
@@ -173,7 +257,11 @@ fn answer_all<
 }
 
 /// Makes the report.
-fn report<S, C: Service<S>>(alloc: Global, service: &C, replies: &mut Vec<u8>) -> Result<(), Ending>
+fn report<S, C: Reporter<S>>(
+    alloc: Global,
+    service: &C,
+    replies: &mut Vec<u8>,
+) -> Result<(), Ending>
     ensures text { OnOk result ((held : C.manner.Held) → C.holds service.now held →
         Reports C.manner held replies.old.items replies.new.items) }
     ensures err { OnErr result (replies.new.items ≡ replies.old.items) }
@@ -202,7 +290,7 @@ fn answer_lines<
     replies: &mut Vec<u8>,
 ) -> Result<(), Ending>
     requires may_flush { X.IsAlwaysCallable flush.now }
-    requires flushes { FlushesSo C.manner C.holds C.settings_of C.failures C.never_fails (X.post flush.now) }
+    requires flushes { FlushesSo C.manner C.holds C.leaves C.settings_of C.failures C.never_fails (X.post flush.now) }
     // From whatever lines are answered so far.
     ensures output { OnOk result ((settings : StoreSettings) (input : List ℕ) →
         ServesKnown C.manner settings (C.settings_of service.old) (C.holds service.old) input
@@ -233,6 +321,21 @@ fn answer_lines<
         (left lines.old (R.remaining reader.old)) →
         AnswersFront C.manner settings input (C.failures end.old) (C.failures end.new)
         (W.contents writer.old) (W.contents writer.new) }
+    ensures broken { (e : Ending) → IsErrOf result e → e ≢ Ending.OutputFault →
+        (settings : StoreSettings) (input : List ℕ) →
+        ServesKnown C.manner settings (C.settings_of service.old) (C.holds service.old) input
+        (C.failures end.old) (C.failures end.old) (W.contents writer.old)
+        (with_replies (W.contents writer.old) replies.old.items) (is_ended lines.old)
+        (left lines.old (R.remaining reader.old)) →
+        BreaksOff C.manner settings (IsLeft C.holds C.leaves service.new) input (C.failures end.old) (C.failures end.new)
+        (Appends (W.contents writer.old) (with_replies (W.contents writer.new) replies.new.items)) }
+    ensures cut { IsErrOf result Ending.OutputFault → (settings : StoreSettings) (input : List ℕ) →
+        ServesKnown C.manner settings (C.settings_of service.old) (C.holds service.old) input
+        (C.failures end.old) (C.failures end.old) (W.contents writer.old)
+        (with_replies (W.contents writer.old) replies.old.items) (is_ended lines.old)
+        (left lines.old (R.remaining reader.old)) →
+        BreaksOff C.manner settings (IsLeft C.holds C.leaves service.new) input (C.failures end.old) (C.failures end.new)
+        (AppendsFront (W.contents writer.old) (W.contents writer.new)) }
     ensures grown { Grows (W.contents writer.old) (W.contents writer.new) }
     ensures end { GoesOn C.never_fails C.failures end.old end.new }
     ensures ending { IfErr result (λ e. IsTrue (is_of_run e)) }
@@ -280,7 +383,7 @@ fn serve<
     replies: &mut Vec<u8>,
 ) -> Result<bool, Ending>
     requires may_flush { X.IsAlwaysCallable flush.now }
-    requires flushes { FlushesSo C.manner C.holds C.settings_of C.failures C.never_fails (X.post flush.now) }
+    requires flushes { FlushesSo C.manner C.holds C.leaves C.settings_of C.failures C.never_fails (X.post flush.now) }
     ensures served { IfOk result (λ more.
         (first : Option (List ℕ)) (before : ℕ) (settings : StoreSettings) (input : List ℕ) →
         ServesKnown C.manner settings (C.settings_of service.old) (C.holds service.old) input before (C.failures end.old) first
@@ -314,6 +417,21 @@ fn serve<
         (left lines.old (R.remaining reader.old)) →
         AnswersFront C.manner settings input before (C.failures end.new)
         first (W.contents writer.new) }
+    ensures broken { (e : Ending) → IsErrOf result e → e ≢ Ending.OutputFault →
+        (first : Option (List ℕ)) (before : ℕ) (settings : StoreSettings) (input : List ℕ) →
+        ServesKnown C.manner settings (C.settings_of service.old) (C.holds service.old) input before (C.failures end.old) first
+        (with_replies (W.contents writer.old) replies.old.items) (is_ended lines.old)
+        (left lines.old (R.remaining reader.old)) →
+        BreaksOff C.manner settings (IsLeft C.holds C.leaves service.new) input before (C.failures end.new)
+        (Appends first (with_replies (W.contents writer.new) replies.new.items)) }
+    ensures cut { IsErrOf result Ending.OutputFault →
+        (first : Option (List ℕ)) (before : ℕ) (settings : StoreSettings) (input : List ℕ) →
+        Grows first (W.contents writer.old) →
+        ServesKnown C.manner settings (C.settings_of service.old) (C.holds service.old) input before (C.failures end.old) first
+        (with_replies (W.contents writer.old) replies.old.items) (is_ended lines.old)
+        (left lines.old (R.remaining reader.old)) →
+        BreaksOff C.manner settings (IsLeft C.holds C.leaves service.new) input before (C.failures end.new)
+        (AppendsFront first (W.contents writer.new)) }
     ensures grown { Grows (W.contents writer.old) (W.contents writer.new) }
     ensures progress { IfOk result (λ more. more ≡ true → progress lines.old < progress lines.new) }
     ensures end { GoesOn C.never_fails C.failures end.old end.new }
@@ -380,6 +498,22 @@ fn next_line<R: Read, W: Write>(
             Ok(lines.read_on(reader, line, too_long)?)
         }
     }
+}
+
+/// Writes a reply as one line, and flushes the writer.
+///
+/// `NoMemory`, and then nothing is written; `OutputFault`, and then a front of the line is written. (Own.)
+pub fn put_reply<W: Write>(alloc: Global, writer: &mut W, reply: &Reply) -> Result<(), Ending>
+    ensures output { OnOk result
+        (Appends (W.contents writer.old) (W.contents writer.new) (line_text (reply_data reply.now))) }
+    ensures no_memory { IsErrOf result Ending.NoMemory → writer.new ≡ writer.old }
+    ensures output_fault { IsErrOf result Ending.OutputFault →
+        AppendsFront (W.contents writer.old) (W.contents writer.new) (line_text (reply_data reply.now)) }
+    ensures ending { IfErr result (λ e. (e ≡ Ending.NoMemory) ⊎ (e ≡ Ending.OutputFault)) }
+{
+    let mut line = Vec::new(alloc);
+    add_line(alloc, &mut line, reply)?;
+    write_out(writer, &mut line)
 }
 
 /// Writes out the replies that are held back where they are enough.

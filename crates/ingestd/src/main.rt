@@ -3,12 +3,14 @@
 #![tactic(auto)]
 
 use ing_program::{
-    DigestReceipt, Disk, Ending, FolderLog, FolderStore, conclude, hold_streams, start,
+    DigestReceipt, Disk, Ending, FolderLog, FolderStore, Paths, Ticks, asks_channels, conclude,
+    hold_streams, start, start_channels,
 };
 use ing_version::{asks_version, write_version};
 use std::fs::File;
 use std::io::ErrorKind;
 use std::process::ExitCode;
+use std::sync::atomic::AtomicU64;
 use std::{env, io};
 
 type Log<'a> = FolderLog<'a, HostRuntime>;
@@ -21,6 +23,27 @@ fn main(rt: HostRuntime) -> ExitCode {
             let (mut reader, mut writer) = (rt.reader(), io::writer(&rt));
             if asks_version(&words) {
                 write_version(&mut writer, "ingestd").map_err(|_| Ending::OutputFault)
+            } else if asks_channels(&words) {
+                let left = AtomicU64::new(0);
+                let clock = Ticks::new(rt.alloc(), &rt, &left, &rt, words[1].as_str());
+                start_channels::<
+                    _,
+                    _,
+                    _,
+                    _,
+                    Log<'_>,
+                    DigestReceipt,
+                    End<'_>,
+                    Disk<'_, HostRuntime>,
+                    _,
+                >(
+                    &rt,
+                    &Paths::new(&rt, &left),
+                    clock,
+                    &Disk::new(&rt),
+                    &words,
+                    &mut writer,
+                )
             } else {
                 start::<_, Log<'_>, DigestReceipt, End<'_>, Disk<'_, HostRuntime>, _, _>(
                     &rt,
@@ -41,6 +64,7 @@ fn main(rt: HostRuntime) -> ExitCode {
 fn prepared(rt: &HostRuntime) -> Result<(Vec<String>, Vec<File>), Ending> {
     match hold_streams(rt, rt.alloc()) {
         Ok(held) => Ok((words(rt)?, held)),
+        Err(error) if error.kind() == ErrorKind::OutOfMemory => Err(Ending::NoMemory),
         Err(_) => Err(Ending::OutputFault),
     }
 }

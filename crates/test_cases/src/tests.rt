@@ -1,6 +1,7 @@
 //! What no file can say: readers, writers and ends that fail, readers and writers that watch one another, settings files,
 //! lines of 16 MiB, and a refused allocation.
 mod aside;
+mod channels;
 mod faults;
 mod flushes;
 mod folders;

@@ -20,8 +20,8 @@ const CHECKPOINT: &str = "{\"cmd\":\"checkpoint\"}\n";
 /// A folder of one test alone, and a settings file.
 #[derive(Drop)]
 pub struct Places {
-    folder: String,
-    settings: String,
+    pub folder: String,
+    pub settings: String,
 }
 
 /// Those of this name, in the folder for temporary files: the folder is not there yet, and the settings say nothing.

@@ -65,3 +65,14 @@ pub returns-in_err-serve-clause-output_fault : goal.returns-in_err-serve-clause-
 returns-in_err-serve-clause-output_fault g c = λ is settings input known.
     let p = err_from_is_err_and c.from_residual.result c.from_residual.ensures.1 in
     c.in_err-serve.ensures.output_fault (ap (λ e. Err e) (same_fault _ _ _ _ p.1 p.2 is)) (g.W.Write.contents c.args.writer.now) (g.C.Service.failures c.args.end.now) settings input c.loop-line.invariant.grown (c.loop-line.invariant.served settings input known)
+
+-- what is left of a channel
+pub returns-in_err-serve-clause-broken : goal.returns-in_err-serve-clause-broken
+returns-in_err-serve-clause-broken g c = λ e is other settings input known.
+    let p = err_from_is_err_and c.from_residual.result c.from_residual.ensures.1 in
+    c.in_err-serve.ensures.broken e (ap (λ x. Err x) (same_fault _ _ _ _ p.1 p.2 is)) other (g.W.Write.contents c.args.writer.now) (g.C.Service.failures c.args.end.now) settings input (c.loop-line.invariant.served settings input known)
+
+pub returns-in_err-serve-clause-cut : goal.returns-in_err-serve-clause-cut
+returns-in_err-serve-clause-cut g c = λ is settings input known.
+    let p = err_from_is_err_and c.from_residual.result c.from_residual.ensures.1 in
+    c.in_err-serve.ensures.cut (ap (λ e. Err e) (same_fault _ _ _ _ p.1 p.2 is)) (g.W.Write.contents c.args.writer.now) (g.C.Service.failures c.args.end.now) settings input c.loop-line.invariant.grown (c.loop-line.invariant.served settings input known)

@@ -1,12 +1,12 @@
-use Rattle.std.proofs.Common.{◌≡◌, ◌∙◌, ap, arith, drop, subst, sym, Err}
+use Rattle.std.proofs.Common.{◌≡◌, ◌∙◌, ap, arith, drop, inl, subst, sym, Err}
 use Rattle.std.specs.Io.KnownBytes.{prepend_known}
 use Rattle.std.proofs.lemmas.Result.{err_from_is_err_and}
 use Rattle.ing_session.specs.Lines.{TakesLine}
-use Rattle.ing_session.specs.Runs.{AnswersAhead, ServesKnown, with_replies}
+use Rattle.ing_session.specs.Runs.{AnswersAhead, IsLeft, ServesKnown, with_replies}
 use Rattle.ing_session.specs.Unread.{left, is_ended, unread}
 use Rattle.ing_session.specs.declared.lines.NextLine.TheVariants.{Line}
-use Rattle.ing_session.proofs.EndingsLaws.{no_output, no_output_read, same_fault}
-use Rattle.ing_session.proofs.RunsLaws.{breaks, fails, serves_lines, serves_long, serves_end, stops, held_same}
+use Rattle.ing_session.proofs.EndingsLaws.{no_output, no_output_on, no_output_read, same_fault}
+use Rattle.ing_session.proofs.RunsLaws.{breaks, breaks_cut, fails, serves_lines, serves_long, serves_end, stops, stops_off, held_same}
 use Rattle.ing_session.proofs.transport.serve.Goals as goal
 
 pub returns-in_err-next_line-clause-no_memory : goal.returns-in_err-next_line-clause-no_memory
@@ -98,3 +98,48 @@ returns-in_err-next_line-clause-input_fault g c = λ is first start settings inp
     let read = c.in_err-next_line.ensures.fault (ap (λ e. Err e) fault) in
     fails g.C.Service.manner settings (g.C.Service.settings_of c.args.service.now) (g.C.Service.holds c.args.service.now) input start failures failures first _ (is_ended c.args.lines.now) (left c.args.lines.now (remaining c.args.reader.now)) (remaining c.next_line.new.reader) _ read.1 serves read.0 read.2 read.3
     (c.in_err-next_line.ensures.kept (no_output_read _ fault))
+
+-- ---- what is left of a channel
+
+pub returns-in_err-next_line-clause-broken : goal.returns-in_err-next_line-clause-broken
+returns-in_err-next_line-clause-broken g c = λ e is other first start settings input serves.
+    let service = c.args.service.now in
+    let holds = g.C.Service.holds in
+    let failures = g.C.Service.failures in
+    let p = err_from_is_err_and c.from_residual.result c.from_residual.ensures.1 in
+    stops_off g.C.Service.manner settings (g.C.Service.settings_of service) (holds service) input start (failures c.args.end.now) (failures c.args.end.now) first _ (is_ended c.args.lines.now)
+    (IsLeft holds g.C.Service.leaves service) (left c.args.lines.now (g.R.Read.remaining c.args.reader.now)) _ serves
+    (c.in_err-next_line.ensures.kept (no_output_on _ _ _ e p.1 p.2 is other)) (omega arith) (λ held is_held. inl is_held)
+
+pub returns-in_err-taken-in-Line-clause-broken : goal.returns-in_err-taken-in-Line-clause-broken
+returns-in_err-taken-in-Line-clause-broken g c = λ e is other first start settings input serves.
+    let contents = g.W.Write.contents in
+    let service = c.args.service.now in
+    let holds = g.C.Service.holds in
+    let failures = g.C.Service.failures in
+    stops_off g.C.Service.manner settings (g.C.Service.settings_of service) (holds service) input start (failures c.args.end.now) (failures c.answer.new.end) first _ (is_ended c.args.lines.now)
+    (IsLeft holds g.C.Service.leaves c.answer.new.service) (left c.args.lines.now (g.R.Read.remaining c.args.reader.now)) _ serves
+    (held_same _ (contents c.next_line.new.writer) c.next_line.new.replies.items c.answer.new.replies.items c.in_ok-next_line.ensures.held c.in_err-taken-in-Line.ensures.err) c.in_err-taken-in-Line.ensures.end.0
+    c.in_err-taken-in-Line.ensures.left
+
+pub returns-in_err-refuse_long-in-TooLong-clause-broken : goal.returns-in_err-refuse_long-in-TooLong-clause-broken
+returns-in_err-refuse_long-in-TooLong-clause-broken g c = λ e is other first start settings input serves.
+    let contents = g.W.Write.contents in
+    let service = c.args.service.now in
+    let holds = g.C.Service.holds in
+    let failures = g.C.Service.failures in
+    stops_off g.C.Service.manner settings (g.C.Service.settings_of service) (holds service) input start (failures c.args.end.now) (failures c.args.end.now) first _ (is_ended c.args.lines.now)
+    (IsLeft holds g.C.Service.leaves service) (left c.args.lines.now (g.R.Read.remaining c.args.reader.now)) _ serves
+    (held_same _ (contents c.next_line.new.writer) c.next_line.new.replies.items c.refuse_long.new.replies.items c.in_ok-next_line.ensures.held c.in_err-refuse_long-in-TooLong.ensures.err) (omega arith)
+    (λ held is_held. inl is_held)
+
+pub returns-in_err-next_line-clause-cut : goal.returns-in_err-next_line-clause-cut
+returns-in_err-next_line-clause-cut g c = λ is first start settings input grown serves.
+    let contents = g.W.Write.contents in
+    let service = c.args.service.now in
+    let holds = g.C.Service.holds in
+    let p = err_from_is_err_and c.from_residual.result c.from_residual.ensures.1 in
+    breaks_cut g.C.Service.manner settings (g.C.Service.settings_of service) (holds service) (IsLeft holds g.C.Service.leaves service) input start (g.C.Service.failures c.args.end.now) first (contents c.args.writer.now) (contents c.next_line.new.writer) c.args.replies.now.items
+    (is_ended c.args.lines.now) (left c.args.lines.now (g.R.Read.remaining c.args.reader.now)) serves grown
+    (c.in_err-next_line.ensures.output_fault (ap (λ e. Err e) (same_fault _ _ _ _ p.1 p.2 is)))
+    (λ held is_held. inl is_held)

@@ -12,6 +12,8 @@ copy c = record {
   shards = c.self.inside.shards;
   flushers = c.self.inside.flushers;
   flush_queue_length = c.self.inside.flush_queue_length;
+  flush_check_period = c.self.inside.flush_check_period;
+  checkpoint_log_size = c.self.inside.checkpoint_log_size;
   rules = c.self.inside.rules;
   tenants = from_entries (held_tenants c.in_ok-clone.field-0.entries);
 }
@@ -24,6 +26,8 @@ same c =
       shards = c.self.inside.shards;
       flushers = c.self.inside.flushers;
       flush_queue_length = c.self.inside.flush_queue_length;
+      flush_check_period = c.self.inside.flush_check_period;
+      checkpoint_log_size = c.self.inside.checkpoint_log_size;
       rules = c.self.inside.rules;
       tenants = tenants i;
     }

@@ -4,7 +4,7 @@ use Rattle.ing_session.specs.Replies.{report_data}
 use Rattle.ing_service.specs.ByShards.{fronts_of, reports_of}
 use Rattle.ing_service.specs.Held.{Held, shard_held}
 use Rattle.ing_service.proofs.WhoseLaws.{how_many}
-use Rattle.ing_service.proofs.owned.OwnShardsService.report.Goals as goal
+use Rattle.ing_service.proofs.owned.OwnShardsReporter.report.Goals as goal
 
 pub returns : goal.returns
 returns g c = λ held is.

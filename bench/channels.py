@@ -1,0 +1,139 @@
+#!/usr/bin/env python3
+"""What channels side by side come to over a folder: entries a second, and how long a reply takes while others push.
+
+    python3 bench/channels.py PROGRAM [--pushes N] [--parent FOLDER]
+
+Pushes of one entry and of 100 entries of 120 bytes, N together (20,000; of 100 entries a twentieth of that), to 1,000 streams in turn,
+come from files through 1, 2, 4 and 8 channels, over 1 and 4 shards; beside them the same lines on standard input, where lines that are
+at hand share a sync. Every entry has to be accepted, or it stops. Then one client pushes a quarter of N, one
+entry after another through pipes, and waits for each reply, while 0, 1, 3 and 7 channels push N each from files. Prints two tables; a
+start and an end are in the figures of the first.
+"""
+import argparse
+import json
+import pathlib
+import shutil
+import statistics
+import subprocess
+import sys
+import tempfile
+import time
+
+TOP = pathlib.Path(__file__).resolve().parent.parent
+sys.path += [str(TOP / "channels"), str(TOP / "kills")]
+from clients import FILES, WHOLE, Client, run  # noqa: E402
+from kills import Folder  # noqa: E402
+
+START = 10**18
+SHARDS, CHANNELS = [1, 4], [1, 2, 4, 8]
+
+
+def push_line(number, entries):
+    values = [[str(START + number * 10**6 + place), f"{place:0120}"] for place in range(entries)]
+    stream = {"stream": {"app": "web", "pod": f"p{number % 1000}"}, "values": values}
+    return json.dumps({"cmd": "push", "tenant": "t", "now": str(START), "streams": [stream]})
+
+
+class Timed(Client):
+    """Waits for each reply, and ends the run behind the last. `seconds` has how long each took."""
+
+    def converse(self, given, told):
+        self.seconds = []
+        for line in self.lines:
+            begun = time.perf_counter()
+            turns = self.give(given, [line])
+            self.hear(told, turns)
+            self.seconds.append(time.perf_counter() - begun)
+        self.is_alone = self.process.poll() is not None
+        self.process.kill()
+
+
+def new_folder(parent, shards):
+    folder = Folder(parent / "run", {"shards": shards, "max_streams_per_tenant": 100_000})
+    folder.make()
+    return folder
+
+
+def is_whole(report, count):
+    return sum(shard["accepted"] for shard in report) == count
+
+
+def seconds_of_input(options, parent, shards, lines, count):
+    """The same lines on standard input."""
+    folder = new_folder(parent, shards)
+    (parent / "run" / "input").write_text("".join(line + "\n" for line in lines))
+    with open(parent / "run" / "input", "rb") as given:
+        begun = time.monotonic()
+        ran = subprocess.run(folder.words(options.program), stdin=given, capture_output=True, check=True)
+        seconds = time.monotonic() - begun
+    assert is_whole(json.loads(ran.stdout.splitlines()[-1])["report"], count), "not all is accepted"
+    shutil.rmtree(folder.place)
+    return seconds
+
+
+def seconds_of_channels(options, parent, shards, lines, count, channels):
+    """Lines that come through so many channels."""
+    folder = new_folder(parent, shards)
+    clients = [Client(parent / "run" / str(number), lines[number::channels], FILES) for number in range(channels)]
+    for client in clients:
+        client.make()
+    begun = time.monotonic()
+    status, output, error = run(options.program, folder, clients, patience=600)
+    seconds = time.monotonic() - begun
+    assert status == 0 and is_whole(json.loads(output)["report"], count), f"the run ended with {status}: {output}{error}"
+    shutil.rmtree(folder.place)
+    return seconds
+
+
+def seconds_of_replies(options, parent, shards, beside):
+    """How long each reply takes on one channel, while so many others push from files."""
+    folder = new_folder(parent, shards)
+    pushes = options.pushes // 4
+    timed = Timed(parent / "run" / "timed", [push_line(number, 1) for number in range(pushes)], WHOLE)
+    others = [Client(parent / "run" / str(place), [push_line(number, 1) for number in range(options.pushes)], FILES) for place in range(beside)]
+    for client in [timed, *others]:
+        client.make()
+    run(options.program, folder, [timed, *others], beside=lambda process: setattr(timed, "process", process), patience=600)
+    assert len(timed.seconds) == pushes and not timed.is_alone, "not all is answered"
+    assert all(other.said[-1].reply is None for other in others), "the others had ended before"
+    shutil.rmtree(folder.place)
+    return sorted(timed.seconds)
+
+
+def print_rates(options, parent):
+    print("| Shards | entries a push | standard input | " + " | ".join(f"{count} channel{'s' * (count > 1)}" for count in CHANNELS) + " |")
+    print("|---" * (len(CHANNELS) + 3) + "|")
+    for shards in SHARDS:
+        for entries, pushes in [(1, options.pushes), (100, options.pushes // 20)]:
+            lines, count = [push_line(number, entries) for number in range(pushes)], entries * pushes
+            seconds = [seconds_of_input(options, parent, shards, lines, count)]
+            seconds += [seconds_of_channels(options, parent, shards, lines, count, channels) for channels in CHANNELS]
+            print(f"| {shards} | {entries} | " + " | ".join(f"{count / each:,.0f}" for each in seconds) + " |", flush=True)
+
+
+def print_replies(options, parent):
+    print("| Shards | channels that push beside | p50 | p99 |")
+    print("|---|---|---|---|")
+    for shards in SHARDS:
+        for beside in [0, 1, 3, 7]:
+            seconds = seconds_of_replies(options, parent, shards, beside)
+            p50, p99 = statistics.median(seconds), seconds[len(seconds) * 99 // 100]
+            print(f"| {shards} | {beside} | {p50 * 1000:.2f} | {p99 * 1000:.2f} |", flush=True)
+
+
+def main():
+    parser = argparse.ArgumentParser(description=__doc__.split("\n")[0])
+    parser.add_argument("program", type=lambda path: str(pathlib.Path(path).resolve()))
+    parser.add_argument("--pushes", type=int, default=20_000)
+    parser.add_argument("--parent", help="where the folder is made")
+    options = parser.parse_args()
+    parent = pathlib.Path(tempfile.mkdtemp(prefix="channels-", dir=options.parent))
+    print("Entries a second:\n")
+    print_rates(options, parent)
+    print("\nMilliseconds of a reply to a push of one entry:\n")
+    print_replies(options, parent)
+    shutil.rmtree(parent)
+
+
+if __name__ == "__main__":
+    main()

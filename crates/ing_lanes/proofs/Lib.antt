@@ -1,0 +1,4 @@
+mod CountLaws
+mod HeldLaws
+mod LedgerLaws
+mod ServedLaws

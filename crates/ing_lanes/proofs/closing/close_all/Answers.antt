@@ -1,0 +1,30 @@
+use Rattle.std.proofs.Common.{◌≡◌, ◌∙◌, ℕ, Some, List, ap, length, slice_get, sym, vec_len}
+use Rattle.std.proofs.lemmas.List.Elements.{All-weaker}
+use Rattle.ing_tally.specs.Books.{ShareState}
+use Rattle.ing_tally.specs.declared.report.ShardReport.{ShardReport}
+use Rattle.ing_node.specs.declared.report.Report.{Report}
+use Rattle.ing_node.specs.Names.{IsTallyOf}
+use Rattle.ing_lanes.proofs.CountLaws.{stored_beside}
+use Rattle.ing_lanes.proofs.closing.close_all.Goals as goal
+
+-- what the flushers counted is what is stored
+pub returns-in-Ok-clause-closed : goal.returns-in-Ok-clause-closed
+returns-in-Ok-clause-closed g c =
+    let shards = c.into_report.result.shards in
+    let same = c.into_report.ensures in
+    let closed = λ (i : ℕ) (r : ShardReport) (at : slice_get shards.items i ≡ Some r). c.in-Ok.ensures.closed i r (ap (λ (x : Report). slice_get x.shards.items i) (sym same) ∙ at) in
+    let all : length shards.items ≡ g.N.NodeName.settings.shards = sym shards.ok.0 ∙ ap (λ (x : Report). vec_len x.shards) same ∙ c.in-Ok.ensures.all.0 in
+    record {
+      all = all;
+      accepted = λ i r at. (closed i r at).accepted;
+      recovered = λ i r at. (closed i r at).recovered_are;
+      whole = λ i r at. (closed i r at).all;
+      stored =
+          stored_beside g.N.NodeName.settings.shards g.N.NodeName.earlier.stored c.args.tallies.items shards.items all c.is_of_each.ensures.1
+          (All-weaker (IsTallyOf g.N.NodeName.settings.shards g.N.NodeName.books) (λ (t : List ShareState). length t ≡ g.N.NodeName.settings.shards) (λ t own. own.0) c.args.tallies.items c.requires)
+          (λ i r at. (closed i r at).stored);
+    }
+
+-- it is not closed for its reason
+pub returns-in-Err-clause-refused : goal.returns-in-Err-clause-refused
+returns-in-Err-clause-refused g c = (c.in-Err.fault.why, c.in-Err.ensures.why, c.not_closed.ensures)

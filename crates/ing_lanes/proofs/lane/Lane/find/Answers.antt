@@ -1,0 +1,49 @@
+use Rattle.std.proofs.Common.{◌≤◌, refl, subst, sym, ◌∙◌}
+use Rattle.std.proofs.lemmas.Result.{IfOk-weaker}
+use Rattle.ing_node.specs.declared.query.Answer.{Answer}
+use Rattle.ing_session.proofs.CausesLaws.{same_count}
+use Rattle.ing_lanes.specs.ByLane.{Given, Failed}
+use Rattle.ing_lanes.proofs.LedgerLaws.{failed_causes}
+use Rattle.ing_lanes.proofs.lane.Lane.find.Goals as goal
+
+-- entries are given
+pub returns-in-Ok-clause-came : goal.returns-in-Ok-clause-came
+returns-in-Ok-clause-came g c = λ spelt usable told same.
+    let answer = c.in-Ok.answer in
+    let said = c.in-Ok.ensures in
+    record {
+      answer = Given answer.entries.items answer.fronts.items;
+      may_be = record {
+        reads = record { ms = c.args.selector.now; spelt = spelt; usable = usable };
+        selected = said.selected;
+        within = said.within;
+        in_order = said.in_order;
+        most = said.most;
+        once = said.once;
+        all = sym answer.fronts.ok.0 ∙ said.fronts.0;
+        wanted = λ honest. said.found honest;
+        no_less = λ i front at. subst (λ n. n ≤ front) (sym (same i)) (said.fronts.1 i front at);
+      };
+      told = refl;
+      causes = same_count _ _ said.count;
+    }
+
+-- it is not answered
+pub returns-in-Err-clause-came : goal.returns-in-Err-clause-came
+returns-in-Err-clause-came g c = λ spelt usable.
+    IfOk-weaker c.answer_fault.result _ _
+    (λ reply made told same. record {
+      answer = Failed c.in-Err.fault;
+      may_be = record {
+        reads = record { ms = c.args.selector.now; spelt = spelt; usable = usable };
+        passed = c.in-Err.ensures.refused;
+        fine = c.in-Err.ensures.honest;
+      };
+      told = made;
+      causes = failed_causes Answer _ _ c.in-Err.fault c.in-Err.ensures.count;
+    })
+    c.answer_fault.ensures
+
+-- the end has not unlearnt a failure
+pub returns-in-Err-clause-end : goal.returns-in-Err-clause-end
+returns-in-Err-clause-end g c = ((failed_causes Answer _ _ c.in-Err.fault c.in-Err.ensures.count).0, c.in-Err.ensures.sure)

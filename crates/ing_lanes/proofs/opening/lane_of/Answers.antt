@@ -1,0 +1,12 @@
+use Rattle.std.proofs.Common.{arith, sym}
+use Rattle.ing_lanes.proofs.LedgerLaws.{none_told}
+use Rattle.ing_lanes.proofs.opening.lane_of.Goals as goal
+
+-- nothing is told, and nothing is counted
+pub returns-in-Ok-clause-nothing : goal.returns-in-Ok-clause-nothing
+returns-in-Ok-clause-nothing g c = record {
+  told = λ i. sym (none_told c.in_ok-pusher.pusher.told c.in_ok-pusher.ensures.zero i);
+  chunks = omega arith;
+  none = λ is. c.in-Ok.ensures.none;
+  board = λ i. (omega arith, omega arith);
+}

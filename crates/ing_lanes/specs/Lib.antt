@@ -1,0 +1,3 @@
+pub mod ByLane
+pub mod Counted
+pub mod Served

@@ -1,0 +1,106 @@
+-- What several channels came to, served side by side through the same locks, and what was reported of all.
+use Rattle.std.specs.Prelude.{◌≡◌, ◌⊎◌, ℕ, ◌+◌, ◌≤◌, Bool, false, true, filter, List, [], ◌∷◌, Option, Some, IfSome, Result, Ok, Err, length, slice_get, sum_by, ⊤}
+use Rattle.ing_limits.specs.Settings.{StoreSettings}
+use Rattle.ing_refusals.specs.declared.refusal.Refusal.{Refusal}
+use Rattle.ing_refusals.specs.declared.refusal.Refusal.TheVariants as refusal
+use Rattle.ing_tally.specs.Books.{ShareState, amount_of}
+use Rattle.ing_node.specs.Tallies.{amount_at}
+use Rattle.ing_node.specs.Worker.{Worker}
+use Rattle.ing_node.specs.NodeFault.{NodeFault}
+use Rattle.ing_node.specs.NodeFaults.{refusal_of}
+use Rattle.ing_node.specs.Diaries.{PusherState}
+use Rattle.ing_node.specs.Earlier.{EarlierState}
+use Rattle.ing_node.specs.Refusals.{IsShareRefusal}
+use Rattle.ing_node.specs.Reports.{close_refusal_of}
+use Rattle.ing_node.specs.Reports as closing
+use Rattle.ing_node.specs.declared.report.CloseRefusal.{CloseRefusal}
+use Rattle.ing_tally.specs.declared.report.ShardReport.{ShardReport}
+use Rattle.ing_session.specs.declared.ending.Ending.{Ending}
+use Rattle.ing_session.specs.Fronts.{AppendsFront}
+use Rattle.ing_session.specs.Runs.{AnswersLines, BreaksOff}
+use Rattle.ing_lanes.specs.declared.line.Line.{Line}
+use Rattle.ing_lanes.specs.ByLane.{Held, Stays, Told, by_lane, told_by}
+use Rattle.ing_lanes.specs.Counted.{Rises, counted_by}
+
+-- What a channel came to: how many entries of each shard it was told accepted, and how many its flusher counted as stored.
+pub record Account : Type 0 where
+  pub told : Told
+  pub counted : ℕ
+
+-- The answers to these lines told just as many, and so many chunks stored: for each of them an entry at least is counted, and none where
+-- no chunk was.
+pub record AreTold (account : Account) (held : Held) : Type 0 where
+  pub told : Stays account.told held.told
+  pub chunks : held.chunks ≤ account.counted
+  pub none : held.chunks ≡ 0 → account.counted ≡ 0
+
+-- they told no more
+pub record AreToldAtMost (account : Account) (held : Held) : Type 0 where
+  pub told : Rises held.told account.told
+  pub chunks : held.chunks ≤ account.counted
+
+-- what is written to a channel for what was read of it, by how it ended: all lines are answered, or a front of the answers to the first
+-- ones is written
+abbrev pub IsServed : Type 0 → Bool → StoreSettings → Option (List ℕ) → ℕ → ℕ → Option (List ℕ) → Option (List ℕ) → Account → Result (Unit {0}) Ending → Type 0
+IsServed honest logs settings known before after old new account (Ok done) =
+    IfSome known (λ input. AnswersLines (by_lane honest logs) settings (AreTold account) input before after old new)
+IsServed honest logs settings known before after old new account (Err e) =
+    IfSome known (λ input. BreaksOff (by_lane honest logs) settings (AreToldAtMost account) input before after (AppendsFront old new))
+
+-- channel by channel
+abbrev pub AreServed : {L : Type 0} → (L → L → Account → Type 0) → List L → List L → List Account → Type 0
+AreServed served [] [] [] = ⊤
+AreServed served (old ∷ olds) (new ∷ news) (account ∷ accounts) = served old new account × AreServed served olds news accounts
+AreServed served [] [] (account ∷ accounts) = ⊥
+AreServed served [] (new ∷ news) accounts = ⊥
+AreServed served (old ∷ olds) [] accounts = ⊥
+AreServed served (old ∷ olds) (new ∷ news) [] = ⊥
+
+-- it broke
+abbrev pub has_broken : Result (Unit {0}) Ending → Bool
+has_broken (Ok done) = false
+has_broken (Err e) = true
+
+-- how many of these channels broke
+abbrev pub broken_in : {I O S R : Type 0} → List (Line I O S R) → ℕ
+broken_in lines = length (filter (λ line. has_broken line.ended) lines)
+
+-- how many entries are reported stored
+abbrev pub stored_in : List ShardReport → ℕ
+stored_in reports = sum_by (λ r. r.stored) reports
+
+-- The ledger: of each shard as many entries are reported accepted as all channels were told together, and recovered as it began with, and
+-- each of them is stored or kept. Stored are those that were at the beginning, and those that the channels' flushers counted.
+pub record AddsUp (shards : ℕ) (earlier : EarlierState) (accounts : List Account) (reports : List ShardReport) : Type 0 where
+  pub all : length reports ≡ shards
+  pub accepted : (i : ℕ) (r : ShardReport) → slice_get reports i ≡ Some r → r.accepted ≡ sum_by (λ t. t.told i) accounts
+  pub recovered : (i : ℕ) (r : ShardReport) → slice_get reports i ≡ Some r → r.recovered ≡ amount_at i earlier.told
+  pub whole : (i : ℕ) (r : ShardReport) → slice_get reports i ≡ Some r → r.accepted + r.recovered ≡ r.stored + r.kept
+  pub stored : stored_in reports ≡ amount_of earlier.stored + sum_by (λ t. t.counted) accounts
+
+-- why it is not closed
+abbrev pub HasReason : Refusal → Type 0
+HasReason why = (c : CloseRefusal) × closing.HasReason c × (why ≡ close_refusal_of c)
+
+-- why nothing is reported: memory ran out, a share was not had, or it is not closed
+abbrev pub IsLanesRefusal : ℕ → Refusal → Type 0
+IsLanesRefusal shards why = (why ≡ refusal.NoMemory) ⊎ ((fault : NodeFault) × IsShareRefusal shards fault × (why ≡ refusal_of fault)) ⊎ HasReason why
+
+-- ---- for private clauses
+
+-- what a channel came to, by its pusher and its flushers
+abbrev pub account_of : {S G R : Type 0} → PusherState → List (Worker S G R) → Account
+account_of pusher workers = record { told = told_by pusher; counted = counted_by workers }
+
+-- so many were told and counted as these pushers and tallies have, together
+pub record Parts (accounts : List Account) (pushers : List PusherState) (tallies : List (List ShareState)) : Type 0 where
+  pub told : (i : ℕ) → sum_by (λ t. t.told i) accounts ≡ sum_by (λ p. amount_at i p.told) pushers
+  pub counted : sum_by (λ t. t.counted) accounts ≡ sum_by amount_of tallies
+
+-- the ledger, of what pushers were told and flushers counted
+pub record AddsUpWith (shards : ℕ) (earlier : EarlierState) (told : Told) (counted : ℕ) (reports : List ShardReport) : Type 0 where
+  pub all : length reports ≡ shards
+  pub accepted : (i : ℕ) (r : ShardReport) → slice_get reports i ≡ Some r → r.accepted ≡ told i
+  pub recovered : (i : ℕ) (r : ShardReport) → slice_get reports i ≡ Some r → r.recovered ≡ amount_at i earlier.told
+  pub whole : (i : ℕ) (r : ShardReport) → slice_get reports i ≡ Some r → r.accepted + r.recovered ≡ r.stored + r.kept
+  pub stored : stored_in reports ≡ amount_of earlier.stored + counted

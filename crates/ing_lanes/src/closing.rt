@@ -1,0 +1,147 @@
+//! Channels after they were served.
+ghost use Rattle.std.specs.Prelude.{◌≡◌, ◌+◌, ◌≤◌, ℕ, All, IfErr, IfOk, map, sum_by, vec_capacity, vec_len};
+ghost use Rattle.ing_tally.specs.Books.{amount_of};
+ghost use Rattle.ing_node.specs.Tallies.{amount_at};
+ghost use Rattle.ing_lanes.specs.Counted.{counted_by};
+ghost use Rattle.ing_lanes.specs.Served.{AddsUpWith, HasReason};
+ghost use Rattle.ing_node.specs.Names.{IsTallyOf};
+ghost use Rattle.ing_node.specs.Reports.{close_refusal_of};
+ghost use Rattle.ing_node.specs.Reports as closing;
+
+use crate::channel::Channel;
+use crate::line::Line;
+use ing_node::{CloseFault, Earlier, FlusherTally, Ingester, NoStore, NodeName, Pusher};
+use ing_refusals::Refusal;
+use ing_store::{Receipt, StoreEnd};
+use ing_tally::ShardReport;
+use ing_wal::LogDisk;
+use std::alloc::{AllocError, Global};
+use std::io::{Read, Write};
+use std::sync::Wait;
+
+/// The lines of channels, and, not in their order, what they were told accepted and what their flushers have stored. It cannot be dropped.
+pub(crate) struct Parted<N: NodeName, I: Read, O: Write, S: StoreEnd> {
+    pub(crate) lines: Vec<Line<I, O, S>>,
+    pub(crate) pushers: Vec<Pusher<N>>,
+    pub(crate) tallies: Vec<FlusherTally>,
+}
+
+impl<N: NodeName, I: Read + Drop, O: Write + Drop, S: StoreEnd + Drop> Parted<N, I, O, S> {
+    /// Room for so many.
+    pub(crate) fn new(alloc: Global, count: usize) -> Result<Parted<N, I, O, S>, AllocError>
+        ensures lines { IfOk result (λ room. (vec_len room.lines ≡ 0) × (count ≤ vec_capacity room.lines)) }
+        ensures pushers { IfOk result (λ room. (vec_len room.pushers ≡ 0) × (count ≤ vec_capacity room.pushers)) }
+        ensures tallies { IfOk result (λ room. (vec_len room.tallies ≡ 0) × (count ≤ vec_capacity room.tallies)) }
+    {
+        let lines = Vec::with_capacity(alloc, count)?;
+        let pushers = Vec::with_capacity(alloc, count)?;
+        match Vec::with_capacity(alloc, count) {
+            Ok(tallies) => Ok(Parted {
+                lines,
+                pushers,
+                tallies,
+            }),
+            Err(error) => {
+                pushers.destroy_empty();
+                Err(error)
+            }
+        }
+    }
+
+    /// Lets the room go, of which none was taken.
+    pub(crate) fn let_go(self)
+        requires { (vec_len self.pushers ≡ 0) × (vec_len self.tallies ≡ 0) }
+    {
+        let Parted {
+            lines: _,
+            pushers,
+            tallies,
+        } = self;
+        pushers.destroy_empty();
+        tallies.destroy_empty();
+    }
+}
+
+/// Takes channels apart, into room for them. All else is let go.
+pub(crate) fn part_all<
+    'r,
+    N: NodeName,
+    I: Read + Drop,
+    O: Write + Drop,
+    D: LogDisk + Drop,
+    R: Receipt,
+    F: StoreEnd<Receipt = R> + Drop,
+    S: StoreEnd<Receipt = R> + Drop,
+    W: Wait,
+>(
+    mut channels: Vec<Channel<'r, N, I, O, D, R, F, S, W>>,
+    room: Parted<N, I, O, S>,
+) -> Parted<N, I, O, S>
+    requires lines { (vec_len room.lines ≡ 0) × (vec_len channels ≤ vec_capacity room.lines) }
+    requires pushers { (vec_len room.pushers ≡ 0) × (vec_len channels ≤ vec_capacity room.pushers) }
+    requires tallies { (vec_len room.tallies ≡ 0) × (vec_len channels ≤ vec_capacity room.tallies) }
+    ensures lines { result.lines.items ≡ map (λ c. c.line) channels.entry.items }
+    ensures told { (i : ℕ) → sum_by (λ p. amount_at i p.told) result.pushers.items
+        ≡ sum_by (λ c. amount_at i c.lane.pusher.told) channels.entry.items }
+    ensures own { All (IsTallyOf N.settings.shards N.books) result.tallies.items }
+    ensures counted { sum_by amount_of result.tallies.items
+        ≡ sum_by (λ c. counted_by c.lane.workers.items) channels.entry.items }
+{
+    let Parted {
+        mut lines,
+        mut pushers,
+        mut tallies,
+    } = room;
+    while let Some(channel) = channels.pop() {
+        let Channel { line, lane } = channel;
+        let (pusher, tally) = lane.into_parts();
+        lines.push_reserved(line);
+        pushers.push_reserved(pusher);
+        tallies.push_reserved(tally);
+    }
+    channels.destroy_empty();
+    // The last one came first.
+    lines.reverse();
+    Parted {
+        lines,
+        pushers,
+        tallies,
+    }
+}
+
+/// Closes an ingester with what channels were told and what their flushers have stored, all of it. As `Ingester::close`; then all is let go.
+pub(crate) fn close_all<N: NodeName, D: LogDisk + Drop, R: Receipt>(
+    alloc: Global,
+    ingester: Ingester<N, D, R>,
+    earlier: Earlier<N>,
+    pushers: Vec<Pusher<N>>,
+    tallies: Vec<FlusherTally>,
+) -> Result<Vec<ShardReport>, Refusal>
+    requires { All (IsTallyOf N.settings.shards N.books) tallies.items }
+    ensures closed { IfOk result (λ reports. AddsUpWith N.settings.shards N.earlier
+        (λ i. sum_by (λ p. amount_at i p.told) pushers.items) (sum_by amount_of tallies.items) reports.items) }
+    ensures refused { IfErr result HasReason }
+{
+    earlier.is_of_each();
+    // No diary is kept, so that nothing is read back.
+    let mut end: NoStore<R> = NoStore::new();
+    match ingester.close(alloc, &mut end, earlier, pushers, tallies) {
+        Ok(closed) => Ok(closed.into_report().shards),
+        Err(fault) => Err(not_closed(fault)),
+    }
+}
+
+/// Why an ingester was not closed. All is let go.
+fn not_closed<N: NodeName, D: LogDisk + Drop, R: Receipt>(fault: CloseFault<N, D, R>) -> Refusal
+    ensures { result ≡ close_refusal_of fault.why }
+{
+    let CloseFault {
+        why,
+        ingester,
+        earlier,
+        pushers,
+        tallies,
+    } = fault;
+    ingester.abandon(earlier, pushers, tallies);
+    why.refusal()
+}

@@ -1,0 +1,18 @@
+//! Many writers in one run: channels that are served side by side, each in a thread of its own, through the locks of one ingester.
+//!
+//! A channel is what is read and what is written (`Line`). Its commands are obeyed by a `Lane`, with a pusher, a reader of counts, a pass
+//! of the flush queue and a flusher of its own; the session reads and writes the lines (`ing_session`). `run_lanes` serves all channels
+//! until each has ended, and closes the ingester: of each shard as many entries were accepted as all channels were told together. One
+//! input alone has shards without locks (`ing_service`).
+#![tactic(auto)]
+
+mod channel;
+mod closing;
+mod lane;
+mod line;
+mod opening;
+mod running;
+mod shared;
+
+pub use line::{Line, Opens, StandOpen};
+pub use running::{Ended, run_lanes};

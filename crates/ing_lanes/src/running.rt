@@ -1,0 +1,201 @@
+//! All channels, side by side, from shards to a report.
+ghost use Rattle.std.specs.Prelude.{◌≡◌, ℕ, All, IfErr, IfOk, List, false, reverse, sum_by, vec_len};
+ghost use Rattle.std.specs.List.{AllByRecursion, AllZip};
+ghost use Rattle.ing_node.specs.Begun.{HasTornLog};
+ghost use Rattle.ing_lanes.specs.ByLane.{nothing_held};
+ghost use Rattle.ing_lanes.specs.Counted.{IsHeld, counted_by};
+ghost use Rattle.ing_lanes.specs.Served.{Account, AddsUp, AreServed, IsLanesRefusal, IsServed, Parts, account_of, broken_in};
+ghost use Rattle.ing_node.specs.Earlier.{earlier_of};
+ghost use Rattle.ing_node.specs.Names.{AreNamed, IsTallyOf};
+
+use crate::channel::Channel;
+use crate::closing::{Parted, close_all, part_all};
+use crate::line::{Line, Opens};
+use crate::opening::channels_of;
+use crate::shared::Shared;
+use ing_node::{Flushing, Ingester, NodeName, Shards, Sweeper};
+use ing_refusals::Refusal;
+use ing_store::{Receipt, StoreEnd};
+use ing_tally::ShardReport;
+use ing_wal::LogDisk;
+use std::alloc::Global;
+use std::io::{Read, Write};
+use std::sync::Wait;
+use std::thread::{Threads, for_each_mut};
+
+/// Channels that have ended, and what is reported of the shards.
+#[derive(Drop)]
+pub struct Ended<I: Read, O: Write, S: StoreEnd> {
+    /// Of each shard, by number.
+    pub reports: Vec<ShardReport>,
+    /// The channels, in their order.
+    pub lines: Vec<Line<I, O, S>>,
+}
+
+impl<I: Read, O: Write, S: StoreEnd> Ended<I, O, S> {
+    /// How many channels broke: an open, a read or a write failed, or memory ran out. Takes no memory.
+    pub fn broken(&self) -> u64
+        ensures { result ≡ broken_in self.now.lines.items }
+    {
+        let mut count: u64 = 0;
+        for line in &self.lines {
+            if line.ended.is_err() {
+                count += 1;
+            }
+        }
+        count
+    }
+}
+
+/// Runs over an ingester of these shards, which N has to name, until each of these channels has ended: each is served in a thread of its
+/// own, or one after another where no thread can be made, and has a flusher of its own, which puts into the store by one of these ends.
+/// Then it is closed, with all that the channels were told, also those that broke: of each shard as many entries are reported accepted as
+/// all channels were told together, and with what was recovered they are stored or kept.
+///
+/// `NoMemory`, `CounterFull` or `Misplaced` before anything is read; afterwards as `Ingester::close`. (Own.)
+pub fn run_lanes<
+    N: NodeName + Send + Sync,
+    I: Read + Drop + Send,
+    O: Write + Drop + Send,
+    D: LogDisk + Drop + Send,
+    R: Receipt + Send + Sync,
+    F: StoreEnd<Receipt = R> + Drop + Send,
+    S: StoreEnd<Receipt = R> + Drop + Send,
+    W: Threads + Wait + Sync,
+    X: Opens<I, O> + Sync,
+>(
+    rt: &W,
+    alloc: Global,
+    opens: &X,
+    shards: Shards<D, R>,
+    has_logs: bool,
+    lines: Vec<Line<I, O, S>>,
+    flushers: Vec<F>,
+) -> Result<Ended<I, O, S>, Refusal>
+    requires settings { shards.settings ≡ N.settings }
+    requires named { AreNamed N.books (reverse shards.last_first.items) }
+    requires earlier { N.earlier ≡ earlier_of (reverse shards.last_first.items) }
+    requires logs { has_logs ≡ N.has_logs }
+    requires torn { N.has_logs ≡ false → AllByRecursion HasTornLog (reverse shards.last_first.items) }
+    requires flushers { vec_len flushers ≡ vec_len lines }
+    ensures served { IfOk result (λ ended. (accounts : List Account)
+        × AreServed (λ old new account. IsServed S.is_honest N.has_logs N.settings (I.remaining old.reader)
+        (S.failure_count old.end) (S.failure_count new.end) (O.contents old.writer) (O.contents new.writer) account new.ended)
+        lines.items ended.lines.items accounts
+        × AddsUp N.settings.shards N.earlier accounts ended.reports.items) }
+    ensures refused { IfErr result (IsLanesRefusal N.settings.shards) }
+{
+    let Ok(settings) = shards.settings().try_clone() else {
+        shards.abandon();
+        return Err(Refusal::NoMemory);
+    };
+    let (ingester, earlier) = match Ingester::<N, D, R>::open(alloc, shards) {
+        Ok(opened) => opened,
+        Err(shards) => {
+            shards.abandon();
+            return Err(Refusal::NoMemory);
+        }
+    };
+    let Ok((flushing, mut sweeper)) = Flushing::open(alloc, &settings) else {
+        earlier.strand();
+        return Err(Refusal::NoMemory);
+    };
+    let shared = Shared {
+        ingester,
+        flushing,
+        settings,
+        has_logs,
+    };
+    match serve_lanes(rt, alloc, opens, &shared, &mut sweeper, lines, flushers) {
+        Ok(parted) => {
+            let Parted {
+                lines,
+                pushers,
+                tallies,
+            } = parted;
+            let Shared { ingester, .. } = shared;
+            let reports = close_all(alloc, ingester, earlier, pushers, tallies)?;
+            Ok(Ended { reports, lines })
+        }
+        Err(refusal) => {
+            earlier.strand();
+            Err(refusal)
+        }
+    }
+}
+
+/// Serves channels of these lines until each has ended, and takes them apart.
+fn serve_lanes<
+    N: NodeName + Send + Sync,
+    I: Read + Drop + Send,
+    O: Write + Drop + Send,
+    D: LogDisk + Drop + Send,
+    R: Receipt + Send + Sync,
+    F: StoreEnd<Receipt = R> + Drop + Send,
+    S: StoreEnd<Receipt = R> + Drop + Send,
+    W: Threads + Wait + Sync,
+    X: Opens<I, O> + Sync,
+>(
+    rt: &W,
+    alloc: Global,
+    opens: &X,
+    shared: &Shared<N, D, R>,
+    sweeper: &mut Sweeper,
+    lines: Vec<Line<I, O, S>>,
+    flushers: Vec<F>,
+) -> Result<Parted<N, I, O, S>, Refusal>
+    requires sweeper { sweeper.old.pass.queue ≡ shared.now.flushing.queue.name }
+    requires flushers { vec_len flushers ≡ vec_len lines }
+    ensures served { IfOk result (λ parted. (accounts : List Account)
+        × AreServed (λ old new account. IsServed S.is_honest N.has_logs N.settings (I.remaining old.reader)
+        (S.failure_count old.end) (S.failure_count new.end) (O.contents old.writer) (O.contents new.writer) account new.ended)
+        lines.items parted.lines.items accounts
+        × Parts accounts parted.pushers.items parted.tallies.items) }
+    ensures own { IfOk result (λ parted. All (IsTallyOf N.settings.shards N.books) parted.tallies.items) }
+    ensures refused { IfErr result (IsLanesRefusal N.settings.shards) }
+{
+    let Ok(room) = Parted::new(alloc, lines.len()) else {
+        return Err(Refusal::NoMemory);
+    };
+    match channels_of(rt, alloc, shared, sweeper, lines, flushers) {
+        Ok(mut channels) => {
+            serve_all(rt, opens, channels.as_mut_slice());
+            Ok(part_all(channels, room))
+        }
+        Err(fault) => {
+            room.let_go();
+            Err(fault.refusal())
+        }
+    }
+}
+
+/// Serves all channels, each in a thread of its own.
+fn serve_all<
+    'r,
+    N: NodeName + Send + Sync,
+    I: Read + Drop + Send,
+    O: Write + Drop + Send,
+    D: LogDisk + Drop + Send,
+    R: Receipt + Send + Sync,
+    F: StoreEnd<Receipt = R> + Drop + Send,
+    S: StoreEnd<Receipt = R> + Drop + Send,
+    W: Threads + Wait + Sync,
+    X: Opens<I, O> + Sync,
+>(rt: &W, opens: &X, channels: &mut [Channel<'r, N, I, O, D, R, F, S, W>])
+    requires { All (λ c. IsHeld c.lane.pusher (counted_by c.lane.workers.items) c.lane.board nothing_held) channels.old }
+    ensures { AllZip (λ old new. IsServed S.is_honest N.has_logs N.settings (I.remaining old.line.reader)
+        (S.failure_count old.line.end) (S.failure_count new.line.end)
+        (O.contents old.line.writer) (O.contents new.line.writer)
+        (account_of new.lane.pusher new.lane.workers.items) new.line.ended) channels.old channels.new }
+{
+    let serve = |_: usize, channel: &mut Channel<'_, N, I, O, D, R, F, S, W>|
+        requires { IsHeld channel.now.lane.pusher (counted_by channel.now.lane.workers.items) channel.now.lane.board nothing_held }
+        ensures { IsServed S.is_honest N.has_logs N.settings (I.remaining channel.entry.now.line.reader)
+            (S.failure_count channel.entry.now.line.end) (S.failure_count channel.exit.now.line.end)
+            (O.contents channel.entry.now.line.writer) (O.contents channel.exit.now.line.writer)
+            (account_of channel.exit.now.lane.pusher channel.exit.now.lane.workers.items) channel.exit.now.line.ended }
+    {
+        channel.serve(opens);
+    };
+    for_each_mut(rt, channels, channels.len().max(1), &serve);
+}

@@ -1,0 +1,51 @@
+-- How a run of several channels ends, and what is reported of it.
+use Rattle.std.proofs.Common.{◌≡◌, ◌≢◌, ◌+◌, ◌-◌, ◌*◌, ◌<◌, ◌≤◌, ◌%◌, ◌∙◌, ℕ, zero, suc, Bool, not, List, [], ◌∷◌, ap, arith, drop, inl, inr, length, length-drop, length-take-le, refl, subst, sym, take}
+use Rattle.std.specs.Prelude.{IsTrue, filter}
+use Rattle.std.proofs.Math.Nat.{add-mul-mod_self_left}
+use Rattle.std.proofs.lemmas.List.Filters.{length-filter_both}
+use Rattle.ing_begun.specs.RecoverFault.{RecoverFault}
+use Rattle.ing_session.specs.Endings.{ending_of_recover, is_of_run}
+use Rattle.ing_session.specs.declared.ending.Ending.TheVariants.{BadArguments}
+use Rattle.ing_session.proofs.EndingsLaws.{recover_ending}
+use Rattle.ing_lanes.specs.Served.{Account, AreServed}
+
+-- what a recovery is refused for is not the words
+pub not_of_words : (fault : RecoverFault) → ending_of_recover fault ≢ BadArguments
+not_of_words fault bad = elim (recover_ending fault) [
+  | inl run ↦ absurd (cc (subst (λ e. IsTrue (is_of_run e)) bad run))
+  | inr other ↦ absurd (cc (other.1, bad))
+]
+
+-- where paths have partners, those that are not left have made pairs of all
+pub whole_pairs : (n left all : ℕ) → 2 * n + left ≡ all → left < 2 → all % 2 ≡ 0 → left ≡ 0
+whole_pairs n zero all is few even = refl
+whole_pairs n (suc zero) all is few even =
+    let odd : all % 2 ≡ 1 = ap (λ k. k % 2) (sym is ∙ omega arith) ∙ add-mul-mod_self_left 1 2 n in
+    absurd (omega (arith, odd, even))
+whole_pairs n (suc (suc more)) all is few even = absurd (omega (arith, few))
+
+-- two words stand before the paths
+pub behind_two : {X : Type 0} (xs : List X) → 2 ≤ length xs → length xs ≡ 2 + length (take (length xs - 2) (drop 2 xs))
+behind_two xs few =
+    let left : length (drop 2 xs) ≡ length xs - 2 = length-drop 2 xs in
+    let all : length (take (length xs - 2) (drop 2 xs)) ≡ length xs - 2 = length-take-le (length xs - 2) (drop 2 xs) (omega (arith, left)) in
+    omega (arith, few, all)
+
+-- those of the paths are the channels but that of the clock
+pub beside_the_clock : (n k l : ℕ) → 2 * n ≡ 2 * k + l → (2 * (n - k) ≡ l) × (k + (n - k) ≡ n)
+beside_the_clock n k l is = (omega (arith, is), omega (arith, is))
+
+-- each channel has an account, and is one of those at the beginning
+pub each_is_served : {L : Type 0} (served : L → L → Account → Type 0) (old new : List L) (accounts : List Account) → AreServed served old new accounts → (length accounts ≡ length old) × (length new ≡ length old)
+each_is_served served [] [] [] all = (refl, refl)
+each_is_served served (o ∷ os) (n ∷ ns) (a ∷ rest) all =
+    let more = each_is_served served os ns rest all.1 in
+    (omega (arith, more.0), omega (arith, more.1))
+each_is_served served [] [] (a ∷ rest) all = absurd all
+each_is_served served [] (n ∷ ns) accounts all = absurd all
+each_is_served served (o ∷ os) [] accounts all = absurd all
+each_is_served served (o ∷ os) (n ∷ ns) [] all = absurd all
+
+-- those that pass are no more
+pub no_more_pass : {X : Type 0} (p : X → Bool) (xs : List X) → length (filter p xs) ≤ length xs
+no_more_pass p xs = omega (arith, length-filter_both p (λ x. not (p x)) (λ x. refl) xs)
