@@ -28,8 +28,11 @@ fn channels_share_a_folder(rt: HostRuntime) -> Result<(), Fail> {
     let other = PUSHES
         .replace(rt.alloc(), "\"acme\"", "\"other\"")?
         .replace(rt.alloc(), "\"t\"", "\"u\"")?;
-    fs::write(&rt, words[2].as_str(), PUSHES)?;
-    fs::write(&rt, words[4].as_str(), other.as_str())?;
+    let [_, _, input, output, other_input, other_output, _, nowhere] = words.as_slice() else {
+        return Err("eight words".into());
+    };
+    fs::write(&rt, input.as_str(), PUSHES)?;
+    fs::write(&rt, other_input.as_str(), other.as_str())?;
     let mut report = Vec::new(rt.alloc());
     let left = AtomicU64::new(0);
     let clock = Ticks::new(rt.alloc(), &rt, &left, &rt, folder);
@@ -51,13 +54,13 @@ fn channels_share_a_folder(rt: HostRuntime) -> Result<(), Fail> {
         told.as_str()
             == "{\"broken\":1,\"report\":[{\"accepted\":4,\"kept\":4,\"recovered\":0,\"stored\":0}]}\n"
     );
-    for place in [3, 5] {
-        let written = fs::read_to_string(&rt, words[place].as_str())?;
+    for (input, output) in [(input, output), (other_input, other_output)] {
+        let written = fs::read_to_string(&rt, output.as_str())?;
         assert!(rt; written.as_str().matches(DURABLE).count() == 2);
-        fs::remove_file(&rt, words[place].as_str())?;
-        fs::remove_file(&rt, words[place - 1].as_str())?;
+        fs::remove_file(&rt, input.as_str())?;
+        fs::remove_file(&rt, output.as_str())?;
     }
-    assert!(rt; !fs::exists(&rt, words[7].as_str())?);
+    assert!(rt; !fs::exists(&rt, nowhere.as_str())?);
     remove(&rt, &places)
 }
 
