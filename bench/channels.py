@@ -4,10 +4,10 @@
     python3 bench/channels.py PROGRAM [--pushes N] [--parent FOLDER]
 
 Pushes of one entry and of 100 entries of 120 bytes, N together (20,000; of 100 entries a twentieth of that), to 1,000 streams in turn,
-come from files through 1, 2, 4 and 8 channels, over 1 and 4 shards; beside them the same lines on standard input, where lines that are
-at hand share a sync. Every entry has to be accepted, or it stops. Then one client pushes a quarter of N, one
-entry after another through pipes, and waits for each reply, while 0, 1, 3 and 7 channels push N each from files. Prints two tables; a
-start and an end are in the figures of the first.
+come from files through 1, 2, 4 and 8 channels, over 1 and 4 shards; beside them the same lines on standard input. Lines that are at
+hand share a sync. Every entry has to be accepted, or it stops. Then one client pushes a tenth of N, one entry after another through
+pipes, and waits for each reply, while 0, 1, 3 and 7 channels, each of a tenant of its own, push ten times N each from files; where these
+had ended before, the figures say so. Prints two tables; a start and an end are in the figures of the first.
 """
 import argparse
 import json
@@ -28,10 +28,10 @@ START = 10**18
 SHARDS, CHANNELS = [1, 4], [1, 2, 4, 8]
 
 
-def push_line(number, entries):
+def push_line(number, entries, tenant="t"):
     values = [[str(START + number * 10**6 + place), f"{place:0120}"] for place in range(entries)]
     stream = {"stream": {"app": "web", "pod": f"p{number % 1000}"}, "values": values}
-    return json.dumps({"cmd": "push", "tenant": "t", "now": str(START), "streams": [stream]})
+    return json.dumps({"cmd": "push", "tenant": tenant, "now": str(START), "streams": [stream]})
 
 
 class Timed(Client):
@@ -44,7 +44,6 @@ class Timed(Client):
             turns = self.give(given, [line])
             self.hear(told, turns)
             self.seconds.append(time.perf_counter() - begun)
-        self.is_alone = self.process.poll() is not None
         self.process.kill()
 
 
@@ -86,18 +85,18 @@ def seconds_of_channels(options, parent, shards, lines, count, channels):
 
 
 def seconds_of_replies(options, parent, shards, beside):
-    """How long each reply takes on one channel, while so many others push from files."""
+    """How long each reply takes on one channel, while so many others push from files, and whether these had ended before."""
     folder = new_folder(parent, shards)
-    pushes = options.pushes // 4
+    pushes = options.pushes // 10
     timed = Timed(parent / "run" / "timed", [push_line(number, 1) for number in range(pushes)], WHOLE)
-    others = [Client(parent / "run" / str(place), [push_line(number, 1) for number in range(options.pushes)], FILES) for place in range(beside)]
+    others = [Client(parent / "run" / str(place), [push_line(number, 1, f"t{place}") for number in range(10 * options.pushes)], FILES) for place in range(beside)]
     for client in [timed, *others]:
         client.make()
     run(options.program, folder, [timed, *others], beside=lambda process: setattr(timed, "process", process), patience=600)
-    assert len(timed.seconds) == pushes and not timed.is_alone, "not all is answered"
-    assert all(other.said[-1].reply is None for other in others), "the others had ended before"
+    assert len(timed.seconds) == pushes, "not all is answered"
+    had_ended = any(other.said[-1].reply is not None for other in others)
     shutil.rmtree(folder.place)
-    return sorted(timed.seconds)
+    return sorted(timed.seconds), had_ended
 
 
 def print_rates(options, parent):
@@ -116,9 +115,9 @@ def print_replies(options, parent):
     print("|---|---|---|---|")
     for shards in SHARDS:
         for beside in [0, 1, 3, 7]:
-            seconds = seconds_of_replies(options, parent, shards, beside)
+            seconds, had_ended = seconds_of_replies(options, parent, shards, beside)
             p50, p99 = statistics.median(seconds), seconds[len(seconds) * 99 // 100]
-            print(f"| {shards} | {beside} | {p50 * 1000:.2f} | {p99 * 1000:.2f} |", flush=True)
+            print(f"| {shards} | {beside}{', of which some had ended' * had_ended} | {p50 * 1000:.2f} | {p99 * 1000:.2f} |", flush=True)
 
 
 def main():

@@ -1,12 +1,12 @@
 //! `ingestctl explain`.
 use crate::given::settings;
 use crate::output::put;
+use crate::paging::value_of;
 use crate::status::Status;
 use anyhow::Result;
 use clap::ArgMatches;
 use ctl_explain::{explain, notes_of, stream_notes_of};
-use ing_commands::{LineFault, read_value};
-use std::alloc::{AllocError, Global};
+use std::alloc::Global;
 use std::io::{BufRead, Write};
 
 /// Writes for each line of the input that is refused its number and why, and notes on members that its command does not have.
@@ -43,10 +43,8 @@ pub fn explain_lines<I: BufRead, O: Write>(
 
 /// Writes a note on each member of a line that its command, or a stream of its push, does not have.
 fn note<O: Write>(alloc: Global, number: u64, line: &[u8], output: &mut O) -> Result<()> {
-    let value = match read_value(alloc, line) {
-        Ok(value) => value,
-        Err(LineFault::NoMemory) => return Err(AllocError.into()),
-        Err(_) => return Ok(()),
+    let Some(value) = value_of(alloc, line)? else {
+        return Ok(());
     };
     for note in notes_of(alloc, &value)? {
         put(

@@ -165,7 +165,7 @@ fn page_in(alloc: Global, path: &str, bytes: &[u8]) -> Result<Vec<Told>> {
 }
 
 /// The JSON object in this line, if it is one.
-fn value_of(alloc: Global, line: &[u8]) -> Result<Option<Value>> {
+pub fn value_of(alloc: Global, line: &[u8]) -> Result<Option<Value>> {
     match read_value(alloc, line) {
         Ok(value) => Ok(Some(value)),
         Err(LineFault::NoMemory) => bail!("out of memory"),

@@ -1,7 +1,6 @@
 -- What was told of each shard, from one stream of a push to the next.
 use Rattle.std.proofs.Common.{◌≡◌, ◌≢◌, ◌≤◌, Bool, ℕ, zero, suc, ◌+◌, List, [], ◌∷◌, ◌++◌, refl, sym, ap, subst, ◌∙◌, arith, Ok, Err, inl, inr, ⊎_elim}
-use Rattle.std.proofs.lemmas.Result.{IfOk-from_err}
-use Rattle.std.specs.Prelude.{◌⊎◌, All, IfOk, IsErr, Result, slice_get}
+use Rattle.std.specs.Prelude.{All, Result, slice_get}
 use Rattle.serde_json.specs.Data.{Data}
 use Rattle.ing_labels.specs.Labels.{LabelMap, labels_of}
 use Rattle.ing_labels.specs.declared.fault.LabelFault.{LabelFault}
@@ -14,8 +13,6 @@ use Rattle.ing_commands.specs.PushCommands.{StreamEntries}
 use Rattle.ing_node.specs.AnswerFaults.{IsCaused}
 use Rattle.ing_node.specs.declared.query.AnswerFault.{AnswerFault}
 use Rattle.ing_session.specs.QueryFault.TheVariants as queries
-use Rattle.ing_node.specs.NodeFault.{NodeFault}
-use Rattle.ing_node.specs.NodeFault.TheVariants as node
 use Rattle.ing_node.specs.declared.query.AnswerFault.TheVariants.{Node, Query}
 use Rattle.ing_session.specs.Faults.{limits_of}
 use Rattle.ing_session.specs.Causes.{HaveCause}
@@ -105,17 +102,6 @@ amounts_rise old new shard n here others i =
     (λ same. subst (λ j. amount_at j old ≤ amount_at j new) (sym same) (omega (arith, here)))
     (λ other. (let same = amount_same old new i (others i other) in omega (arith, same)))
     (same_or_other i shard)
-
--- ---- a fault that is no want of memory
-
-is_no_node_memory : (fault : NodeFault) → (fault ≡ node.NoMemory) ⊎ (fault ≢ node.NoMemory)
-is_no_node_memory node.NoMemory = inl refl
-is_no_node_memory node.CounterFull = inr (λ e. cc)
-is_no_node_memory node.TooManyEntries = inr (λ e. cc)
-is_no_node_memory (node.Misplaced shard) = inr (λ e. cc)
-
-pub IfOk-unless_node : {T E : Type 0} (r : Result T E) (fault : NodeFault) (P : T → Type 0) → (fault ≡ node.NoMemory → IsErr r) → (fault ≢ node.NoMemory → IfOk r P) → IfOk r P
-IfOk-unless_node r fault P memory other = elim (is_no_node_memory fault) [ inl is ↦ IfOk-from_err r P (memory is) | inr not ↦ other not ]
 
 -- a query that was not answered
 pub failed_causes : (T : Type 0) (before after : ℕ) (fault : AnswerFault) → IsCaused {T = T} before after (Err fault) → HaveCause before after (failed_of (Failed fault))

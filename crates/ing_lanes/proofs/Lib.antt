@@ -1,4 +1,5 @@
 mod CountLaws
+mod DraftLaws
 mod HeldLaws
 mod LedgerLaws
 mod ServedLaws

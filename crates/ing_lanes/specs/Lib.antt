@@ -1,3 +1,4 @@
 pub mod ByLane
 pub mod Counted
+pub mod Drafts
 pub mod Served

@@ -75,17 +75,13 @@ impl<
         }
     }
 
-    // Each push syncs by itself, under its shard's lock, so lines at hand are not taken together.
     fn push_lines(
         &mut self,
         first: Push<'_>,
         lines: &mut PushLines<'_>,
         scratch: &mut Scratch,
     ) -> Result<Vec<Reply>, AllocError> {
-        let mut replies = Vec::with_capacity(self.alloc, 1)?;
-        let reply = self.push(first)?;
-        replies.push_reserved(reply);
-        Ok(replies)
+        self.push_all(first, lines, scratch)
     }
 }
 

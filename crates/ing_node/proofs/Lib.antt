@@ -9,3 +9,4 @@ pub mod Sealed
 pub mod Selected
 pub mod VerdictLaws
 pub mod RoundLaws
+mod WaitingLaws

@@ -9,6 +9,7 @@ pub mod AnswerFaults
 pub mod Sweeps
 pub mod Diaries
 pub mod Earlier
+pub mod Waiting
 -- what its clauses speak of in the crates below
 pub use Rattle.ing_begun.specs.Begun
 pub use Rattle.ing_begun.specs.Contents

@@ -163,6 +163,15 @@ impl<N: NodeName, D: LogDisk, R: Receipt> Ingester<N, D, R> {
         shares.destroy_empty();
     }
 
+    /// Writes what waits of a shard to its log, whoever pushed it, with one sync, and says whether all that the shard has accepted
+    /// outlives a crash then. Takes no memory. (Loki documentation: write-ahead log.)
+    pub fn sync<W: Wait>(&self, rt: &W, shard: u32) -> bool
+        requires { shard < N.settings.shards }
+        ensures { N.has_logs ≡ false → result ≡ false }
+    {
+        self.shards[shard as usize].lock(rt).sync()
+    }
+
     /// Seals what is due in a shard at this time, and gives one operation for each sealed chunk that waits there, as `Shard::sweep`.
     /// `Misplaced`, and `NoMemory`: then nothing is sealed.
     pub fn sweep<W: Wait>(

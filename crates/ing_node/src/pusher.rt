@@ -52,6 +52,15 @@ impl<N: NodeName> Model for Pusher<N> {
         × AreAcceptedIn N.books pusher.told.items × (pusher.places ≡ N.settings.shards) };
 }
 
+/// What came of a push whose record waits.
+#[derive(Drop)]
+pub struct Waiting {
+    /// The shard where the stream has its place.
+    pub shard: u32,
+    /// The verdicts, one for each entry.
+    pub verdicts: Vec<Verdict>,
+}
+
 impl<N: NodeName> Pusher<N> {
     /// How many entries it was told that a shard accepted. Takes no memory.
     pub fn told(&self, shard: u32) -> u64
@@ -61,12 +70,8 @@ impl<N: NodeName> Pusher<N> {
         self.told[shard as usize].amount
     }
 
-    /// Pushes entries of one stream to its shard, under that shard's lock: each is judged in order by the tenant's rules, and kept
-    /// where it is accepted. What it was told of the shard rises by the accepted entries, which its diary notes. The canonical name of the stream must
-    /// have fewer than 2^32 bytes. (Loki documentation: push API.)
-    ///
-    /// `TooManyEntries` where there are more than the tenant's rules allow; `CounterFull` where a count would pass its last value,
-    /// as for `Shard::push`; `Misplaced`, and `NoMemory`. After an error everything is as it was.
+    /// Pushes entries of one stream to its shard, as `push_unsynced`, and writes them to the shard's log, with what waits there. (Loki
+    /// documentation: push API.) Each error is as there.
     pub fn push<D: LogDisk, R: Receipt, W: Wait>(
         &mut self,
         rt: &W,
@@ -78,20 +83,17 @@ impl<N: NodeName> Pusher<N> {
         now: Stamp,
     ) -> Result<Pushed, NodeFault>
         requires { length (canonical_of labels.now) < 2 ^ 32 }
-        // The verdicts are those that the model gives in some state; which one other pushers have left is not said.
         ensures judged { let s = stream_of tenant.now labels.now in
             IfOk result (λ pushed. AreJudged (rules_for N.settings tenant.now) s now
             entries.items pushed.verdicts.items) }
         ensures verdicts { IfOk result (λ pushed. AreTold (rules_for N.settings tenant.now)
             entries.items pushed.verdicts.items) }
         ensures durable { IfOk result (λ pushed. N.has_logs ≡ false → pushed.durable ≡ false) }
-        // It was told of as many more of the stream's shard as were accepted, and of no more of the others.
         ensures told { let shard = shard_of tenant.now (canonical_of labels.now) N.settings.shards in
             IfOk result (λ pushed. amount_at shard self.new.told
             ≡ amount_at shard self.old.told + length (accepted_among entries.items pushed.verdicts.items)) }
         ensures others { let shard = shard_of tenant.now (canonical_of labels.now) N.settings.shards in
             (i : ℕ) → i ≢ shard → slice_get self.new.told i ≡ slice_get self.old.told i }
-        // Where it keeps a diary, it notes exactly the accepted entries, under the numbers that they were given.
         ensures noted { let s = stream_of tenant.now labels.now in
             IfOk result (λ pushed. self.new.diary
             ≡ with_notes (noted s entries.items pushed.verdicts.items) self.old.diary) }
@@ -100,12 +102,61 @@ impl<N: NodeName> Pusher<N> {
         ensures few { OnOk result (vec_len entries ≤ (rules_for N.settings tenant.now).max_entries_per_push) }
         ensures err { OnErr result (self.new ≡ self.old) }
     {
+        let Waiting { shard, verdicts } = self.push_unsynced(
+            rt, alloc, node, tenant, labels, entries, now,
+        )?;
+        let durable = node.sync(rt, shard);
+        Ok(Pushed { durable, verdicts })
+    }
+
+    /// Pushes entries of one stream to its shard, under that shard's lock: each is judged in order by the tenant's rules, and kept
+    /// where it is accepted. What it was told of the shard rises by the accepted entries, which its diary notes. What is written of them
+    /// waits for `Ingester::sync`, so that one sync serves all that wait. The canonical name of the stream must have fewer than 2^32
+    /// bytes. (Loki documentation: push API.)
+    ///
+    /// `TooManyEntries` where there are more than the tenant's rules allow; `CounterFull` where a count would pass its last value,
+    /// as for `Shard::push`; `Misplaced`, and `NoMemory`. After an error everything is as it was.
+    pub fn push_unsynced<D: LogDisk, R: Receipt, W: Wait>(
+        &mut self,
+        rt: &W,
+        alloc: Global,
+        node: &Ingester<N, D, R>,
+        tenant: &Tenant,
+        labels: &Labels,
+        entries: Vec<Entry>,
+        now: Stamp,
+    ) -> Result<Waiting, NodeFault>
+        requires { length (canonical_of labels.now) < 2 ^ 32 }
+        ensures shard { IfOk result (λ waiting.
+            waiting.shard ≡ shard_of tenant.now (canonical_of labels.now) N.settings.shards) }
+        ensures below { IfOk result (λ waiting. waiting.shard < N.settings.shards) }
+        // The verdicts are those that the model gives in some state; which one other pushers have left is not said.
+        ensures judged { let s = stream_of tenant.now labels.now in
+            IfOk result (λ waiting. AreJudged (rules_for N.settings tenant.now) s now
+            entries.items waiting.verdicts.items) }
+        ensures verdicts { IfOk result (λ waiting. AreTold (rules_for N.settings tenant.now)
+            entries.items waiting.verdicts.items) }
+        // It was told of as many more of the stream's shard as were accepted, and of no more of the others.
+        ensures told { let shard = shard_of tenant.now (canonical_of labels.now) N.settings.shards in
+            IfOk result (λ waiting. amount_at shard self.new.told
+            ≡ amount_at shard self.old.told + length (accepted_among entries.items waiting.verdicts.items)) }
+        ensures others { let shard = shard_of tenant.now (canonical_of labels.now) N.settings.shards in
+            (i : ℕ) → i ≢ shard → slice_get self.new.told i ≡ slice_get self.old.told i }
+        // Where it keeps a diary, it notes exactly the accepted entries, under the numbers that they were given.
+        ensures noted { let s = stream_of tenant.now labels.now in
+            IfOk result (λ waiting. self.new.diary
+            ≡ with_notes (noted s entries.items waiting.verdicts.items) self.old.diary) }
+        ensures refused { let shard = shard_of tenant.now (canonical_of labels.now) N.settings.shards in
+            IfErr result (IsPushRefusal (rules_for N.settings tenant.now) (vec_len entries) shard) }
+        ensures few { OnOk result (vec_len entries ≤ (rules_for N.settings tenant.now).max_entries_per_push) }
+        ensures err { OnErr result (self.new ≡ self.old) }
+    {
         let shard = self.places.of(tenant, labels.name());
         begin_note(&mut self.diary, alloc, tenant, labels, &entries)?;
         let told = &mut self.told;
-        let pushed = push_told(told, rt, alloc, node, shard, tenant, labels, entries, now)?;
-        end_note(&mut self.diary, &pushed.verdicts);
-        Ok(pushed)
+        let verdicts = push_told(told, rt, alloc, node, shard, tenant, labels, entries, now)?;
+        end_note(&mut self.diary, &verdicts);
+        Ok(Waiting { shard, verdicts })
     }
 
     /// Whether it keeps a diary. Takes no memory.
@@ -144,7 +195,7 @@ impl<N: NodeName> Pusher<N> {
     }
 }
 
-/// A push, as `Pusher::push`, with the shares of a pusher: what it was told of the stream's shard rises by the accepted entries.
+/// A push, as `Pusher::push_unsynced`, with the shares of a pusher: what it was told of the stream's shard rises by the accepted entries.
 fn push_told<N: NodeName, D: LogDisk, R: Receipt, W: Wait>(
     told: &mut Vec<Told>,
     rt: &W,
@@ -155,7 +206,7 @@ fn push_told<N: NodeName, D: LogDisk, R: Receipt, W: Wait>(
     labels: &Labels,
     entries: Vec<Entry>,
     now: Stamp,
-) -> Result<Pushed, NodeFault>
+) -> Result<Vec<Verdict>, NodeFault>
     requires all { vec_len told.old ≡ N.settings.shards }
     requires own { AreAcceptedIn N.books told.old.items }
     requires name { length (canonical_of labels.now) < 2 ^ 32 }
@@ -164,13 +215,12 @@ fn push_told<N: NodeName, D: LogDisk, R: Receipt, W: Wait>(
     ensures all { vec_len told.new ≡ N.settings.shards }
     ensures own { AreAcceptedIn N.books told.new.items }
     ensures judged { let s = stream_of tenant.now labels.now in
-        IfOk result (λ pushed. AreJudged (rules_for N.settings tenant.now) s now
-        entries.items pushed.verdicts.items) }
-    ensures verdicts { IfOk result (λ pushed. AreTold (rules_for N.settings tenant.now)
-        entries.items pushed.verdicts.items) }
-    ensures durable { IfOk result (λ pushed. N.has_logs ≡ false → pushed.durable ≡ false) }
-    ensures told { IfOk result (λ pushed. amount_at shard told.new.items
-        ≡ amount_at shard told.old.items + length (accepted_among entries.items pushed.verdicts.items)) }
+        IfOk result (λ verdicts. AreJudged (rules_for N.settings tenant.now) s now
+        entries.items verdicts.items) }
+    ensures verdicts { IfOk result (λ verdicts. AreTold (rules_for N.settings tenant.now)
+        entries.items verdicts.items) }
+    ensures told { IfOk result (λ verdicts. amount_at shard told.new.items
+        ≡ amount_at shard told.old.items + length (accepted_among entries.items verdicts.items)) }
     ensures others { (i : ℕ) → i ≢ shard → slice_get told.new.items i ≡ slice_get told.old.items i }
     ensures refused { IfErr result (IsPushRefusal (rules_for N.settings tenant.now) (vec_len entries) shard) }
     ensures few { OnOk result (vec_len entries ≤ (rules_for N.settings tenant.now).max_entries_per_push) }
@@ -189,9 +239,9 @@ fn push_told<N: NodeName, D: LogDisk, R: Receipt, W: Wait>(
         now,
     );
     match pushed {
-        Ok(pushed) => {
-            told.amount += accepted_in(&pushed.verdicts);
-            Ok(pushed)
+        Ok(verdicts) => {
+            told.amount += accepted_in(&verdicts);
+            Ok(verdicts)
         }
         Err(fault) => Err(fault),
     }

@@ -16,14 +16,6 @@ not_of_words fault bad = elim (recover_ending fault) [
   | inr other ↦ absurd (cc (other.1, bad))
 ]
 
--- where paths have partners, those that are not left have made pairs of all
-pub whole_pairs : (n left all : ℕ) → 2 * n + left ≡ all → left < 2 → all % 2 ≡ 0 → left ≡ 0
-whole_pairs n zero all is few even = refl
-whole_pairs n (suc zero) all is few even =
-    let odd : all % 2 ≡ 1 = ap (λ k. k % 2) (sym is ∙ omega arith) ∙ add-mul-mod_self_left 1 2 n in
-    absurd (omega (arith, odd, even))
-whole_pairs n (suc (suc more)) all is few even = absurd (omega (arith, few))
-
 -- two words stand before the paths
 pub behind_two : {X : Type 0} (xs : List X) → 2 ≤ length xs → length xs ≡ 2 + length (take (length xs - 2) (drop 2 xs))
 behind_two xs few =

@@ -1,7 +1,10 @@
-//! The program but for its handles: from argument words, a settings file and a folder to a run over shards that nobody shares.
+//! The program but for its handles: from argument words, a settings file and a folder to a run, over shards that nobody shares, or over
+//! shards that many channels and a clock share.
 //!
 //! `start` reads the words and the settings file. Without a folder it runs over new shards and a store in memory (`start_on`); with one it
-//! has the shards made again from their logs, side by side (`start_over`, `run_over`). What is served, and how, is `ing_service`'s.
+//! has the shards made again from their logs, side by side (`start_over`, `run_over`). What is served then, and how, is `ing_service`'s.
+//! Where `asks_channels` finds pairs of paths among the words, `start_channels` opens each (`Paths`), with a clock beside them where the
+//! settings ask for one (`Ticks`), and serves them side by side by `ing_lanes`.
 #![tactic(auto)]
 
 mod channels;

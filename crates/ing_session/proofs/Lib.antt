@@ -6,5 +6,6 @@ pub mod FrontsLaws
 pub mod RunsLaws
 pub mod ObeyLaws
 mod PushedLaws
+pub mod TakenLaws
 pub mod EndingsLaws
 pub mod FaultsLaws

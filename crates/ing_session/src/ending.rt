@@ -23,7 +23,7 @@ pub enum Ending {
     InputFault,
     /// The output could not be written.
     OutputFault,
-    /// There are more argument words than two, or one is not UTF-8.
+    /// The argument words are more than a settings file, a folder and pairs of paths, the folder's is empty, or one is not UTF-8.
     BadArguments,
     /// The settings file cannot be read.
     NoSettings,

@@ -1,6 +1,7 @@
 //! Several channels over a folder, each from one file to another.
-use super::PUSHES;
+use super::{PUSHES, REPLY};
 use super::folders::{places_of, remove};
+use super::watched::{WatchedDisk, WatchedLog};
 use ing_limits::Settings;
 use ing_program::{Disk, Ending, FolderLog, FolderStore, Paths, Ticking, Ticks, start_channels};
 use ing_store::DigestReceipt;
@@ -15,6 +16,7 @@ const DURABLE: &str =
     "{\"push\":[{\"durable\":true,\"stream\":\"{a=\\\"1\\\"}\",\"verdicts\":[{\"accepted\":0}]}]}\n";
 
 /// Two channels that push what the other does not, and one that cannot be opened: each has its own replies, and the report counts all.
+/// The lines at hand on a channel share a sync.
 #[test]
 fn channels_share_a_folder(rt: HostRuntime) -> Result<(), Fail> {
     let places = places_of(&rt, "channels")?;
@@ -36,18 +38,24 @@ fn channels_share_a_folder(rt: HostRuntime) -> Result<(), Fail> {
     let mut report = Vec::new(rt.alloc());
     let left = AtomicU64::new(0);
     let clock = Ticks::new(rt.alloc(), &rt, &left, &rt, folder);
-    let (paths, disk) = (Paths::new(&rt, &left), Disk::new(&rt));
+    let paths = Paths::new(&rt, &left);
+    let syncs = AtomicU64::new(0);
+    let watched = WatchedDisk {
+        disk: Disk::new(&rt),
+        is_full: false,
+        syncs: &syncs,
+    };
     let ended = start_channels::<
         _,
         _,
         _,
         _,
-        FolderLog<'_, HostRuntime>,
+        WatchedLog<'_, HostRuntime>,
         DigestReceipt,
         FolderStore<'_, HostRuntime>,
         _,
         _,
-    >(&rt, &paths, clock, &disk, &words, &mut report);
+    >(&rt, &paths, clock, &watched, &words, &mut report);
     assert!(rt; ended == Ok(()));
     let told = String::from_utf8(report).ok().ok_or("the report is text")?;
     assert!(rt;
@@ -61,6 +69,53 @@ fn channels_share_a_folder(rt: HostRuntime) -> Result<(), Fail> {
         fs::remove_file(&rt, output.as_str())?;
     }
     assert!(rt; !fs::exists(&rt, nowhere.as_str())?);
+    assert!(rt; syncs.load(Ordering::SeqCst) <= 2);
+    remove(&rt, &places)
+}
+
+/// What a full disk does not take no channel is told durable.
+#[test]
+fn a_channel_over_a_full_disk(rt: HostRuntime) -> Result<(), Fail> {
+    let places = places_of(&rt, "full-channel")?;
+    let folder = places.folder.as_str();
+    let input = format!(in rt.alloc(); "{folder}-in")?;
+    let output = format!(in rt.alloc(); "{folder}-out")?;
+    fs::write(&rt, input.as_str(), PUSHES)?;
+    let mut words = Vec::new(rt.alloc());
+    for word in [
+        places.settings.as_str(),
+        folder,
+        input.as_str(),
+        output.as_str(),
+    ] {
+        words.push(String::from_str(rt.alloc(), word)?)?;
+    }
+    let mut report = Vec::new(rt.alloc());
+    let left = AtomicU64::new(0);
+    let clock = Ticks::new(rt.alloc(), &rt, &left, &rt, folder);
+    let paths = Paths::new(&rt, &left);
+    let syncs = AtomicU64::new(0);
+    let full = WatchedDisk {
+        disk: Disk::new(&rt),
+        is_full: true,
+        syncs: &syncs,
+    };
+    let ended = start_channels::<
+        _,
+        _,
+        _,
+        _,
+        WatchedLog<'_, HostRuntime>,
+        DigestReceipt,
+        FolderStore<'_, HostRuntime>,
+        _,
+        _,
+    >(&rt, &paths, clock, &full, &words, &mut report);
+    assert!(rt; ended == Ok(()));
+    let written = fs::read_to_string(&rt, output.as_str())?;
+    assert!(rt; written.as_str().matches(REPLY).count() == 2);
+    fs::remove_file(&rt, input.as_str())?;
+    fs::remove_file(&rt, output.as_str())?;
     remove(&rt, &places)
 }
 

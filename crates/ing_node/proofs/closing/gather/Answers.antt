@@ -1,4 +1,4 @@
-use Rattle.std.proofs.Common.{◌-◌, ◌∙◌, ap, arith, subst}
+use Rattle.std.proofs.Common.{◌-◌, ◌∙◌, arith, subst}
 use Rattle.ing_tally.specs.Books.{amount_of}
 use Rattle.ing_begun.specs.Contents.{Contents}
 use Rattle.ing_node.specs.Reports.{CountsRows}
@@ -32,5 +32,5 @@ returns-clause-rows g c =
     let stored = c.in-Ok.field-0.stored in
     let all = (whole.accepted shard.state same).1 in
     let before = c.requires.recovered in
-    subst (λ (s : Contents). CountsRows s.state.rows (record { accepted = accepted - recovered; recovered = recovered; stored = stored; kept = accepted - stored })) (c.into_parts-memory.ensures.0 ∙ ap (λ s. s.memory) c.into_shard.ensures)
+    subst (λ (s : Contents). CountsRows s.state.rows (record { accepted = accepted - recovered; recovered = recovered; stored = stored; kept = accepted - stored })) (c.into_parts-memory.ensures.0 ∙ c.into_shard.ensures)
     (counted_by shard.state.rows recovered accepted stored (omega (arith, all, before)) (whole.accepted shard.state same).0 (whole.stored shard.state same).0 (whole.landed shard.state same))

@@ -16,7 +16,7 @@ pub overflow_add-told : goal.overflow_add-told
 overflow_add-told g c =
     let judges = rules_for g.N.NodeName.settings c.args.tenant.now in
     let es = c.args.entries.items in
-    let vs = c.in-Ok.pushed.verdicts.items in
+    let vs = c.in-Ok.verdicts.items in
     let told = c.verdicts_tell.ensures.each judges (stream_of c.args.tenant.now c.args.labels.now) c.args.now es vs c.in-Ok.ensures.judged in
     let count : c.accepted_in.result ≡ length (accepted_among es vs) =
     c.accepted_in.ensures ∙ ap accepted_in c.deref.ensures.value ∙ sym (c.verdicts_tell.ensures.count judges es vs told) in
@@ -28,7 +28,7 @@ pub invariant_of-told : goal.invariant_of-told
 invariant_of-told g c =
     let judges = rules_for g.N.NodeName.settings c.args.tenant.now in
     let es = c.args.entries.items in
-    let vs = c.in-Ok.pushed.verdicts.items in
+    let vs = c.in-Ok.verdicts.items in
     let told = c.verdicts_tell.ensures.each judges (stream_of c.args.tenant.now c.args.labels.now) c.args.now es vs c.in-Ok.ensures.judged in
     let count : c.accepted_in.result ≡ length (accepted_among es vs) =
     c.accepted_in.ensures ∙ ap accepted_in c.deref.ensures.value ∙ sym (c.verdicts_tell.ensures.count judges es vs told) in
@@ -37,7 +37,7 @@ invariant_of-told g c =
 
 pub returns-in-Ok-clause-verdicts : goal.returns-in-Ok-clause-verdicts
 returns-in-Ok-clause-verdicts g c =
-    c.verdicts_tell.ensures.each (rules_for g.N.NodeName.settings c.args.tenant.now) (stream_of c.args.tenant.now c.args.labels.now) c.args.now c.args.entries.items c.in-Ok.pushed.verdicts.items c.in-Ok.ensures.judged
+    c.verdicts_tell.ensures.each (rules_for g.N.NodeName.settings c.args.tenant.now) (stream_of c.args.tenant.now c.args.labels.now) c.args.now c.args.entries.items c.in-Ok.verdicts.items c.in-Ok.ensures.judged
 
 pub returns-in-Ok-clause-others : goal.returns-in-Ok-clause-others
 returns-in-Ok-clause-others g c i other = others_set c.args.shard i c.args.told.now.items c.push-pushed.new.share other
