@@ -104,6 +104,11 @@ def unbroken(plant):
     return lambda seen, draw: not seen.breaks and seen.report is not None and plant(seen, draw)
 
 
+def unclocked(plant):
+    """The same, in a run without a clock, which stores what no channel is told."""
+    return lambda seen, draw: not seen.has_clock and plant(seen, draw)
+
+
 def first(part):
     return accepted_in(part[2][0]["verdicts"])[0][1]
 
@@ -274,7 +279,7 @@ def forgotten(after):
 PLANTS = {"mixed": mixed, "swapped": swapped, "silent": silent, "refusal": refusal, "lasting": lasting, "limit": limit}
 PLANTS |= {"own": number('"p{}.'), "shared": number('"s'), "twice": twice, "hidden": unbroken(hidden), "fallen": fallen}
 PLANTS |= {"sweep": member("sweep", "sealed", lambda count: -1), "checkpoint": failing}
-PLANTS |= {"failed": member("flush", "failed", lambda count: 1), "stored": unbroken(member("flush", "stored", lambda count: count + 1))}
+PLANTS |= {"failed": member("flush", "failed", lambda count: 1), "stored": unclocked(unbroken(member("flush", "stored", lambda count: count + 1)))}
 PLANTS |= {"disordered": entries(disordered), "lacking": entries(lacking), "holed": entries(holed), "doubled": entries(doubled), "invented": entries(invented)}
 PLANTS |= {"board": nothing("board", lambda told: [{"accepted": 0, "stored": 0} for _ in told]), "gauges": nothing("gauges", no_gauges)}
 PLANTS |= {"fronts": nothing("query", lambda told: told | {"fronts": [0 for _ in told["fronts"]]})}
