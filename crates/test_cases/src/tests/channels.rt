@@ -1,7 +1,7 @@
 //! Several channels over a folder, each from one file to another.
-use super::{PUSHES, REPLY};
 use super::folders::{places_of, remove};
 use super::watched::{WatchedDisk, WatchedLog};
+use super::{PUSHES, REPLY};
 use ing_limits::Settings;
 use ing_program::{Disk, Ending, FolderLog, FolderStore, Paths, Ticking, Ticks, start_channels};
 use ing_store::DigestReceipt;
