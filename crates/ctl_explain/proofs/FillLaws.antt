@@ -7,12 +7,12 @@ use Rattle.std.specs.BTreeMap.{get_by_text}
 use Rattle.std.specs.FinMap.{from_entries}
 use Rattle.std.specs.Option.{option_or, unwrap_or}
 use Rattle.ing_rows.specs.declared.rules.Rules.{Rules}
-use Rattle.toml.specs.Data.{Data, string, integer, Members, get_member}
+use Rattle.toml.specs.Data.{Data, string, integer, boolean, Members, get_member, as_bool}
 use Rattle.toml.specs.View.{view, members_view}
 use Rattle.toml.specs.declared.value.Value.{Value}
 use Rattle.toml.proofs.Views.{view-lookup}
 use Rattle.ing_limits.specs.Durations.{parts_sum}
-use Rattle.ing_limits.specs.Settings.{StoreSettings, Refusal, setting, kind_of, number_of, members_at, entries_of, rules_by_tenant, common_rules, settings_in, settings_of_document, settings_of_table, or_refused, least_of, all_flawed}
+use Rattle.ing_limits.specs.Settings.{StoreSettings, Refusal, setting, flag, kind_of, number_of, members_at, entries_of, rules_by_tenant, common_rules, settings_in, settings_of_document, settings_of_table, or_refused, least_of, all_flawed}
 use Rattle.ing_limits.specs.declared.keys.Level.{Level}
 use Rattle.ing_limits.specs.declared.keys.Level.TheVariants.{Top, Tenant}
 use Rattle.ing_limits.specs.declared.flaws.Flaw.TheVariants.{Unknown, Bad}
@@ -65,6 +65,14 @@ same-flush_check_period old new f = setting_same Top (codes "flush_check_period"
 
 same-checkpoint_log_size : (old new : Members) → FillsIn default_members old new → setting Top (codes "checkpoint_log_size") 0 new ≡ setting Top (codes "checkpoint_log_size") 0 old
 same-checkpoint_log_size old new f = setting_same Top (codes "checkpoint_log_size") 0 (get_member (codes "checkpoint_log_size") old) (get_member (codes "checkpoint_log_size") new) (integer (pos 0)) (f (codes "checkpoint_log_size")) refl
+
+flag_same : (default : Bool) (old new : Option Data) → new ≡ option_or old (Some (boolean default))
+    → unwrap_or (option_and_then as_bool new) default ≡ unwrap_or (option_and_then as_bool old) default
+flag_same default (Some x) new e = rw e refl
+flag_same default None new e = rw e refl
+
+same-diaries : (old new : Members) → FillsIn default_members old new → flag (codes "diaries") false new ≡ flag (codes "diaries") false old
+same-diaries old new f = flag_same false (get_member (codes "diaries") old) (get_member (codes "diaries") new) (f (codes "diaries"))
 
 same-chunk_block_size : (old new : Members) → FillsIn default_members old new → setting Top (codes "chunk_block_size") 262144 new ≡ setting Top (codes "chunk_block_size") 262144 old
 same-chunk_block_size old new f = setting_same Top (codes "chunk_block_size") 262144 (get_member (codes "chunk_block_size") old) (get_member (codes "chunk_block_size") new) (integer (pos 262144)) (f (codes "chunk_block_size")) refl
@@ -128,6 +136,7 @@ same_settings old new f = λ i. record {
   flush_queue_length = same-flush_queue_length old new f i;
   flush_check_period = same-flush_check_period old new f i;
   checkpoint_log_size = same-checkpoint_log_size old new f i;
+  diaries = same-diaries old new f i;
   rules = same-rules old new f i;
   tenants = from_entries (rules_by_tenant (same-rules old new f i) (entries_of (same-tenants old new f i)));
 }
@@ -159,6 +168,7 @@ filled_is_whole old new f = rw (
   has_one (get_member (codes "flush_queue_length") old) (get_member (codes "flush_queue_length") new) (integer (pos 1024)) (f (codes "flush_queue_length")),
   has_one (get_member (codes "flush_check_period") old) (get_member (codes "flush_check_period") new) (string (codes "0s")) (f (codes "flush_check_period")),
   has_one (get_member (codes "checkpoint_log_size") old) (get_member (codes "checkpoint_log_size") new) (integer (pos 0)) (f (codes "checkpoint_log_size")),
+  has_one (get_member (codes "diaries") old) (get_member (codes "diaries") new) (boolean false) (f (codes "diaries")),
   has_one (get_member (codes "chunk_block_size") old) (get_member (codes "chunk_block_size") new) (integer (pos 262144)) (f (codes "chunk_block_size")),
   has_one (get_member (codes "chunk_target_size") old) (get_member (codes "chunk_target_size") new) (integer (pos 1572864)) (f (codes "chunk_target_size")),
   has_one (get_member (codes "chunk_idle_period") old) (get_member (codes "chunk_idle_period") new) (string (codes "30m")) (f (codes "chunk_idle_period")),

@@ -16,14 +16,14 @@ use Rattle.std.specs.Cmp.Lexicographic.{slice_cmp}
 use Rattle.std.specs.String.{string_cmp}
 use Rattle.std.specs.BTreeMap.{insert_entry}
 use Rattle.std.specs.List.{list_any, list_all, AllByRecursion}
-use Rattle.toml.specs.Data.{Data, string, integer, float, boolean, datetime, array, table, Members, no_members, member, get_member, depth, members_depth, has_valid_dates, members_have_valid_dates}
+use Rattle.toml.specs.Data.{Data, string, integer, float, boolean, datetime, array, table, Members, no_members, member, get_member, depth, members_depth, has_valid_dates, members_have_valid_dates, as_bool}
 use Rattle.toml.specs.View.{view, members_view}
 use Rattle.toml.specs.declared.value.Value.{Value}
 use Rattle.ing_rows.specs.Texts.{is_tenant}
 use Rattle.ing_limits.specs.Durations.{parts_sum}
 use Rattle.ing_limits.specs.Settings.{StoreSettings, Refusal, kind_in, kind_of, number_of, fits, is_table, is_misfit, has_flaw, store_keys, limit_keys, entries_of, members_in, members_at, tenants_flawed, all_flawed, least_with, least_of, settings_in, settings_of_table, or_refused}
 use Rattle.ing_limits.specs.declared.keys.Kind.{Kind}
-use Rattle.ing_limits.specs.declared.keys.Kind.TheVariants.{Whole, UpTo, Duration, Table, Nothing}
+use Rattle.ing_limits.specs.declared.keys.Kind.TheVariants.{Whole, UpTo, Duration, Flag, Table, Nothing}
 use Rattle.ing_limits.specs.declared.keys.Level.{Level}
 use Rattle.ing_limits.specs.declared.keys.Level.TheVariants.{Top, Tenants, Tenant}
 use Rattle.ing_limits.specs.declared.flaws.Flaw.TheVariants.{Unknown, Bad}
@@ -195,7 +195,7 @@ plain_or_fits : (p : List ℕ → Data → Bool) (n : ℕ) → ((k : List ℕ) (
 plain_or_fits p n each (string s) e = record { deep = omega arith; dates = refl }
 plain_or_fits p n each (integer z) e = record { deep = omega arith; dates = refl }
 plain_or_fits p n each (float x) e = absurd cc
-plain_or_fits p n each (boolean b) e = absurd cc
+plain_or_fits p n each (boolean b) e = record { deep = omega arith; dates = refl }
 plain_or_fits p n each (datetime x) e = absurd cc
 plain_or_fits p n each (array ds) e = absurd cc
 plain_or_fits p n each (table ms) e =
@@ -215,6 +215,7 @@ abbrev is_table_kind : Kind → Bool
 is_table_kind (Whole most) = false
 is_table_kind (UpTo most) = false
 is_table_kind Duration = false
+is_table_kind Flag = false
 is_table_kind Table = true
 is_table_kind Nothing = false
 
@@ -222,6 +223,7 @@ abbrev is_no_kind : Kind → Bool
 is_no_kind (Whole most) = false
 is_no_kind (UpTo most) = false
 is_no_kind Duration = false
+is_no_kind Flag = false
 is_no_kind Table = false
 is_no_kind Nothing = true
 
@@ -229,6 +231,7 @@ abbrev is_duration : Kind → Bool
 is_duration (Whole most) = false
 is_duration (UpTo most) = false
 is_duration Duration = true
+is_duration Flag = false
 is_duration Table = false
 is_duration Nothing = false
 
@@ -236,8 +239,17 @@ abbrev is_up_to : Kind → Bool
 is_up_to (Whole most) = false
 is_up_to (UpTo most) = true
 is_up_to Duration = false
+is_up_to Flag = false
 is_up_to Table = false
 is_up_to Nothing = false
+
+abbrev is_flag : Kind → Bool
+is_flag (Whole most) = false
+is_flag (UpTo most) = false
+is_flag Duration = false
+is_flag Flag = true
+is_flag Table = false
+is_flag Nothing = false
 
 or_later : (a : Bool) → (a || true) ≡ true
 or_later true = refl
@@ -261,7 +273,7 @@ whole_plain : (p : List ℕ → Data → Bool) (most : ℕ) (d : Data) → is_so
 whole_plain p most (string s) e = refl
 whole_plain p most (integer z) e = refl
 whole_plain p most (float x) e = absurd cc
-whole_plain p most (boolean b) e = absurd cc
+whole_plain p most (boolean b) e = refl
 whole_plain p most (datetime x) e = absurd cc
 whole_plain p most (array ds) e = absurd cc
 whole_plain p most (table ms) e = absurd cc
@@ -270,7 +282,7 @@ up_to_plain : (p : List ℕ → Data → Bool) (most : ℕ) (d : Data) → is_so
 up_to_plain p most (string s) e = refl
 up_to_plain p most (integer z) e = refl
 up_to_plain p most (float x) e = absurd cc
-up_to_plain p most (boolean b) e = absurd cc
+up_to_plain p most (boolean b) e = refl
 up_to_plain p most (datetime x) e = absurd cc
 up_to_plain p most (array ds) e = absurd cc
 up_to_plain p most (table ms) e = absurd cc
@@ -279,10 +291,19 @@ duration_plain : (p : List ℕ → Data → Bool) (d : Data) → is_some (number
 duration_plain p (string s) e = refl
 duration_plain p (integer z) e = refl
 duration_plain p (float x) e = absurd cc
-duration_plain p (boolean b) e = absurd cc
+duration_plain p (boolean b) e = refl
 duration_plain p (datetime x) e = absurd cc
 duration_plain p (array ds) e = absurd cc
 duration_plain p (table ms) e = absurd cc
+
+flag_plain : (p : List ℕ → Data → Bool) (d : Data) → is_some (as_bool d) ≡ true → is_plain_or p d ≡ true
+flag_plain p (string s) e = refl
+flag_plain p (integer z) e = refl
+flag_plain p (float x) e = absurd cc
+flag_plain p (boolean b) e = refl
+flag_plain p (datetime x) e = absurd cc
+flag_plain p (array ds) e = absurd cc
+flag_plain p (table ms) e = absurd cc
 
 not_true : (b : Bool) → not b ≡ false → b ≡ true
 not_true true e = refl
@@ -295,6 +316,7 @@ top_plain_at None k d is known good tenants = absurd cc
 top_plain_at (Some (Whole most)) k d is known good tenants = whole_plain is_tenant_table most d (not_true _ good)
 top_plain_at (Some (UpTo most)) k d is known good tenants = up_to_plain is_tenant_table most d (not_true _ good)
 top_plain_at (Some Duration) k d is known good tenants = duration_plain is_tenant_table d (not_true _ good)
+top_plain_at (Some Flag) k d is known good tenants = flag_plain is_tenant_table d (not_true _ good)
 top_plain_at (Some Table) k d is known good tenants =
     tenants (or_false (bytes_eq k (codes "tenants")) (kind_there is_table_kind (store_keys ++ limit_keys) k Table is refl)) (not_true _ good)
 top_plain_at (Some Nothing) k d is known good tenants = absurd cc
@@ -318,6 +340,7 @@ limit_plain_at None k d is known good = absurd cc
 limit_plain_at (Some (Whole most)) k d is known good = whole_limit k most d (not_true _ good)
 limit_plain_at (Some (UpTo most)) k d is known good = absurd (cc (kind_there is_up_to limit_keys k (UpTo most) is refl))
 limit_plain_at (Some Duration) k d is known good = absurd (cc (kind_there is_duration limit_keys k Duration is refl))
+limit_plain_at (Some Flag) k d is known good = absurd (cc (kind_there is_flag limit_keys k Flag is refl))
 limit_plain_at (Some Table) k d is known good = absurd (cc (kind_there is_table_kind limit_keys k Table is refl))
 limit_plain_at (Some Nothing) k d is known good = absurd (cc (kind_there is_no_kind limit_keys k Nothing is refl))
 

@@ -7,7 +7,7 @@ use Rattle.std.specs.Option.{option_or}
 use Rattle.ing_refusals.specs.declared.refusal.Refusal as refusals
 use Rattle.ing_refusals.specs.declared.refusal.Refusal.TheVariants as rows
 use Rattle.ing_rows.specs.declared.rules.Rules.{Rules}
-use Rattle.toml.specs.Data.{Data, string, integer, table, Members, no_members, member, get_member}
+use Rattle.toml.specs.Data.{Data, string, integer, boolean, table, Members, no_members, member, get_member}
 use Rattle.toml.specs.Parse.{parse_document}
 use Rattle.ing_limits.specs.Faults.{refusal_of, fault_refusal}
 use Rattle.ing_limits.specs.Ranges.{rules_for}
@@ -15,7 +15,7 @@ use Rattle.ing_limits.specs.Settings.{StoreSettings, settings_of, settings_in, n
 use Rattle.ing_limits.specs.declared.keys.Level.{Level}
 use Rattle.ing_limits.specs.declared.flaws.Flaw.TheVariants.{Unknown, Bad}
 use Rattle.ctl_explain.specs.declared.in_force.Given.{Given}
-use Rattle.ctl_explain.specs.declared.in_force.Given.TheVariants.{Whole, Text}
+use Rattle.ctl_explain.specs.declared.in_force.Given.TheVariants.{Whole, Text, Flag}
 use Rattle.ctl_explain.specs.declared.settings_refusal.SettingsRefusal.{SettingsRefusal}
 use Rattle.ctl_explain.specs.declared.settings_refusal.SettingsRefusal.TheVariants.{NoMemory, NotToml, Refused}
 
@@ -27,6 +27,7 @@ default_members =
     ∷ (codes "flush_queue_length", integer (pos 1024))
     ∷ (codes "flush_check_period", string (codes "0s"))
     ∷ (codes "checkpoint_log_size", integer (pos 0))
+    ∷ (codes "diaries", boolean false)
     ∷ (codes "chunk_block_size", integer (pos 262144))
     ∷ (codes "chunk_target_size", integer (pos 1572864))
     ∷ (codes "chunk_idle_period", string (codes "30m"))
@@ -43,6 +44,7 @@ default_members =
 abbrev pub given_data : Given → Data
 given_data (Whole z) = integer z
 given_data (Text text) = string text.now
+given_data (Flag b) = boolean b
 
 abbrev pub given_member : Bor (List ℕ) × Given → List ℕ × Data
 given_member e = (e.0.now, given_data e.1)
@@ -77,7 +79,7 @@ rule_names =
 
 -- the names beside the tables of tenants
 abbrev pub all_names : List (List ℕ)
-all_names = codes "shards" ∷ codes "flushers" ∷ codes "flush_queue_length" ∷ codes "flush_check_period" ∷ codes "checkpoint_log_size" ∷ rule_names
+all_names = codes "shards" ∷ codes "flushers" ∷ codes "flush_queue_length" ∷ codes "flush_check_period" ∷ codes "checkpoint_log_size" ∷ codes "diaries" ∷ rule_names
 
 -- a text with every key, which is read as these settings
 pub record WritesOut (settings : StoreSettings) (text : List ℕ) : Type 0 where
@@ -142,10 +144,11 @@ is_plain (string text) = true
 is_plain (integer z) = true
 is_plain _ = false
 
--- such, or a table of what passes
+-- such, true or false, or a table of what passes
 abbrev pub is_plain_or : (List ℕ → Data → Bool) → Data → Bool
 is_plain_or p (string text) = true
 is_plain_or p (integer z) = true
+is_plain_or p (boolean b) = true
 is_plain_or p (table ms) = all_entries p ms
 is_plain_or p _ = false
 

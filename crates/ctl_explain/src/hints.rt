@@ -10,7 +10,7 @@ type Setting = (&'static str, &'static str, bool);
 const DURATION: &str = "a duration, as \"30m\" or \"1h30m\"";
 
 /// The settings there are, but for the tables of tenants (docs/COMMANDS.md, "Settings").
-static SETTINGS: [Setting; 15] = [
+static SETTINGS: [Setting; 16] = [
     ("shards", "an integer from 1 to 64", false),
     ("flushers", "an integer from 1 to 32", false),
     ("flush_queue_length", "an integer from 1 to 65536", false),
@@ -20,6 +20,7 @@ static SETTINGS: [Setting; 15] = [
         "an integer from 0 to 1099511627776",
         false,
     ),
+    ("diaries", "true or false", false),
     ("chunk_block_size", "an integer from 1 to 1073741824", false),
     (
         "chunk_target_size",

@@ -33,16 +33,19 @@ pub enum Given<'a> {
     Whole(i64),
     /// A text.
     Text(&'a str),
+    /// True or false.
+    Flag(bool),
 }
 
 /// The keys beside the tables of tenants, each with its default (Loki documentation: ingester and limits
 /// configuration; what has another default there is own).
-static DEFAULTS: [(&str, Given<'static>); 15] = [
+static DEFAULTS: [(&str, Given<'static>); 16] = [
     ("shards", Given::Whole(1)),
     ("flushers", Given::Whole(1)),
     ("flush_queue_length", Given::Whole(1024)),
     ("flush_check_period", Given::Text("0s")),
     ("checkpoint_log_size", Given::Whole(0)),
+    ("diaries", Given::Flag(false)),
     ("chunk_block_size", Given::Whole(262_144)),
     ("chunk_target_size", Given::Whole(1_572_864)),
     ("chunk_idle_period", Given::Text("30m")),
@@ -69,6 +72,7 @@ fn value_of(alloc: Global, given: Given<'_>) -> Result<Value, AllocError>
     match given {
         Given::Whole(number) => Ok(Value::Integer(number)),
         Given::Text(text) => Value::string(alloc, text),
+        Given::Flag(flag) => Ok(Value::Boolean(flag)),
     }
 }
 

@@ -1,3 +1,4 @@
 mod MovedLaws
 mod NoteLaws
 mod ReadLaws
+mod FrontLaws

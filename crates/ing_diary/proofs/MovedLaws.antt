@@ -8,7 +8,7 @@ use Rattle.std.proofs.lemmas.List.Sums.{length-filter}
 use Rattle.ing_rows.specs.Rows.{StreamKey}
 use Rattle.ing_diary.specs.Notes.{IsAlike, IsUnlike, Note, is_note_at}
 
-counted_moved : (p : Note → Bool) (xs ys : List Note) → IsPermutation xs ys → length (filter p ys) ≡ length (filter p xs)
+pub counted_moved : {X : Type 0} (p : X → Bool) (xs ys : List X) → IsPermutation xs ys → length (filter p ys) ≡ length (filter p xs)
 counted_moved p xs ys same = length-filter p ys ∙ sum_by-IsPermutation (λ n. cond (p n) 1 0) xs ys same ∙ sym (length-filter p xs)
 
 true_is_not : (b : Bool) → b ≡ false → b ≡ true → ⊥

@@ -29,12 +29,12 @@ total = then_total (on_total (λ (n : Note). n.stream.tenant) nat_list_cmp_total
 pub before_is_order : IsStrictWeakOrder note_before
 before_is_order = ranks_by total (λ n. n)
 
-equal_then : (a b : Ordering) → ordering_then a b ≡ Equal → (a ≡ Equal) × (b ≡ Equal)
+pub equal_then : (a b : Ordering) → ordering_then a b ≡ Equal → (a ≡ Equal) × (b ≡ Equal)
 equal_then Less b h = absurd cc
 equal_then Equal b h = (refl, h)
 equal_then Greater b h = absurd cc
 
-same_text : (a b : List ℕ) → slice_cmp nat_cmp a b ≡ Equal → a ≡ b
+pub same_text : (a b : List ℕ) → slice_cmp nat_cmp a b ≡ Equal → a ≡ b
 same_text a b h = (bytes_eq-Decides a b).0 (sym (is_eq-slice_cmp a b) ∙ ap is_eq h)
 
 same_number : (a b : ℕ) → nat_cmp a b ≡ Equal → a ≡ b

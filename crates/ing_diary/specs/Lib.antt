@@ -1,4 +1,5 @@
 pub mod Notes
+pub mod Fronts
 pub mod Faults
 -- what its clauses speak of in the crates below
 pub use Rattle.ing_query.specs.Answers

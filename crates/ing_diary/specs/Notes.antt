@@ -73,20 +73,42 @@ pub record DiaryState : Type 0 where
 abbrev pub AreNoted : List Row → List Note → Type 0
 AreNoted rows notes = IsPermutation (map note_of rows) notes
 
--- these are the rows of a stream
-abbrev pub IsReadOf : Option StreamKey → List Row → List Note → Type 0
-IsReadOf None rows notes = ⊥
-IsReadOf (Some s) rows notes = IsPermutation (map note_of (rows_of s rows)) notes
-
 -- it is of a stream that has its place in this shard, of so many
 abbrev pub is_in_shard : ℕ → ℕ → Note → Bool
 is_in_shard shards shard n = shard_of n.stream.tenant n.stream.name shards == shard
 
--- ---- what does not match
-
 -- it is of this number of this stream
 abbrev pub is_note_at : StreamKey → ℕ → Note → Bool
 is_note_at s number n = same_stream n.stream s && (n.number == number)
+
+-- ---- what was read back
+
+-- What was read of these: at each place as many as stand there, and over an honest end they themselves, each once.
+pub record AreRead {K X : Type 0} (is_at : K → X → Bool) (honest : Type 0) (xs read : List X) : Type 0 where
+  pub places : (k : K) → length (filter (is_at k) xs) ≡ length (filter (is_at k) read)
+  pub exact : honest → IsPermutation xs read
+
+abbrev pub has_number : ℕ → Numbered → Bool
+has_number number e = e.number == number
+
+abbrev pub has_place : StreamKey × ℕ → Note → Bool
+has_place k = is_note_at k.0 k.1
+
+-- notes of entries of which these were read
+abbrev pub AreReadAs : Type 0 → List Note → List Note → Type 0
+AreReadAs = AreRead has_place
+
+-- of the rows of a stream
+abbrev pub IsReadOf : Type 0 → Option StreamKey → List Row → List Note → Type 0
+IsReadOf honest None rows notes = ⊥
+IsReadOf honest (Some s) rows notes = AreReadAs honest (map note_of (rows_of s rows)) notes
+
+-- Under each number of each stream stands a row exactly where it was noted, and as often: so none is missing, and none is there twice.
+abbrev pub HaveNotedPlaces : List Row → List Note → Type 0
+HaveNotedPlaces rows notes =
+    (s : StreamKey) (number : ℕ) → length (filter (is_note_at s number) (map note_of rows)) ≡ length (filter (is_note_at s number) notes)
+
+-- ---- what does not match
 
 -- under this number of this stream the same entry stands exactly once in the one and in the other
 pub record IsAlike (s : StreamKey) (number : ℕ) (xs ys : List Note) : Type 0 where

@@ -4,6 +4,7 @@
 mod compare;
 mod diary;
 mod fault;
+mod fronts;
 mod noted;
 mod noting;
 mod reading;
@@ -12,6 +13,7 @@ mod settling;
 pub use compare::NoteRef;
 pub use diary::Diary;
 pub use fault::{Mismatch, Unsettled};
+pub use fronts::Fronts;
 pub use noted::Noted;
 pub use noting::Draft;
 pub use settling::settle;

@@ -2,18 +2,21 @@
 ghost use Rattle.std.specs.Prelude.{◌≡◌, IfErr, IfNone, IfOk, IfSome, OnOk};
 ghost use Rattle.std.specs.List.Sorted.{IsSortedBy};
 ghost use Rattle.ing_diary.specs.Faults.{AreCounted, IsNoBadObject, NamesOther, stream_in};
-ghost use Rattle.ing_diary.specs.Notes.{AreNoted, IsAmiss, IsUnlike, amiss_in, note_before};
+ghost use Rattle.ing_diary.specs.Fronts.{front_in, rows_since};
+ghost use Rattle.ing_diary.specs.Notes.{AreNoted, HaveNotedPlaces, IsAmiss, IsUnlike, amiss_in, note_before};
 
 use crate::compare::{NoteRef, compare, is_same_entry, sort, spread};
 use crate::fault::{Mismatch, Unsettled};
-use crate::reading::read_back;
+use crate::fronts::Fronts;
+use crate::reading::read_since;
 use ing_shard::Shard;
 use ing_store::StoreEnd;
 use std::alloc::{AllocError, Global};
 use std::cmp::Ordering;
 
-/// Reads all entries of a shard back, and compares them with what was noted: it is Ok only where the entries of the shard, each once,
-/// are exactly the notes. It takes memory for all of them. (Own.)
+/// Reads the entries of a shard back that came since its streams had these fronts, and compares them with what was noted: it is Ok only
+/// where they are exactly the notes, each once. Over whatever end, each stands under its number where it was noted; over an honest one it
+/// is the entry that was noted. It takes memory for all of them. (Own.)
 ///
 /// `Differs` names an entry that stands in the one or the other, and not exactly once and alike in both; of several, one. `Query` where not all could be read:
 /// `StoreFault` only where the end has failed, `BadObject` never over an honest end, and `NoMemory`.
@@ -21,16 +24,21 @@ pub fn settle<S: StoreEnd>(
     alloc: Global,
     shard: &Shard<S::Receipt>,
     end: &mut S,
+    fronts: &Fronts,
     notes: Vec<NoteRef<'_>>,
 ) -> Result<(), Unsettled>
-    ensures settled { S.is_honest → OnOk result (AreNoted shard.now.state.rows notes.entry.items) }
-    ensures differs { S.is_honest → IfErr result (NamesOther shard.now.state.rows notes.entry.items) }
+    ensures settled { let rows = rows_since (front_in fronts.now) shard.now.state.rows in
+        S.is_honest → OnOk result (AreNoted rows notes.entry.items) }
+    ensures places { let rows = rows_since (front_in fronts.now) shard.now.state.rows in
+        OnOk result (HaveNotedPlaces rows notes.entry.items) }
+    ensures differs { let rows = rows_since (front_in fronts.now) shard.now.state.rows in
+        S.is_honest → IfErr result (NamesOther rows notes.entry.items) }
     ensures honest { S.is_honest → IfErr result IsNoBadObject }
     ensures count { AreCounted (S.failure_count end.old) (S.failure_count end.new) result }
     ensures sure { S.never_fails end.old → (S.never_fails end.new)
         × (S.failure_count end.new ≡ S.failure_count end.old) }
 {
-    let read = read_back(alloc, shard, end)?;
+    let read = read_since(alloc, shard, end, fronts)?;
     let mut ours = Vec::new(alloc);
     spread(&mut ours, &read)?;
     let mut theirs = notes;

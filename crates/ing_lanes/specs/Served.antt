@@ -11,13 +11,14 @@ use Rattle.ing_node.specs.NodeFaults.{refusal_of}
 use Rattle.ing_node.specs.Diaries.{PusherState}
 use Rattle.ing_node.specs.Earlier.{EarlierState}
 use Rattle.ing_node.specs.Refusals.{IsShareRefusal}
-use Rattle.ing_node.specs.Reports.{close_refusal_of}
 use Rattle.ing_node.specs.Reports as closing
 use Rattle.ing_node.specs.declared.report.CloseRefusal.{CloseRefusal}
 use Rattle.ing_tally.specs.declared.report.ShardReport.{ShardReport}
 use Rattle.ing_session.specs.declared.ending.Ending.{Ending}
 use Rattle.ing_session.specs.Fronts.{AppendsFront}
 use Rattle.ing_session.specs.Runs.{AnswersLines, BreaksOff}
+use Rattle.ing_lanes.specs.declared.fault.LanesFault.{LanesFault}
+use Rattle.ing_lanes.specs.declared.fault.LanesFault.TheVariants.{NotOpened, NotClosed}
 use Rattle.ing_lanes.specs.declared.line.Line.{Line}
 use Rattle.ing_lanes.specs.ByLane.{Held, Stays, Told, by_lane, told_by}
 use Rattle.ing_lanes.specs.Counted.{Rises, counted_by}
@@ -78,13 +79,18 @@ pub record AddsUp (shards : ℕ) (earlier : EarlierState) (accounts : List Accou
   pub whole : (i : ℕ) (r : ShardReport) → slice_get reports i ≡ Some r → r.accepted + r.recovered ≡ r.stored + r.kept
   pub stored : stored_in reports ≡ amount_of earlier.stored + sum_by (λ t. t.counted) accounts
 
--- why it is not closed
-abbrev pub HasReason : Refusal → Type 0
-HasReason why = (c : CloseRefusal) × closing.HasReason c × (why ≡ close_refusal_of c)
+-- why nothing is read: memory ran out, or a share was not had
+abbrev pub IsNotOpened : ℕ → Refusal → Type 0
+IsNotOpened shards why = (why ≡ refusal.NoMemory) ⊎ ((fault : NodeFault) × IsShareRefusal shards fault × (why ≡ refusal_of fault))
 
--- why nothing is reported: memory ran out, a share was not had, or it is not closed
-abbrev pub IsLanesRefusal : ℕ → Refusal → Type 0
-IsLanesRefusal shards why = (why ≡ refusal.NoMemory) ⊎ ((fault : NodeFault) × IsShareRefusal shards fault × (why ≡ refusal_of fault)) ⊎ HasReason why
+-- why it is not closed: entries are said not to be settled only where diaries are wanted
+abbrev pub HasReason : StoreSettings → CloseRefusal → Type 0
+HasReason settings why = closing.HasReason why × (closing.IsUnsettled why → settings.diaries ≡ true)
+
+-- why nothing is reported
+abbrev pub IsLanesFault : StoreSettings → LanesFault → Type 0
+IsLanesFault settings (NotOpened why) = IsNotOpened settings.shards why
+IsLanesFault settings (NotClosed why) = HasReason settings why
 
 -- ---- for private clauses
 

@@ -5,13 +5,11 @@ ghost use Rattle.ing_node.specs.Tallies.{amount_at};
 ghost use Rattle.ing_lanes.specs.Counted.{counted_by};
 ghost use Rattle.ing_lanes.specs.Served.{AddsUpWith, HasReason};
 ghost use Rattle.ing_node.specs.Names.{IsTallyOf};
-ghost use Rattle.ing_node.specs.Reports.{close_refusal_of};
-ghost use Rattle.ing_node.specs.Reports as closing;
+ghost use Rattle.ing_node.specs.Reports.{IsCausedClose, IsNoBadClose};
 
 use crate::channel::Channel;
 use crate::line::Line;
-use ing_node::{CloseFault, Earlier, FlusherTally, Ingester, NoStore, NodeName, Pusher};
-use ing_refusals::Refusal;
+use ing_node::{CloseFault, CloseRefusal, Earlier, FlusherTally, Ingester, NodeName, Pusher};
 use ing_store::{Receipt, StoreEnd};
 use ing_tally::ShardReport;
 use ing_wal::LogDisk;
@@ -109,31 +107,35 @@ pub(crate) fn part_all<
     }
 }
 
-/// Closes an ingester with what channels were told and what their flushers have stored, all of it. As `Ingester::close`; then all is let go.
-pub(crate) fn close_all<N: NodeName, D: LogDisk + Drop, R: Receipt>(
+/// Closes an ingester with what channels were told and what their flushers have stored, all of it. Where diaries are wanted, what was
+/// stored is read back by this end. As `Ingester::close`; then all is let go.
+pub(crate) fn close_all<N: NodeName, D: LogDisk + Drop, R: Receipt, S: StoreEnd<Receipt = R>>(
     alloc: Global,
+    end: &mut S,
     ingester: Ingester<N, D, R>,
     earlier: Earlier<N>,
     pushers: Vec<Pusher<N>>,
     tallies: Vec<FlusherTally>,
-) -> Result<Vec<ShardReport>, Refusal>
+) -> Result<Vec<ShardReport>, CloseRefusal>
     requires { All (IsTallyOf N.settings.shards N.books) tallies.items }
     ensures closed { IfOk result (λ reports. AddsUpWith N.settings.shards N.earlier
         (λ i. sum_by (λ p. amount_at i p.told) pushers.items) (sum_by amount_of tallies.items) reports.items) }
-    ensures refused { IfErr result HasReason }
+    ensures refused { IfErr result (HasReason N.settings) }
+    ensures honest { S.is_honest → IfErr result IsNoBadClose }
+    ensures cause { IfErr result (IsCausedClose (S.failure_count end.old) (S.failure_count end.new)) }
 {
     earlier.is_of_each();
-    // No diary is kept, so that nothing is read back.
-    let mut end: NoStore<R> = NoStore::new();
-    match ingester.close(alloc, &mut end, earlier, pushers, tallies) {
+    match ingester.close(alloc, end, earlier, pushers, tallies) {
         Ok(closed) => Ok(closed.into_report().shards),
         Err(fault) => Err(not_closed(fault)),
     }
 }
 
 /// Why an ingester was not closed. All is let go.
-fn not_closed<N: NodeName, D: LogDisk + Drop, R: Receipt>(fault: CloseFault<N, D, R>) -> Refusal
-    ensures { result ≡ close_refusal_of fault.why }
+fn not_closed<N: NodeName, D: LogDisk + Drop, R: Receipt>(
+    fault: CloseFault<N, D, R>,
+) -> CloseRefusal
+    ensures { result ≡ fault.why }
 {
     let CloseFault {
         why,
@@ -143,5 +145,5 @@ fn not_closed<N: NodeName, D: LogDisk + Drop, R: Receipt>(fault: CloseFault<N, D
         tallies,
     } = fault;
     ingester.abandon(earlier, pushers, tallies);
-    why.refusal()
+    why
 }

@@ -8,11 +8,13 @@
 
 mod channel;
 mod closing;
+mod fault;
 mod lane;
 mod line;
 mod opening;
 mod running;
 mod shared;
 
+pub use fault::LanesFault;
 pub use line::{Line, Opens, StandOpen};
-pub use running::{Ended, run_lanes};
+pub use running::{Ended, Ends, run_lanes};

@@ -16,7 +16,7 @@ use std::alloc::Global;
 use std::io::{Read, Write};
 use std::sync::Wait;
 
-/// Who obeys the commands of a channel, with a flusher that puts into the store by this end. `CounterFull` where 2^62 shares of a shard
+/// Who obeys the commands of a channel, with a flusher that puts into the store by this end; it keeps a diary where the settings want one. `CounterFull` where 2^62 shares of a shard
 /// are out, `Misplaced`, and `NoMemory`; then no share more is out.
 pub(crate) fn lane_of<
     'r,
@@ -39,7 +39,8 @@ pub(crate) fn lane_of<
     ensures refused { IfErr result (IsShareRefusal N.settings.shards) }
 {
     let board = shared.ingester.reader(rt, alloc)?;
-    let pusher = shared.ingester.pusher(rt, alloc, false)?;
+    let diary = shared.settings.diaries();
+    let pusher = shared.ingester.pusher(rt, alloc, diary)?;
     let own = shared.flushing.another(sweeper);
     match worker_of(rt, alloc, shared, sweeper, end) {
         Ok(workers) => Ok(Lane {

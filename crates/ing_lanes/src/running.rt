@@ -4,12 +4,13 @@ ghost use Rattle.std.specs.List.{AllByRecursion, AllZip};
 ghost use Rattle.ing_node.specs.Begun.{HasTornLog};
 ghost use Rattle.ing_lanes.specs.ByLane.{nothing_held};
 ghost use Rattle.ing_lanes.specs.Counted.{IsHeld, counted_by};
-ghost use Rattle.ing_lanes.specs.Served.{Account, AddsUp, AreServed, IsLanesRefusal, IsServed, Parts, account_of, broken_in};
+ghost use Rattle.ing_lanes.specs.Served.{Account, AddsUp, AreServed, IsLanesFault, IsNotOpened, IsServed, Parts, account_of, broken_in};
 ghost use Rattle.ing_node.specs.Earlier.{earlier_of};
 ghost use Rattle.ing_node.specs.Names.{AreNamed, IsTallyOf};
 
 use crate::channel::Channel;
 use crate::closing::{Parted, close_all, part_all};
+use crate::fault::LanesFault;
 use crate::line::{Line, Opens};
 use crate::opening::channels_of;
 use crate::shared::Shared;
@@ -22,6 +23,15 @@ use std::alloc::Global;
 use std::io::{Read, Write};
 use std::sync::Wait;
 use std::thread::{Threads, for_each_mut};
+
+/// The ends of a store by which no channel reads.
+#[derive(Drop)]
+pub struct Ends<F: StoreEnd, S: StoreEnd> {
+    /// By which the channels' flushers put, one for each channel.
+    pub flushers: Vec<F>,
+    /// By which the close reads back what was stored, where diaries are kept.
+    pub reader: S,
+}
 
 /// Channels that have ended, and what is reported of the shards.
 #[derive(Drop)]
@@ -50,9 +60,11 @@ impl<I: Read, O: Write, S: StoreEnd> Ended<I, O, S> {
 /// Runs over an ingester of these shards, which N has to name, until each of these channels has ended: each is served in a thread of its
 /// own, or one after another where no thread can be made, and has a flusher of its own, which puts into the store by one of these ends.
 /// Then it is closed, with all that the channels were told, also those that broke: of each shard as many entries are reported accepted as
-/// all channels were told together, and with what was recovered they are stored or kept.
+/// all channels were told together, and with what was recovered they are stored or kept. Where the settings want diaries, each channel
+/// notes what it was told accepted, and the close compares every entry that came since the start with the notes, as `Ingester::close`.
 ///
-/// `NoMemory`, `CounterFull` or `Misplaced` before anything is read; afterwards as `Ingester::close`. (Own.)
+/// `NotOpened` before anything is read: `NoMemory`, `CounterFull` or `Misplaced`; `NotClosed` as `Ingester::close`, where an entry differs
+/// or could not be read back only where diaries are wanted. (Own.)
 pub fn run_lanes<
     N: NodeName + Send + Sync,
     I: Read + Drop + Send,
@@ -70,35 +82,35 @@ pub fn run_lanes<
     shards: Shards<D, R>,
     has_logs: bool,
     lines: Vec<Line<I, O, S>>,
-    flushers: Vec<F>,
-) -> Result<Ended<I, O, S>, Refusal>
+    ends: Ends<F, S>,
+) -> Result<Ended<I, O, S>, LanesFault>
     requires settings { shards.settings ≡ N.settings }
     requires named { AreNamed N.books (reverse shards.last_first.items) }
     requires earlier { N.earlier ≡ earlier_of (reverse shards.last_first.items) }
     requires logs { has_logs ≡ N.has_logs }
     requires torn { N.has_logs ≡ false → AllByRecursion HasTornLog (reverse shards.last_first.items) }
-    requires flushers { vec_len flushers ≡ vec_len lines }
+    requires flushers { vec_len ends.flushers ≡ vec_len lines }
     ensures served { IfOk result (λ ended. (accounts : List Account)
         × AreServed (λ old new account. IsServed S.is_honest N.has_logs N.settings (I.remaining old.reader)
         (S.failure_count old.end) (S.failure_count new.end) (O.contents old.writer) (O.contents new.writer) account new.ended)
         lines.items ended.lines.items accounts
         × AddsUp N.settings.shards N.earlier accounts ended.reports.items) }
-    ensures refused { IfErr result (IsLanesRefusal N.settings.shards) }
+    ensures refused { IfErr result (IsLanesFault N.settings) }
 {
     let Ok(settings) = shards.settings().try_clone() else {
         shards.abandon();
-        return Err(Refusal::NoMemory);
+        return Err(LanesFault::NotOpened(Refusal::NoMemory));
     };
     let (ingester, earlier) = match Ingester::<N, D, R>::open(alloc, shards) {
         Ok(opened) => opened,
         Err(shards) => {
             shards.abandon();
-            return Err(Refusal::NoMemory);
+            return Err(LanesFault::NotOpened(Refusal::NoMemory));
         }
     };
     let Ok((flushing, mut sweeper)) = Flushing::open(alloc, &settings) else {
         earlier.strand();
-        return Err(Refusal::NoMemory);
+        return Err(LanesFault::NotOpened(Refusal::NoMemory));
     };
     let shared = Shared {
         ingester,
@@ -106,6 +118,10 @@ pub fn run_lanes<
         settings,
         has_logs,
     };
+    let Ends {
+        flushers,
+        mut reader,
+    } = ends;
     match serve_lanes(rt, alloc, opens, &shared, &mut sweeper, lines, flushers) {
         Ok(parted) => {
             let Parted {
@@ -114,12 +130,12 @@ pub fn run_lanes<
                 tallies,
             } = parted;
             let Shared { ingester, .. } = shared;
-            let reports = close_all(alloc, ingester, earlier, pushers, tallies)?;
+            let reports = close_all(alloc, &mut reader, ingester, earlier, pushers, tallies)?;
             Ok(Ended { reports, lines })
         }
         Err(refusal) => {
             earlier.strand();
-            Err(refusal)
+            Err(LanesFault::NotOpened(refusal))
         }
     }
 }
@@ -152,7 +168,7 @@ fn serve_lanes<
         lines.items parted.lines.items accounts
         × Parts accounts parted.pushers.items parted.tallies.items) }
     ensures own { IfOk result (λ parted. All (IsTallyOf N.settings.shards N.books) parted.tallies.items) }
-    ensures refused { IfErr result (IsLanesRefusal N.settings.shards) }
+    ensures refused { IfErr result (IsNotOpened N.settings.shards) }
 {
     let Ok(room) = Parted::new(alloc, lines.len()) else {
         return Err(Refusal::NoMemory);

@@ -1,6 +1,6 @@
 -- Codes, by which a proof tells settings apart.
-use Rattle.std.specs.Prelude.{ℕ, refl}
-use Rattle.std.specs.Coded.{Coded, code_by, coded×, coded_ℕ, coded_list}
+use Rattle.std.specs.Prelude.{ℕ, Bool, refl}
+use Rattle.std.specs.Coded.{Coded, code_by, coded×, coded_ℕ, coded_bool, coded_list}
 use Rattle.std.specs.FinMap as finmap
 use Rattle.ing_rows.specs.declared.rules.Rules.{Rules}
 use Rattle.ing_limits.specs.Settings.{StoreSettings, TenantRules}
@@ -28,16 +28,17 @@ rules_code =
 -- settings are stored as their parts
 abbrev pub settings_code : Coded StoreSettings
 settings_code =
-    code_by (ℕ × (ℕ × (ℕ × (ℕ × (ℕ × (Rules × TenantRules))))))
-    (coded× coded_ℕ (coded× coded_ℕ (coded× coded_ℕ (coded× coded_ℕ (coded× coded_ℕ (coded× rules_code (finmap.code (coded_list coded_ℕ) rules_code)))))))
-    (λ s. (s.shards, (s.flushers, (s.flush_queue_length, (s.flush_check_period, (s.checkpoint_log_size, (s.rules, s.tenants)))))))
+    code_by (ℕ × (ℕ × (ℕ × (ℕ × (ℕ × (Bool × (Rules × TenantRules)))))))
+    (coded× coded_ℕ (coded× coded_ℕ (coded× coded_ℕ (coded× coded_ℕ (coded× coded_ℕ (coded× coded_bool (coded× rules_code (finmap.code (coded_list coded_ℕ) rules_code))))))))
+    (λ s. (s.shards, (s.flushers, (s.flush_queue_length, (s.flush_check_period, (s.checkpoint_log_size, (s.diaries, (s.rules, s.tenants))))))))
     (λ p. record {
       shards = p.0;
       flushers = p.1.0;
       flush_queue_length = p.1.1.0;
       flush_check_period = p.1.1.1.0;
       checkpoint_log_size = p.1.1.1.1.0;
-      rules = p.1.1.1.1.1.0;
-      tenants = p.1.1.1.1.1.1;
+      diaries = p.1.1.1.1.1.0;
+      rules = p.1.1.1.1.1.1.0;
+      tenants = p.1.1.1.1.1.1.1;
     })
     (λ _. refl)

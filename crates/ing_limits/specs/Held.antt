@@ -24,6 +24,7 @@ held_settings a = record {
   flush_queue_length = a.flush_queue_length;
   flush_check_period = a.flush_check_period;
   checkpoint_log_size = a.checkpoint_log_size;
+  diaries = a.diaries;
   rules = a.rules;
   tenants = from_entries (held_tenants a.tenants.entries);
 }

@@ -9,12 +9,12 @@ use Rattle.std.specs.FinMap.{FinMap, from_entries}
 use Rattle.ing_rows.specs.Texts.{is_tenant}
 use Rattle.ing_rows.specs.Defaults.{defaults}
 use Rattle.ing_rows.specs.declared.rules.Rules.{Rules}
-use Rattle.toml.specs.Data.{Data, string, integer, table, Members, no_members, member, get_member}
+use Rattle.toml.specs.Data.{Data, string, integer, table, Members, no_members, member, get_member, as_bool}
 use Rattle.toml.specs.Parse.{parse_document}
 use Rattle.ing_limits.specs.Durations.{duration_of}
 use Rattle.ing_limits.specs.Greatest.{most_shards, most_flushers, most_queued, most_log_bytes, most_bytes, most_label_names, most_name_bytes, most_value_bytes, most_line_bytes, most_streams, most_entries}
 use Rattle.ing_limits.specs.declared.keys.Kind.{Kind}
-use Rattle.ing_limits.specs.declared.keys.Kind.TheVariants.{Whole, UpTo, Duration, Table, Nothing}
+use Rattle.ing_limits.specs.declared.keys.Kind.TheVariants.{Whole, UpTo, Duration, Flag, Table, Nothing}
 use Rattle.ing_limits.specs.declared.keys.Level.{Level}
 use Rattle.ing_limits.specs.declared.keys.Level.TheVariants.{Top, Tenants, Tenant}
 use Rattle.ing_limits.specs.declared.flaws.Flaw.{Flaw}
@@ -28,6 +28,7 @@ store_keys =
     ∷ (codes "flush_queue_length", Whole most_queued)
     ∷ (codes "flush_check_period", Duration)
     ∷ (codes "checkpoint_log_size", UpTo most_log_bytes)
+    ∷ (codes "diaries", Flag)
     ∷ (codes "chunk_block_size", Whole most_bytes)
     ∷ (codes "chunk_target_size", Whole most_bytes)
     ∷ (codes "chunk_idle_period", Duration)
@@ -74,6 +75,7 @@ abbrev pub fits : Kind → Data → Bool
 fits (Whole most) d = is_some (number_of (Whole most) d)
 fits (UpTo most) d = is_some (number_of (UpTo most) d)
 fits Duration d = is_some (number_of Duration d)
+fits Flag d = is_some (as_bool d)
 fits Table d = is_table d
 fits Nothing d = false
 
@@ -133,6 +135,10 @@ abbrev pub setting : Level → List ℕ → ℕ → Members → ℕ
 setting level key default ms =
     unwrap_or (option_and_then (λ d. option_and_then (λ kind. number_of kind d) (kind_of level key)) (get_member key ms)) default
 
+-- what is true or false at a key, or the default
+abbrev pub flag : List ℕ → Bool → Members → Bool
+flag key default ms = unwrap_or (option_and_then as_bool (get_member key ms)) default
+
 -- the limits in a table, and the given ones where it has none; every field is named, so that none can be forgotten
 abbrev pub limits_in : Rules → Members → Rules
 limits_in given ms = record {
@@ -182,6 +188,7 @@ pub record StoreSettings : Type 0 where
   pub flush_queue_length : ℕ
   pub flush_check_period : ℕ
   pub checkpoint_log_size : ℕ
+  pub diaries : Bool
   pub rules : Rules
   pub tenants : TenantRules
 
@@ -193,6 +200,7 @@ settings_in ms = record {
   flush_queue_length = setting Top (codes "flush_queue_length") 1024 ms;
   flush_check_period = setting Top (codes "flush_check_period") 0 ms;
   checkpoint_log_size = setting Top (codes "checkpoint_log_size") 0 ms;
+  diaries = flag (codes "diaries") false ms;
   rules = common_rules ms;
   tenants = from_entries (rules_by_tenant (common_rules ms) (entries_of (members_at (codes "tenants") ms)));
 }

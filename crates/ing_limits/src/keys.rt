@@ -16,6 +16,8 @@ pub enum Kind {
     UpTo(u64),
     /// A duration.
     Duration,
+    /// True or false.
+    Flag,
     /// A table.
     Table,
     /// No value fits.
@@ -72,6 +74,8 @@ fn store_kind(key: &str) -> Option<Kind>
         Some(Kind::Duration)
     } else if key == "checkpoint_log_size" {
         Some(Kind::UpTo(MAX_LOG_SIZE))
+    } else if key == "diaries" {
+        Some(Kind::Flag)
     } else if key == "tenants" {
         Some(Kind::Table)
     } else {
@@ -111,7 +115,7 @@ pub(crate) fn number_of(kind: Kind, value: &Value) -> Option<u64>
             Some(text) => duration_of(text.as_bytes()),
             None => None,
         },
-        Kind::Table | Kind::Nothing => None,
+        Kind::Flag | Kind::Table | Kind::Nothing => None,
     }
 }
 
@@ -143,6 +147,7 @@ pub(crate) fn fits(kind: Kind, value: &Value) -> bool
 {
     match kind {
         Kind::Whole(_) | Kind::UpTo(_) | Kind::Duration => number_of(kind, value).is_some(),
+        Kind::Flag => value.as_bool().is_some(),
         Kind::Table => value.is_table(),
         Kind::Nothing => false,
     }

@@ -24,6 +24,7 @@ pub struct Settings {
     flush_queue_length: u32,
     flush_check_period: u64,
     checkpoint_log_size: u64,
+    diaries: bool,
     rules: Rules,
     tenants: BTreeMap<String, Rules>,
 }
@@ -64,6 +65,16 @@ fn setting(table: &Table, level: Level, key: &str, default: u64) -> u64
             Some(kind) => number_of(kind, value).unwrap_or(default),
             None => default,
         },
+        None => default,
+    }
+}
+
+/// What is true or false at a key of a table, or the default.
+fn flag(table: &Table, key: &str, default: bool) -> bool
+    ensures { result ≡ settings.flag key.now default (table_view table.now) }
+{
+    match table.get(key) {
+        Some(value) => value.as_bool().unwrap_or(default),
         None => default,
     }
 }
@@ -216,6 +227,7 @@ impl Settings {
             flush_queue_length: count_of(table, "flush_queue_length", 1024),
             flush_check_period: setting(table, Level::Top, "flush_check_period", 0),
             checkpoint_log_size: setting(table, Level::Top, "checkpoint_log_size", 0),
+            diaries: flag(table, "diaries", false),
             rules,
             tenants,
         })
@@ -231,6 +243,7 @@ impl Settings {
             flush_queue_length: self.flush_queue_length,
             flush_check_period: self.flush_check_period,
             checkpoint_log_size: self.checkpoint_log_size,
+            diaries: self.diaries,
             rules: self.rules,
             tenants: self.tenants.clone()?,
         })
@@ -274,6 +287,13 @@ impl Settings {
         ensures range { result ≤ most_log_bytes }
     {
         self.checkpoint_log_size
+    }
+
+    /// Whether channels keep diaries of what is accepted, for the close to compare with what stands.
+    pub fn diaries(&self) -> bool
+        ensures { result ≡ self.now.diaries }
+    {
+        self.diaries
     }
 
     /// The sizes in bytes at which a block is closed and a chunk is sealed as full: no tenant has others. Takes no memory.

@@ -7,15 +7,24 @@ use Rattle.std.proofs.lemmas.List.Sorted.{IsPermutation-refl}
 use Rattle.ing_rows.specs.Rows.{IsSame, Row, State}
 use Rattle.ing_limits.specs.Settings.{StoreSettings}
 use Rattle.ing_tally.specs.Books.{ShareState}
-use Rattle.ing_diary.specs.Notes.{AreNoted, Note}
 use Rattle.ing_begun.specs.Closed.{ClosedContents, closed_of}
 use Rattle.ing_begun.specs.Contents.{Contents, flying_count, stored_count}
 use Rattle.ing_tally.specs.declared.report.ShardReport.{ShardReport}
 use Rattle.ing_node.specs.Closing.{AreInPlaces, IsComplete, StandInPlaces, shares_at, shares_in}
-use Rattle.ing_node.specs.Diaries.{HaveNoted}
+use Rattle.ing_diary.specs.Fronts.{front_in}
+use Rattle.ing_shard.specs.declared.listed.StreamFront.{StreamFront}
+use Rattle.ing_node.specs.Earlier.{EarlierState, had_at, had_in}
+use Rattle.std.specs.Option.{option_map}
+use Rattle.std.proofs.lemmas.Option.{slice_get-map}
 use Rattle.ing_node.specs.Reports.{CountRows, CountRowsFrom, CountsRows, IsClosed, IsGathered, recovered_at, recovered_in}
 
 -- ---- lists
+
+pub reverse_mapped : {X Y : Type 0} (f : X → Y) (xs : List X) → reverse (map f xs) ≡ map f (reverse xs)
+reverse_mapped f [] = refl
+reverse_mapped f (x ∷ xs) =
+    reverse-append (f x ∷ []) (map f xs) ∙ ap (λ l. l ++ f x ∷ []) (reverse_mapped f xs)
+    ∙ sym (map-append f (reverse xs) (x ∷ [])) ∙ ap (map f) (sym (reverse-append (x ∷ []) xs))
 
 pub last_get : {X : Type 0} (rest : List X) (x : X) → slice_get (rest ++ x ∷ []) (length rest) ≡ Some x
 last_get [] x = refl
@@ -192,6 +201,14 @@ pub same_there : {H : Type 0} (helds : List H) (place : ℕ) (x held : H) → pl
 same_there helds place x held below is at =
     let one : Some held ≡ Some x = sym at ∙ get_there helds place x below ∙ ap Some (sym is) in cc
 
+-- how many entries each stream of a shard had, by the fronts at its place
+pub had_there : (fronts : List (List StreamFront)) (earlier : EarlierState) (place : ℕ) (had : List StreamFront) → map front_in fronts ≡ earlier.fronts → place < length fronts
+    → had ≡ slice_index_or fronts place had → had_at earlier place ≡ front_in had
+had_there fronts earlier place had are below is =
+    let there : slice_get earlier.fronts place ≡ Some (front_in had) =
+    ap (λ l. slice_get l place) (sym are) ∙ slice_get-map front_in fronts place ∙ ap (option_map front_in) (get_there fronts place had below ∙ ap Some (sym is)) in
+    ap had_in there
+
 -- what is so of the rows of a shard that is looked at, where each stands at its place
 pub so_there : {H : Type 0} (shard_in : H → Contents) (helds : List H) (place : ℕ) (x : H) (seen : Contents) (shards : ℕ) (F : List Row → ℕ → ℕ → Type 0)
     → place < length helds → x ≡ slice_index_or helds place x → seen ≡ shard_in (slice_index_or helds place x) → AreInPlaces shard_in helds → length helds ≡ shards
@@ -227,10 +244,12 @@ module _ {H : Type 0} (shard_in : H → Contents) (helds : List H) (closed : Lis
   from : (i : ℕ) (shard : ClosedContents) → slice_get closed i ≡ Some shard → (h : H) × (slice_get helds i ≡ Some h) × (shard ≡ closed_of (shard_in h))
   from i shard at = made_of (λ h. closed_of (shard_in h)) helds i shard (ap (λ l. slice_get l i) (sym is) ∙ at)
 
-  pub closed_noted : (notes : ℕ → List Note) → HaveNoted (λ h. (shard_in h).state.rows) notes helds → HaveNoted (λ shard. shard.state.rows) notes closed
-  closed_noted notes noted i shard at =
+  -- what is so of the rows of the one is so of those of the other
+  pub closed_as : (P : ℕ → List Row → Type 0) → ((i : ℕ) (h : H) → slice_get helds i ≡ Some h → P i (shard_in h).state.rows)
+      → (i : ℕ) (shard : ClosedContents) → slice_get closed i ≡ Some shard → P i shard.state.rows
+  closed_as P each i shard at =
       let made = from i shard at in
-      subst (λ (s : ClosedContents). AreNoted s.state.rows (notes i)) (sym made.2) (noted i made.0 made.1)
+      subst (λ (s : ClosedContents). P i s.state.rows) (sym made.2) (each i made.0 made.1)
 
   pub closed_counted : (reports : List ShardReport) → CountRows (λ h. (shard_in h).state.rows) helds reports → CountRows (λ shard. shard.state.rows) closed reports
   closed_counted reports counted i shard report at told =

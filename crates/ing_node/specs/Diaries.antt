@@ -5,7 +5,8 @@ use Rattle.std.specs.Option.{option_map}
 use Rattle.ing_rows.specs.declared.entry.Entry.{Entry}
 use Rattle.ing_rows.specs.Rows.{Row, StreamKey}
 use Rattle.ing_tally.specs.Books.{ShareState}
-use Rattle.ing_diary.specs.Notes.{AreNoted, DiaryState, Note, is_in_shard}
+use Rattle.ing_diary.specs.Fronts.{rows_since}
+use Rattle.ing_diary.specs.Notes.{AreNoted, DiaryState, HaveNotedPlaces, Note, is_in_shard}
 use Rattle.ing_diary.specs.Faults.{NamesOther}
 use Rattle.ing_node.specs.declared.report.CloseRefusal.{CloseRefusal}
 use Rattle.ing_node.specs.declared.report.CloseRefusal.TheVariants.{Unsettled}
@@ -41,15 +42,20 @@ notes_at shards shard = flat_map (λ p. filter (is_in_shard shards shard) (notes
 abbrev pub KeepsDiary : PusherState → Type 0
 KeepsDiary p = is_some p.diary ≡ true
 
--- the rows of each shard, without where they stand, are exactly what was noted of it, each once; they are read off what stands at its
--- place
-abbrev pub HaveNoted : {H : Type 0} → (H → List Row) → (ℕ → List Note) → List H → Type 0
-HaveNoted {H = H} rows_in notes shards =
-    (i : ℕ) (shard : H) → slice_get shards i ≡ Some shard → AreNoted (rows_in shard) (notes i)
+-- Of each shard the rows that came since its streams had so many entries, without where they stand, are exactly what was noted of it, each
+-- once; the rows are read off what stands at its place.
+abbrev pub HaveNoted : {H : Type 0} → (H → List Row) → (ℕ → StreamKey → ℕ) → (ℕ → List Note) → List H → Type 0
+HaveNoted {H = H} rows_in had notes shards =
+    (i : ℕ) (shard : H) → slice_get shards i ≡ Some shard → AreNoted (rows_since (had i) (rows_in shard)) (notes i)
 
--- what is told of a shard, if it is that an entry differs, is so: the entry stands among its rows or among what was noted of it, and not
--- exactly once and alike in both
-abbrev pub NamesOtherIn : {H : Type 0} → (H → List Row) → (ℕ → List Note) → List H → CloseRefusal → Type 0
-NamesOtherIn {H = H} rows_in notes shards (Unsettled i why) =
-    (shard : H) → slice_get shards i ≡ Some shard → NamesOther (rows_in shard) (notes i) why
-NamesOtherIn rows_in notes shards _ = Unit {0}
+-- and whatever the store gave, each of them stands under its number exactly where it was noted
+abbrev pub HaveNotedEach : {H : Type 0} → (H → List Row) → (ℕ → StreamKey → ℕ) → (ℕ → List Note) → List H → Type 0
+HaveNotedEach {H = H} rows_in had notes shards =
+    (i : ℕ) (shard : H) → slice_get shards i ≡ Some shard → HaveNotedPlaces (rows_since (had i) (rows_in shard)) (notes i)
+
+-- what is told of a shard, if it is that an entry differs, is so: the entry stands among its rows that came since or among what was noted of
+-- it, and not exactly once and alike in both
+abbrev pub NamesOtherIn : {H : Type 0} → (H → List Row) → (ℕ → StreamKey → ℕ) → (ℕ → List Note) → List H → CloseRefusal → Type 0
+NamesOtherIn {H = H} rows_in had notes shards (Unsettled i why) =
+    (shard : H) → slice_get shards i ≡ Some shard → NamesOther (rows_since (had i) (rows_in shard)) (notes i) why
+NamesOtherIn rows_in had notes shards _ = Unit {0}

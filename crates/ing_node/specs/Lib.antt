@@ -11,6 +11,8 @@ pub mod Diaries
 pub mod Earlier
 pub mod Waiting
 -- what its clauses speak of in the crates below
+pub use Rattle.ing_diary.specs.declared.fault.Mismatch
+pub use Rattle.ing_diary.specs.declared.fault.Unsettled
 pub use Rattle.ing_begun.specs.Begun
 pub use Rattle.ing_begun.specs.Contents
 pub use Rattle.ing_begun.specs.Kept

@@ -1,5 +1,5 @@
 -- How the parts of one ingester are tied to its names (own).
-use Rattle.std.specs.Prelude.{◌≡◌, ℕ, List, [], Option, Some, None, length, slice_get}
+use Rattle.std.specs.Prelude.{◌≡◌, ℕ, false, List, [], Option, Some, None, length, slice_get}
 use Rattle.std.specs.FinMap.{from_entries}
 use Rattle.ing_rows.specs.Defaults.{defaults}
 use Rattle.ing_limits.specs.Settings.{StoreSettings}
@@ -23,7 +23,7 @@ abbrev pub no_names : BookNames
 no_names = record { accepted = no_book; flight = no_book; stored = no_book; counts = no_book }
 
 abbrev pub no_settings : StoreSettings
-no_settings = record { shards = 1; flushers = 1; flush_queue_length = 1; flush_check_period = 0; checkpoint_log_size = 0; rules = defaults; tenants = from_entries [] }
+no_settings = record { shards = 1; flushers = 1; flush_queue_length = 1; flush_check_period = 0; checkpoint_log_size = 0; diaries = false; rules = defaults; tenants = from_entries [] }
 
 -- the books of the shard at a place of a list
 abbrev pub names_in : {D : Type 0} → Option (BegunState D) → BookNames

@@ -4,9 +4,9 @@ ghost use Rattle.ing_tally.specs.Books.{AreOf, amount_of};
 ghost use Rattle.ing_begun.specs.Closed.{closed_of};
 ghost use Rattle.ing_flush.specs.Tallies.{amount_at};
 ghost use Rattle.ing_node.specs.Closing.{AreComplete, HaveRoom, IsComplete, StandInPlaces, shares_at};
-ghost use Rattle.ing_node.specs.Diaries.{HaveNoted, KeepsDiary, NamesOtherIn, notes_at};
+ghost use Rattle.ing_node.specs.Diaries.{HaveNoted, HaveNotedEach, KeepsDiary, NamesOtherIn, notes_at};
 ghost use Rattle.ing_node.specs.Names.{IsTallyOf};
-ghost use Rattle.ing_node.specs.Earlier.{HasNone};
+ghost use Rattle.ing_node.specs.Earlier.{had_at};
 ghost use Rattle.ing_node.specs.Reports.{AreClosed, AreGathered, AreWithin, CountRows, CountsRows, HasReason, IsGathered, IsCausedClose, IsNoBadClose, IsUnsettled};
 
 use crate::earlier::Earlier;
@@ -95,11 +95,11 @@ impl<N: NodeName, D: LogDisk + Drop, R: Receipt> Ingester<N, D, R> {
     /// Closes the ingester with all of its pushers, with the tallies of all of its flushers, and with the shares of what it began with. Of
     /// each shard as many entries were accepted as the pushers were told, as many are stored as the flushers counted and had been stored
     /// before, and each that was accepted or had been there before is stored or kept: none is lost, and none counts twice. The shards are
-    /// handed out with it, to be read. Where every pusher kept a diary and no entry had been there before, all entries are read back, by
-    /// `end`, and the entries of each of these shards are exactly those that the pushers noted, each once.
+    /// handed out with it, to be read. Where the settings want diaries and every pusher kept one, all entries that came since the ingester
+    /// began are read back, by `end`, and those of each of these shards are exactly those that the pushers noted, each once.
     ///
     /// `StillOut` where a share is missing, so that a pusher, a flusher or a ticket is still out somewhere or was given up; `Misplaced`;
-    /// `Unsettled` as `laws::settle`, and only where every pusher kept a diary; and `NoMemory`. Then everything comes back as it was.
+    /// `Unsettled` as `laws::settle`, and only where the settings want diaries and every pusher kept one; and `NoMemory`. Then everything comes back as it was.
     pub fn close<S: StoreEnd<Receipt = R>>(
         self,
         alloc: Global,
@@ -119,11 +119,17 @@ impl<N: NodeName, D: LogDisk + Drop, R: Receipt> Ingester<N, D, R> {
             CountRows (λ shard. shard.state.rows) closed.shards.items closed.report.shards.items) }
         ensures pushers { IfErr result (λ fault. fault.pushers ≡ pushers) }
         ensures tallies { IfErr result (λ fault. fault.tallies ≡ tallies) }
-        // Where diaries were kept of all that there is, these shards have exactly the entries that were noted.
-        ensures settled { S.is_honest → IfOk result (λ closed. All KeepsDiary pushers.items → HasNone N.earlier →
-            HaveNoted (λ shard. shard.state.rows) (λ i. notes_at N.settings.shards i pushers.items) closed.shards.items) }
+        // Where diaries were kept, exactly the entries that were noted came to these shards.
+        ensures settled { S.is_honest → N.settings.diaries ≡ true → IfOk result (λ closed. All KeepsDiary pushers.items →
+            HaveNoted (λ shard. shard.state.rows) (had_at N.earlier)
+            (λ i. notes_at N.settings.shards i pushers.items) closed.shards.items) }
+        // Whatever the store gave, each stands under its number where it was noted.
+        ensures places { N.settings.diaries ≡ true → IfOk result (λ closed. All KeepsDiary pushers.items →
+            HaveNotedEach (λ shard. shard.state.rows) (had_at N.earlier)
+            (λ i. notes_at N.settings.shards i pushers.items) closed.shards.items) }
         ensures why { IfErr result (λ fault. HasReason fault.why) }
-        ensures asked { IfErr result (λ fault. IsUnsettled fault.why → All KeepsDiary pushers.items) }
+        ensures asked { IfErr result (λ fault. IsUnsettled fault.why →
+            (N.settings.diaries ≡ true) × All KeepsDiary pushers.items) }
         ensures honest { S.is_honest → IfErr result (λ fault. IsNoBadClose fault.why) }
         // A fault of the store has a cause, and an end that never fails stays such an end.
         ensures count { OnOk result (S.failure_count end.new ≡ S.failure_count end.old) }
@@ -152,8 +158,7 @@ impl<N: NodeName, D: LogDisk + Drop, R: Receipt> Ingester<N, D, R> {
         } = room;
         let kept_alloc = self.alloc;
         let helds = self.into_shards(helds);
-        let is_new = earlier.is_none();
-        if let Err(why) = is_closable(alloc, end, &helds, is_new, &pushers, counted as u64) {
+        if let Err(why) = is_closable(alloc, end, &helds, &earlier, &pushers, counted as u64) {
             let_go(pushing);
             let_go(stored);
             return Err(CloseFault {
@@ -207,24 +212,28 @@ impl<N: NodeName, D: LogDisk + Drop, R: Receipt> Ingester<N, D, R> {
 }
 
 /// Whether shards can be closed with these pushers and one share more, and so many shares of the stored entries: all shares are there,
-/// and where every pusher kept a diary and there was no entry before, the entries are those that were noted.
+/// and where the settings want diaries and every pusher kept one, the entries that came since are those that were noted.
 fn is_closable<N: NodeName, D: LogDisk + Drop, S: StoreEnd>(
     alloc: Global,
     end: &mut S,
     helds: &[Held<N, D, S::Receipt>],
-    is_new: bool,
+    earlier: &Earlier<N>,
     pushers: &[Pusher<N>],
     tallies: u64,
 ) -> Result<(), CloseRefusal>
     requires few { length helds.now < 2 ^ 32 }
     requires all { length helds.now ≡ N.settings.shards }
     ensures complete { OnOk result (AreComplete (λ held. held.shard.memory) (λ _. length pushers.now + 1) (λ _. tallies) helds.now) }
-    ensures settled { S.is_honest → is_new ≡ true → OnOk result (All KeepsDiary pushers.now →
-        HaveNoted (λ held. held.shard.memory.state.rows) (λ i. notes_at N.settings.shards i pushers.now) helds.now) }
-    ensures differs { S.is_honest → IfErr result (NamesOtherIn (λ held. held.shard.memory.state.rows)
+    ensures settled { S.is_honest → N.settings.diaries ≡ true → OnOk result (All KeepsDiary pushers.now →
+        HaveNoted (λ held. held.shard.memory.state.rows) (had_at N.earlier)
+        (λ i. notes_at N.settings.shards i pushers.now) helds.now) }
+    ensures places { N.settings.diaries ≡ true → OnOk result (All KeepsDiary pushers.now →
+        HaveNotedEach (λ held. held.shard.memory.state.rows) (had_at N.earlier)
+        (λ i. notes_at N.settings.shards i pushers.now) helds.now) }
+    ensures differs { S.is_honest → IfErr result (NamesOtherIn (λ held. held.shard.memory.state.rows) (had_at N.earlier)
         (λ i. notes_at N.settings.shards i pushers.now) helds.now) }
     ensures why { IfErr result HasReason }
-    ensures asked { IfErr result (λ why. IsUnsettled why → All KeepsDiary pushers.now) }
+    ensures asked { IfErr result (λ why. IsUnsettled why → (N.settings.diaries ≡ true) × All KeepsDiary pushers.now) }
     ensures honest { S.is_honest → IfErr result IsNoBadClose }
     ensures count { OnOk result (S.failure_count end.new ≡ S.failure_count end.old) }
     ensures cause { IfErr result (IsCausedClose (S.failure_count end.old) (S.failure_count end.new)) }
@@ -232,8 +241,10 @@ fn is_closable<N: NodeName, D: LogDisk + Drop, S: StoreEnd>(
         × (S.failure_count end.new ≡ S.failure_count end.old) }
 {
     are_complete(helds, pushers.len() as u64 + 1, tallies)?;
-    if is_new && keep_diaries(pushers) {
-        settle_all(alloc, end, helds, pushers)?;
+    if let Some(fronts) = &earlier.fronts {
+        if keep_diaries(pushers) {
+            settle_all(alloc, end, helds, fronts, pushers)?;
+        }
     }
     Ok(())
 }

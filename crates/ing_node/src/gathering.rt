@@ -154,6 +154,7 @@ pub(crate) fn hand_out_earlier<N: NodeName>(
     let Earlier {
         told,
         stored: tally,
+        fronts: _,
         of: _,
     } = earlier;
     hand_out_told(pushing, told);

@@ -11,6 +11,7 @@ ghost use Rattle.ing_node.specs.Refusals.{IsLockRefusal, IsShareRefusal};
 
 use crate::diaries::new_diary;
 use crate::earlier::Earlier;
+use crate::fronts::fronts_of;
 use crate::held::Held;
 use crate::names::NodeName;
 use crate::opening::Opening;
@@ -40,7 +41,7 @@ pub struct Ingester<N: NodeName, D: LogDisk, R: Receipt> {
 
 impl<N: NodeName, D: LogDisk, R: Receipt> Ingester<N, D, R> {
     /// The ingester of these shards, which N has to name: their settings, their books by number, and the shares of what they began with,
-    /// which stand beside it; and where N says that there are no logs, each is torn. Where memory runs out the shards come back.
+    /// which stand beside it (where the settings want diaries, with how many entries each stream had); and where N says that there are no logs, each is torn. Where memory runs out the shards come back.
     pub fn open(
         alloc: Global,
         shards: Shards<D, R>,
@@ -51,6 +52,9 @@ impl<N: NodeName, D: LogDisk, R: Receipt> Ingester<N, D, R> {
         requires torn { N.has_logs ≡ false → AllByRecursion HasTornLog (reverse shards.last_first.items) }
         ensures back { IfErr result (λ back. back ≡ shards) }
     {
+        let Ok(fronts) = fronts_of(alloc, &shards) else {
+            return Err(shards);
+        };
         let Ok(mut opening) = Opening::new(alloc, shards.last_first.len()) else {
             return Err(shards);
         };
@@ -74,6 +78,7 @@ impl<N: NodeName, D: LogDisk, R: Receipt> Ingester<N, D, R> {
         let earlier = Earlier {
             told,
             stored: FlusherTally::of_shares(stored),
+            fronts,
             of: PhantomData,
         };
         Ok((ingester, earlier))

@@ -12,12 +12,12 @@ mod diaries;
 mod door;
 mod earlier;
 mod flushing;
+mod fronts;
 mod gathering;
 mod held;
 mod ingester;
 pub mod laws;
 mod names;
-mod no_store;
 mod opening;
 mod pending;
 mod pusher;
@@ -34,7 +34,6 @@ pub use earlier::Earlier;
 pub use flushing::{FlusherFault, Flushing, Sweeper};
 pub use ingester::Ingester;
 pub use names::NodeName;
-pub use no_store::NoStore;
 pub use pusher::{Pusher, Waiting};
 pub use query::{Answer, AnswerFault};
 pub use report::{CloseRefusal, Closed, Report};
@@ -42,4 +41,5 @@ pub use swept::Swept;
 
 // What its callers meet of the crates below.
 pub use ing_begun::{ClosedShard, NodeFault, Op, Shards};
+pub use ing_diary::{Mismatch, Unsettled};
 pub use ing_flush::{FlusherTally, FreeGate, Round, Worker};

@@ -1,7 +1,9 @@
 //! Whether the shards have exactly the entries that were noted.
-ghost use Rattle.std.specs.Prelude.{◌≡◌, ◌<◌, ◌^◌, ℕ, All, IfErr, OnOk, false, length, true};
+ghost use Rattle.std.specs.Prelude.{◌≡◌, ◌<◌, ◌^◌, ℕ, All, IfErr, OnOk, false, length, map, true};
 ghost use Rattle.ing_node.specs.Closing.{AreInPlaces};
-ghost use Rattle.ing_node.specs.Diaries.{HaveNoted, KeepsDiary, NamesOtherIn, notes_at};
+ghost use Rattle.ing_diary.specs.Fronts.{front_in};
+ghost use Rattle.ing_node.specs.Diaries.{HaveNoted, HaveNotedEach, KeepsDiary, NamesOtherIn, notes_at};
+ghost use Rattle.ing_node.specs.Earlier.{had_at};
 ghost use Rattle.ing_node.specs.Reports.{HasReason, IsCausedClose, IsNoBadClose};
 
 use crate::held::Held;
@@ -9,6 +11,7 @@ use crate::laws::settle;
 use crate::names::NodeName;
 use crate::pusher::Pusher;
 use crate::report::CloseRefusal;
+use ing_diary::Fronts;
 use ing_store::StoreEnd;
 use ing_wal::LogDisk;
 use std::alloc::Global;
@@ -26,19 +29,25 @@ pub(crate) fn keep_diaries<N: NodeName>(pushers: &[Pusher<N>]) -> bool
     true
 }
 
-/// Whether each shard, which stands at its place, has exactly the entries that these pushers noted, as `laws::settle`.
+/// Whether in each shard, which stands at its place, exactly the entries that these pushers noted came since its streams had these fronts,
+/// as `laws::settle`.
 pub(crate) fn settle_all<N: NodeName, D: LogDisk, S: StoreEnd>(
     alloc: Global,
     end: &mut S,
     helds: &[Held<N, D, S::Receipt>],
+    fronts: &[Fronts],
     pushers: &[Pusher<N>],
 ) -> Result<(), CloseRefusal>
+    requires fronts { map front_in fronts.now ≡ N.earlier.fronts }
+    requires each { length fronts.now ≡ length helds.now }
     requires few { length helds.now < 2 ^ 32 }
     requires all { length helds.now ≡ N.settings.shards }
     requires placed { AreInPlaces (λ held. held.shard.memory) helds.now }
-    ensures settled { S.is_honest → OnOk result (HaveNoted (λ held. held.shard.memory.state.rows)
+    ensures settled { S.is_honest → OnOk result (HaveNoted (λ held. held.shard.memory.state.rows) (had_at N.earlier)
         (λ i. notes_at N.settings.shards i pushers.now) helds.now) }
-    ensures differs { S.is_honest → IfErr result (NamesOtherIn (λ held. held.shard.memory.state.rows)
+    ensures places { OnOk result (HaveNotedEach (λ held. held.shard.memory.state.rows) (had_at N.earlier)
+        (λ i. notes_at N.settings.shards i pushers.now) helds.now) }
+    ensures differs { S.is_honest → IfErr result (NamesOtherIn (λ held. held.shard.memory.state.rows) (had_at N.earlier)
         (λ i. notes_at N.settings.shards i pushers.now) helds.now) }
     ensures why { IfErr result HasReason }
     ensures honest { S.is_honest → IfErr result IsNoBadClose }
@@ -49,7 +58,15 @@ pub(crate) fn settle_all<N: NodeName, D: LogDisk, S: StoreEnd>(
 {
     for place in 0..helds.len() {
         let shards = helds.len() as u32;
-        if let Err(why) = settle(helds[place].shard.memory(), shards, alloc, end, pushers) {
+        let had = &fronts[place];
+        if let Err(why) = settle(
+            helds[place].shard.memory(),
+            shards,
+            alloc,
+            end,
+            had,
+            pushers,
+        ) {
             return Err(CloseRefusal::Unsettled {
                 shard: place as u32,
                 why,

@@ -6,6 +6,6 @@ mod ListingLaws
 mod OfferLaws
 mod PartLaws
 pub mod RangeLaws
-mod Reordered
+pub mod Reordered
 mod SomeLaws
 mod StandLaws

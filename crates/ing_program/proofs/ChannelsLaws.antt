@@ -1,7 +1,6 @@
 -- How a run of several channels ends, and what is reported of it.
-use Rattle.std.proofs.Common.{◌≡◌, ◌≢◌, ◌+◌, ◌-◌, ◌*◌, ◌<◌, ◌≤◌, ◌%◌, ◌∙◌, ℕ, zero, suc, Bool, not, List, [], ◌∷◌, ap, arith, drop, inl, inr, length, length-drop, length-take-le, refl, subst, sym, take}
+use Rattle.std.proofs.Common.{◌≡◌, ◌≢◌, ◌+◌, ◌-◌, ◌*◌, ◌≤◌, ℕ, Bool, not, List, [], ◌∷◌, arith, drop, inl, inr, length, length-drop, length-take-le, refl, subst, take}
 use Rattle.std.specs.Prelude.{IsTrue, filter}
-use Rattle.std.proofs.Math.Nat.{add-mul-mod_self_left}
 use Rattle.std.proofs.lemmas.List.Filters.{length-filter_both}
 use Rattle.ing_begun.specs.RecoverFault.{RecoverFault}
 use Rattle.ing_session.specs.Endings.{ending_of_recover, is_of_run}

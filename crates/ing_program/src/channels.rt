@@ -7,6 +7,7 @@ ghost use Rattle.ing_limits.specs.Settings.{StoreSettings};
 ghost use Rattle.ing_node.specs.Earlier.{earlier_of};
 ghost use Rattle.ing_node.specs.Names.{AreNamed};
 ghost use Rattle.ing_session.specs.Replies.{channels_data, line_text};
+ghost use Rattle.ing_program.specs.Ended.{IsEndingOf, IsEndingOfClose, IsEndingOfEntries, place_text};
 ghost use Rattle.ing_program.specs.Channels.{AreNoChannels, ReportsChannels, ReportsPaths, clock_count};
 ghost use Rattle.ing_program.specs.Starting.{started_by};
 
@@ -15,14 +16,14 @@ use crate::paths::{Input, Output};
 use crate::program::{read_file, settings_of_file};
 use crate::ticks::Ticking;
 use ing_begun::Shards;
-use ing_lanes::{Ended, Line, Opens, run_lanes};
+use ing_lanes::{Ended, Ends, LanesFault, Line, Opens, run_lanes};
 use ing_limits::Settings;
-use ing_node::NodeName;
+use ing_node::{CloseRefusal, Mismatch, NodeName, Unsettled};
 use ing_refusals::Refusal;
 use ing_session::{Ending, Reply, put_reply};
 use ing_store::{Receipt, StoreEnd};
 use ing_wal::LogDisk;
-use std::alloc::Global;
+use std::alloc::{AllocError, Global};
 use std::io::{Read, Write};
 use std::marker::Brand;
 use std::rt::Files;
@@ -45,7 +46,8 @@ const CHANNEL_LIMIT: usize = 65_536;
 /// is one channel more, whose replies nobody reads. Then the report is written.
 ///
 /// `BadArguments` where a path has no partner, the word for the folder is empty, or there are more than 65,536 channels; the others as
-/// `start_over`, and `NotServed` where shards are not opened or not closed. (Own.)
+/// `start_over`, `Differs` where diaries are wanted and an entry does not stand as it was noted, and `NotServed` where shards are not opened
+/// or not closed. (Own.)
 pub fn start_channels<
     F: Read + Write + Drop + Send,
     H: Files<File = F> + AllocGlobal + Threads + Wait + Sync,
@@ -124,11 +126,17 @@ fn serve_paths<
     add_lines(alloc, folders, objects.as_str(), paths, &mut lines)?;
     let count = lines.len() as u32;
     let flushers = ends_in(alloc, folders, objects.as_str(), count, count)?;
-    let finders = ends_in(alloc, folders, objects.as_str(), 2 * count, shards)?;
+    let reader = end_in(alloc, folders, objects.as_str(), 2 * count)?;
+    let finders = ends_in(alloc, folders, objects.as_str(), 2 * count + 1, shards)?;
     begin(folders, &mut hold)?;
     let ended = match Shards::recover(rt, alloc, settings, logs, finders) {
         Ok(shards) => run_paths::<Brand, _, _, _, _, _, _, _, _>(
-            rt, opens, shards, lines, flushers, writer,
+            rt,
+            opens,
+            shards,
+            lines,
+            Ends { flushers, reader },
+            writer,
         ),
         Err((fault, _logs)) => Err(Ending::from(fault)),
     };
@@ -152,24 +160,74 @@ fn run_paths<
     opens: &P,
     shards: Shards<D, Q>,
     lines: Vec<Line<Input<F, T>, Output<F>, E>>,
-    flushers: Vec<E>,
+    ends: Ends<E, E>,
     writer: &mut W,
 ) -> Result<(), Ending>
     requires settings { shards.settings ≡ N.settings }
     requires named { AreNamed N.books (reverse shards.last_first.items) }
     requires earlier { N.earlier ≡ earlier_of (reverse shards.last_first.items) }
     requires logs { N.has_logs ≡ true }
-    requires flushers { vec_len flushers ≡ vec_len lines }
+    requires flushers { vec_len ends.flushers ≡ vec_len lines }
     ensures output { OnOk result (ReportsChannels N.settings (vec_len lines) (W.contents writer.old) (W.contents writer.new)) }
     ensures words { IfErr result (λ e. e ≢ Ending.BadArguments) }
     ensures silent { IfErr result (λ e. e ≢ Ending.OutputFault → writer.new ≡ writer.old) }
 {
     let alloc = rt.alloc();
-    match run_lanes::<N, _, _, _, _, _, _, _, _>(rt, alloc, opens, shards, true, lines, flushers) {
+    match run_lanes::<N, _, _, _, _, _, _, _, _>(rt, alloc, opens, shards, true, lines, ends) {
         Ok(ended) => report(alloc, writer, ended),
-        Err(Refusal::NoMemory) => Err(Ending::NoMemory),
-        Err(refusal) => Err(Ending::NotServed(refusal)),
+        Err(fault) => Err(ending_of(alloc, fault)),
     }
+}
+
+/// How a run of channels ends without its report. `NoMemory` may stand in place of `Differs`.
+fn ending_of(alloc: Global, fault: LanesFault) -> Ending
+    ensures told { IsEndingOf fault result }
+    ensures words { result ≢ Ending.BadArguments }
+{
+    match fault {
+        LanesFault::NotOpened(Refusal::NoMemory) => Ending::NoMemory,
+        LanesFault::NotOpened(refusal) => Ending::NotServed(refusal),
+        LanesFault::NotClosed(why) => ending_of_close(alloc, why),
+    }
+}
+
+/// The same where the ingester was not closed.
+fn ending_of_close(alloc: Global, why: CloseRefusal) -> Ending
+    ensures told { IsEndingOfClose why result }
+    ensures words { result ≢ Ending.BadArguments }
+{
+    match why {
+        CloseRefusal::NoMemory => Ending::NoMemory,
+        CloseRefusal::StillOut(_) => Ending::NotServed(Refusal::StillOut),
+        CloseRefusal::Misplaced { shard: _ } => Ending::NotServed(Refusal::Misplaced),
+        CloseRefusal::Unsettled { shard, why } => ending_of_entries(alloc, shard, why),
+    }
+}
+
+/// The same where the entries of a shard are not those that were noted, or could not be read back.
+fn ending_of_entries(alloc: Global, shard: u32, why: Unsettled) -> Ending
+    ensures told { IsEndingOfEntries shard why result }
+    ensures words { result ≢ Ending.BadArguments }
+{
+    match why {
+        Unsettled::Query(fault) => Ending::NotServed(fault.refusal()),
+        Unsettled::Differs(mismatch) => match place_of(alloc, shard, &mismatch) {
+            Ok(place) => Ending::Differs { place },
+            Err(_) => Ending::NoMemory,
+        },
+    }
+}
+
+/// What is told of an entry that differs.
+fn place_of(alloc: Global, shard: u32, mismatch: &Mismatch) -> Result<String, AllocError>
+    ensures { IfOk result (λ place. string_bytes place ≡ place_text shard mismatch.now) }
+{
+    let Mismatch {
+        tenant,
+        stream,
+        number,
+    } = mismatch;
+    format!(in alloc; ": shard {shard}, tenant {tenant}, stream {stream}, number {number}")
 }
 
 /// The channel of the clock, as a list of one, or of none where the settings have no period; it begins with as many others as there are

@@ -12,7 +12,7 @@ use Rattle.ing_limits.specs.Settings.{StoreSettings}
 use Rattle.ing_commands.specs.declared.fault.LineFault.TheVariants.{BadCommand}
 use Rattle.ing_session.specs.declared.lines.NextLine.TheVariants.{Line, TooLong, End}
 use Rattle.ing_session.specs.declared.ending.Ending.{Ending}
-use Rattle.ing_session.specs.declared.ending.Ending.TheVariants.{NoMemory, NotToml, UnknownSetting, BadSetting, InputFault, OutputFault, BadArguments, NoSettings, NoFolder, NoObjects, FolderInUse, MissingLog, NotRecovered, NotServed}
+use Rattle.ing_session.specs.declared.ending.Ending.TheVariants.{NoMemory, NotToml, UnknownSetting, BadSetting, InputFault, OutputFault, BadArguments, NoSettings, NoFolder, NoObjects, FolderInUse, MissingLog, NotRecovered, NotServed, Differs}
 use Rattle.ing_session.specs.Endings.{is_of_run}
 use Rattle.ing_session.specs.Fronts.{AppendsFront, Grows}
 use Rattle.ing_session.specs.Lines.{lines_of, with_feed, EndsLine, TakesLine}
@@ -516,6 +516,7 @@ module _ (m : Manner) (settings : StoreSettings) (input : List ℕ) (before afte
   breaks_known rest (Err MissingLog) other of_run all read memory = absurd cc
   breaks_known rest (Err (NotRecovered fault)) other of_run all read memory = absurd cc
   breaks_known rest (Err (NotServed refusal)) other of_run all read memory = absurd cc
+  breaks_known rest (Err (Differs place)) other of_run all read memory = absurd cc
 
 -- the same, of what is known of the input
 pub breaks_ended : (m : Manner) (settings : StoreSettings) (before after : ℕ) (first c k : Option (List ℕ)) (r : List ℕ) (known rest : Option (List ℕ)) (ended : Result (Unit {0}) Ending) → Grows first c → AppendsFront c k r

@@ -13,7 +13,7 @@ use Rattle.ing_shard.specs.RelistFault.TheVariants as relist_faults
 use Rattle.ing_session.specs.declared.lines.LineError.{LineError}
 use Rattle.ing_session.specs.declared.lines.LineError.TheVariants as lines
 use Rattle.ing_session.specs.declared.ending.Ending.{Ending}
-use Rattle.ing_session.specs.declared.ending.Ending.TheVariants.{NoMemory, NotToml, UnknownSetting, BadSetting, InputFault, OutputFault, BadArguments, NoSettings, NoFolder, NoObjects, FolderInUse, MissingLog, NotRecovered, NotServed}
+use Rattle.ing_session.specs.declared.ending.Ending.TheVariants.{NoMemory, NotToml, UnknownSetting, BadSetting, InputFault, OutputFault, BadArguments, NoSettings, NoFolder, NoObjects, FolderInUse, MissingLog, NotRecovered, NotServed, Differs}
 
 abbrev pub ending_refusal : Ending → table.Refusal
 ending_refusal NoMemory = refusals.NoMemory
@@ -30,9 +30,10 @@ ending_refusal FolderInUse = refusals.FolderInUse
 ending_refusal MissingLog = refusals.MissingLog
 ending_refusal (NotRecovered fault) = recover_refusal_of fault
 ending_refusal (NotServed refusal) = refusal
+ending_refusal (Differs place) = refusals.Mismatch
 
 -- the exit status: 1 where arguments or settings are refused, 2 where input, output or a folder failed, the folder is in use or
--- lacks a log, a shard was not made again, or shards were not opened or closed, 3 where memory ran out
+-- lacks a log, a shard was not made again, shards were not opened or closed, or an entry differs, 3 where memory ran out
 abbrev pub ending_status : Ending → ℕ
 ending_status NoMemory = 3
 ending_status NotToml = 1
@@ -48,15 +49,21 @@ ending_status FolderInUse = 2
 ending_status MissingLog = 2
 ending_status (NotRecovered fault) = 2
 ending_status (NotServed refusal) = 2
+ending_status (Differs place) = 2
 
 -- the exit status of the program
 abbrev pub status_of : Result (Unit {0}) Ending → ℕ
 status_of (Ok done) = 0
 status_of (Err ending) = ending_status ending
 
+-- what is told behind the refusal's name
+abbrev pub ending_detail : Ending → List ℕ
+ending_detail (Differs place) = string_bytes place
+ending_detail _ = []
+
 -- the line on standard error
 abbrev pub ending_text : Ending → List ℕ
-ending_text ending = codes "ingestd: " ++ refusal_name (ending_refusal ending) ++ 10 ∷ []
+ending_text ending = codes "ingestd: " ++ (refusal_name (ending_refusal ending) ++ (ending_detail ending ++ 10 ∷ []))
 
 -- a run that has begun may end so
 abbrev pub is_of_run : Ending → Bool
@@ -74,6 +81,7 @@ is_of_run FolderInUse = false
 is_of_run MissingLog = false
 is_of_run (NotRecovered fault) = false
 is_of_run (NotServed refusal) = false
+is_of_run (Differs place) = false
 
 -- what it says of a settings text; the other endings say nothing of it
 abbrev pub refusal_of : Ending → Option Refusal
@@ -91,6 +99,7 @@ refusal_of FolderInUse = None
 refusal_of MissingLog = None
 refusal_of (NotRecovered fault) = None
 refusal_of (NotServed refusal) = None
+refusal_of (Differs place) = None
 
 -- the ending where a line could not be read
 abbrev pub ending_of_line : LineError → Ending

@@ -35,5 +35,6 @@ fn write_ending<E: Write>(ending: &Ending, errors: &mut E) -> io::Result<()>
 {
     put(errors, b"ingestd: ")?;
     put(errors, ending.refusal().name().as_bytes())?;
+    put(errors, ending.detail().as_bytes())?;
     put_out(errors, b"\n")
 }

@@ -1,6 +1,6 @@
 //! How the program ends on a fault.
 ghost use Rattle.std.specs.Prelude.{◌≡◌};
-ghost use Rattle.ing_session.specs.Endings.{ending_refusal, ending_status};
+ghost use Rattle.ing_session.specs.Endings.{ending_detail, ending_refusal, ending_status};
 
 use crate::lines::LineError;
 use ing_limits::SettingsFault;
@@ -39,6 +39,9 @@ pub enum Ending {
     NotRecovered(RecoverFault),
     /// Shards were not opened for several channels, or not closed behind them, for this reason.
     NotServed(Refusal),
+    /// An entry that was accepted does not stand exactly once, and alike, in its shard and in what the channels noted. `place` tells which
+    /// behind the refusal's name, as `: shard 2, tenant acme, stream {app="x"}, number 7`.
+    Differs { place: String },
 }
 
 impl Ending {
@@ -61,11 +64,22 @@ impl Ending {
             Ending::MissingLog => Refusal::MissingLog,
             Ending::NotRecovered(fault) => fault.refusal(),
             Ending::NotServed(refusal) => *refusal,
+            Ending::Differs { .. } => Refusal::Mismatch,
+        }
+    }
+
+    /// What is told behind the refusal's name: a place, or nothing. Takes no memory.
+    pub fn detail(&self) -> &str
+        ensures { result.now ≡ ending_detail self.now }
+    {
+        match self {
+            Ending::Differs { place } => place.as_str(),
+            _ => "",
         }
     }
 
     /// The exit status of the program: 1 where arguments or settings are refused, 2 where input, output or a folder failed, the
-    /// folder is in use or lacks a log, a shard was not made again, or shards were not opened or closed, 3 where memory ran out (own). Takes no memory.
+    /// folder is in use or lacks a log, a shard was not made again, shards were not opened or closed, or an entry differs, 3 where memory ran out (own). Takes no memory.
     pub fn status(&self) -> u8
         ensures { result ≡ ending_status self.now }
     {
@@ -82,7 +96,8 @@ impl Ending {
             | Ending::FolderInUse
             | Ending::MissingLog
             | Ending::NotRecovered(_)
-            | Ending::NotServed(_) => 2,
+            | Ending::NotServed(_)
+            | Ending::Differs { .. } => 2,
             Ending::NoMemory => 3,
         }
     }

@@ -1,5 +1,5 @@
 -- The rows of one stream of a shard are those of its part, and what a snapshot has of picked streams is of streams of the shard's own.
-use Rattle.std.proofs.Common.{◌≡◌, ℕ, zero, suc, Bool, true, false, cond, List, [], ◌∷◌, ◌++◌, filter, map, Some, refl, ap, sym, ◌∙◌, append-nil, subst, All, IsPermutation, Result, Ok, Err, bytes_eq, slice_get}
+use Rattle.std.proofs.Common.{◌≡◌, ℕ, zero, suc, Bool, true, false, cond, List, [], ◌∷◌, ◌++◌, filter, map, Some, refl, ap, sym, ◌∙◌, append-nil, length, subst, All, IsPermutation, Result, Ok, Err, bytes_eq, slice_get}
 use Rattle.std.specs.Prelude.{IfOk}
 use Rattle.std.specs.List.{flat_map}
 use Rattle.std.proofs.lemmas.Bool.{and_parts}
@@ -15,11 +15,11 @@ use Rattle.ing_parts.specs.declared.snapshot.Part.{Part}
 use Rattle.ing_parts.specs.declared.snapshot.Snapshot.{Snapshot}
 use Rattle.ing_parts.specs.Parts.{HasRows, ListsRows, found_among, found_at, standing}
 use Rattle.ing_rows.specs.Placement.{shard_of}
-use Rattle.ing_rows.specs.Rows.{StreamKey, Row, rows_of, same_stream}
+use Rattle.ing_rows.specs.Rows.{StreamKey, Row, count_of, rows_of, same_stream}
 use Rattle.ing_shard.specs.Contents.{AreOwn}
 use Rattle.ing_shard.specs.OneStream.{Stream}
 use Rattle.ing_shard.specs.Picked.{Picks}
-use Rattle.ing_shard.specs.Streams.{AreDistinct, key_of, part_of, whole}
+use Rattle.ing_shard.specs.Streams.{AreDistinct, IsKept, key_of, part_of, whole}
 use Rattle.ing_shard.proofs.CountLaws.{filter_eq, filter_false, filter_true, same_self}
 use Rattle.ing_shard.proofs.Parts.{all_rows}
 use Rattle.ing_shard.proofs.PositionLaws.{same_flip}
@@ -27,12 +27,19 @@ use Rattle.ing_shard.proofs.WholeLaws.{AreOthers, IsOther, others_rows}
 
 -- ---- the rows of one stream
 
+own_part : (st : Stream) → rows_of (key_of st) (part_of st).rows ≡ (part_of st).rows
+own_part st =
+    let s = key_of st in
+    let p : Row → Bool = λ r. same_stream r.stream s in
+    let mine = (part_of st).rows in
+    filter_eq p (λ r. true) mine (all_rows s (λ r. p r ≡ true) (λ first block place e. same_self s) st.chunks) ∙ filter_true mine
+
 first_own : (st : Stream) (sts : List Stream) → AreOthers (key_of st) sts → rows_of (key_of st) (whole (st ∷ sts)).rows ≡ (part_of st).rows
 first_own st sts others =
     let s = key_of st in
     let p : Row → Bool = λ r. same_stream r.stream s in
     let mine = (part_of st).rows in
-    let own : filter p mine ≡ mine = filter_eq p (λ r. true) mine (all_rows s (λ r. p r ≡ true) (λ first block place e. same_self s) st.chunks) ∙ filter_true mine in
+    let own : filter p mine ≡ mine = own_part st in
     let none : filter p (whole sts).rows ≡ [] = filter_eq p (λ r. false) (whole sts).rows (others_rows s sts others) ∙ filter_false (whole sts).rows in
     filter-append p mine (whole sts).rows ∙ (λ i. own i ++ none i) ∙ append-nil mine
 
@@ -82,6 +89,17 @@ listed_rows sts i st tenant name parts distinct is tenants named h =
     let own : rows_of (record { tenant = tenant; name = name }) (whole sts).rows ≡ (part_of st).rows =
     ap (λ s. rows_of s (whole sts).rows) key ∙ at_number (OwnIn (whole sts).rows) sts i st (each_own sts distinct) is in
     subst (λ rows. IsPermutation (found_among parts) (map found_at rows)) (sym own) h.same
+
+-- and it has as many as its front
+pub front_rows : (sts : List Stream) (i : ℕ) (st : Stream) (tenant name : List ℕ) (front : ℕ) → AreDistinct sts → All IsKept sts → slice_get sts i ≡ Some st
+    → tenant ≡ st.tenant → name ≡ canonical_of st.labels → front ≡ st.chunks.memory.next
+    → front ≡ count_of (whole sts).rows (record { tenant = tenant; name = name })
+front_rows sts i st tenant name front distinct kept is tenants named counted =
+    let key : ◌≡◌ {A = StreamKey} (record { tenant = tenant; name = name }) (key_of st) = λ j. record { tenant = tenants j; name = named j } in
+    let own : rows_of (record { tenant = tenant; name = name }) (whole sts).rows ≡ (part_of st).rows =
+    ap (λ s. rows_of s (whole sts).rows) key ∙ at_number (OwnIn (whole sts).rows) sts i st (each_own sts distinct) is in
+    let facts : count_of (part_of st).rows (key_of st) ≡ st.chunks.memory.next = ap (λ f. f.count) (at_number IsKept sts i st kept is).facts in
+    counted ∙ sym facts ∙ ap length (own_part st ∙ sym own)
 
 -- ---- streams of the shard's own
 

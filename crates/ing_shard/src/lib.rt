@@ -30,7 +30,7 @@ pub use closed::ClosedShard;
 pub use fault::PushFault;
 pub use judge::JudgedPush;
 pub use laws::{an_only_shard_has_all, streams_are_picked};
-pub use listed::Listed;
+pub use listed::{Listed, StreamFront};
 pub use node_fault::NodeFault;
 pub use recover_fault::RecoverFault;
 pub use recovery::{RecoveredShard, Recovery};

@@ -8,7 +8,8 @@ use std::sync::Wait;
 use std::thread::Threads;
 
 /// Several shards, and small blocks and chunks.
-const SETTINGS: &str = "shards = 3\nchunk_block_size = 200\nchunk_target_size = 800\n";
+const SETTINGS: &str =
+    "shards = 3\ndiaries = true\nchunk_block_size = 200\nchunk_target_size = 800\n";
 
 /// How many entries each of the two pushes.
 const PUSHES: u64 = 200;

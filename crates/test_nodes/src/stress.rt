@@ -15,7 +15,7 @@ use std::time::Instant;
 
 /// Three shards, a short queue, small blocks and chunks, and short times.
 const SETTINGS: &str =
-    "shards = 3\nflush_queue_length = 4\nchunk_block_size = 40\nchunk_target_size = 100\nchunk_idle_period = \"12ns\"\nmax_chunk_age = \"40ns\"\nmax_line_size = 5\n";
+    "shards = 3\ndiaries = true\nflush_queue_length = 4\nchunk_block_size = 40\nchunk_target_size = 100\nchunk_idle_period = \"12ns\"\nmax_chunk_age = \"40ns\"\nmax_line_size = 5\n";
 
 /// What is printed.
 #[derive(Clone, Copy, Debug, PartialEq, Eq)]

@@ -16,7 +16,7 @@ const DURABLE: &str =
     "{\"push\":[{\"durable\":true,\"stream\":\"{a=\\\"1\\\"}\",\"verdicts\":[{\"accepted\":0}]}]}\n";
 
 /// Two channels that push what the other does not, and one that cannot be opened: each has its own replies, and the report counts all.
-/// The lines at hand on a channel share a sync.
+/// The lines at hand on a channel share a sync. The end of the run compares what was accepted.
 #[test]
 fn channels_share_a_folder(rt: HostRuntime) -> Result<(), Fail> {
     let places = places_of(&rt, "channels")?;
@@ -33,6 +33,7 @@ fn channels_share_a_folder(rt: HostRuntime) -> Result<(), Fail> {
     let [_, _, input, output, other_input, other_output, _, nowhere] = words.as_slice() else {
         return Err("eight words".into());
     };
+    fs::write(&rt, places.settings.as_str(), "diaries = true\n")?;
     fs::write(&rt, input.as_str(), PUSHES)?;
     fs::write(&rt, other_input.as_str(), other.as_str())?;
     let mut report = Vec::new(rt.alloc());

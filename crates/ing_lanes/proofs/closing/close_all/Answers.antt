@@ -1,9 +1,10 @@
-use Rattle.std.proofs.Common.{◌≡◌, ◌∙◌, ℕ, Some, List, ap, length, slice_get, sym, vec_len}
+use Rattle.std.proofs.Common.{◌≡◌, ◌∙◌, ℕ, Some, List, ap, length, slice_get, subst, sym, vec_len}
 use Rattle.std.proofs.lemmas.List.Elements.{All-weaker}
 use Rattle.ing_tally.specs.Books.{ShareState}
 use Rattle.ing_tally.specs.declared.report.ShardReport.{ShardReport}
 use Rattle.ing_node.specs.declared.report.Report.{Report}
 use Rattle.ing_node.specs.Names.{IsTallyOf}
+use Rattle.ing_lanes.specs.Served.{HasReason}
 use Rattle.ing_lanes.proofs.CountLaws.{stored_beside}
 use Rattle.ing_lanes.proofs.closing.close_all.Goals as goal
 
@@ -27,4 +28,5 @@ returns-in-Ok-clause-closed g c =
 
 -- it is not closed for its reason
 pub returns-in-Err-clause-refused : goal.returns-in-Err-clause-refused
-returns-in-Err-clause-refused g c = (c.in-Err.fault.why, c.in-Err.ensures.why, c.not_closed.ensures)
+returns-in-Err-clause-refused g c =
+    subst (HasReason g.N.NodeName.settings) (sym c.not_closed.ensures) (c.in-Err.ensures.why, λ is. (c.in-Err.ensures.asked is).0)

@@ -9,18 +9,19 @@ use Rattle.ing_limits.proofs.Tenants.{same_tenants}
 use Rattle.ing_limits.proofs.settings.Settings.of_table.Goals as goal
 
 -- what the fields spell is what the table says
-held : goal.After-setting-2 → StoreSettings
+held : goal.After-flag → StoreSettings
 held c = record {
   shards = c.count_of.result;
   flushers = c.count_of-2.result;
   flush_queue_length = c.count_of-3.result;
   flush_check_period = c.setting.result;
   checkpoint_log_size = c.setting-2.result;
+  diaries = c.flag.result;
   rules = c.common_rules-rules.result;
   tenants = from_entries (held_tenants c.in_ok-tenants.tenants.entries);
 }
 
-made : (c : goal.After-setting-2) → settings_in (table_view c.args.table.now) ≡ held c
+made : (c : goal.After-flag) → settings_in (table_view c.args.table.now) ≡ held c
 unfolding held
 made c =
     let es = entries_of (members_at (codes "tenants") (table_view c.args.table.now)) in
@@ -33,6 +34,7 @@ made c =
       flush_queue_length = sym c.count_of-3.ensures i;
       flush_check_period = sym c.setting.ensures i;
       checkpoint_log_size = sym c.setting-2.ensures i;
+      diaries = sym c.flag.ensures i;
       rules = sym c.common_rules-rules.ensures i;
       tenants = sym tenants i;
     }

@@ -14,6 +14,7 @@ copy c = record {
   flush_queue_length = c.self.inside.flush_queue_length;
   flush_check_period = c.self.inside.flush_check_period;
   checkpoint_log_size = c.self.inside.checkpoint_log_size;
+  diaries = c.self.inside.diaries;
   rules = c.self.inside.rules;
   tenants = from_entries (held_tenants c.in_ok-clone.field-0.entries);
 }
@@ -28,6 +29,7 @@ same c =
       flush_queue_length = c.self.inside.flush_queue_length;
       flush_check_period = c.self.inside.flush_check_period;
       checkpoint_log_size = c.self.inside.checkpoint_log_size;
+      diaries = c.self.inside.diaries;
       rules = c.self.inside.rules;
       tenants = tenants i;
     }

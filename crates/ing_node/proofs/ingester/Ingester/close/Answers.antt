@@ -5,8 +5,10 @@ use Rattle.std.proofs.lemmas.List.{length-map}
 use Rattle.ing_begun.specs.Closed.{closed_of}
 use Rattle.ing_flush.specs.Tallies.{amount_at}
 use Rattle.ing_node.specs.Closing.{shares_at}
-use Rattle.ing_node.proofs.ClosingLaws.{closed_by, closed_counted, closed_noted, closed_placed, complete_as, gathered_as, get_below, is_yes}
-use Rattle.ing_diary.specs.Notes.{AreNoted}
+use Rattle.ing_node.proofs.ClosingLaws.{closed_by, closed_as, closed_counted, closed_placed, complete_as, gathered_as, get_below}
+use Rattle.ing_diary.specs.Fronts.{rows_since}
+use Rattle.ing_diary.specs.Notes.{AreNoted, HaveNotedPlaces}
+use Rattle.ing_node.specs.Earlier.{had_at}
 use Rattle.ing_node.specs.Diaries.{KeepsDiary, PusherState, notes_at}
 use Rattle.ing_node.proofs.ingester.Ingester.close.Goals as goal
 
@@ -72,11 +74,21 @@ returns-clause-rows g c =
     c.gather_all.result.report.shards.items c.gather_all.ensures.rows
 
 pub returns-clause-settled : goal.returns-clause-settled
-returns-clause-settled g c honest keep none =
+returns-clause-settled g c honest diaries keep =
     let shards = g.N.NodeName.settings.shards in
-    let fresh = is_yes c.is_none-is_new.result (λ no. c.is_none-is_new.ensures.no no none) in
-    let noted = c.in_default-is_closable.ensures.settled honest fresh (subst (All KeepsDiary) (sym c.deref-2.ensures.value) keep) in
-    closed_noted (λ held. held.shard.memory) c.into_shards-helds.result.items c.gather_all.result.shards.items c.gather_all.ensures.shards
-    (λ i. notes_at shards i c.args.pushers.items)
-    (λ i held at. subst (λ (ps : List PusherState). AreNoted held.shard.memory.state.rows (notes_at shards i ps)) c.deref-2.ensures.value
+    let had = had_at g.N.NodeName.earlier in
+    let noted = c.in_default-is_closable.ensures.settled honest diaries (subst (All KeepsDiary) (sym c.deref-2.ensures.value) keep) in
+    closed_as (λ held. held.shard.memory) c.into_shards-helds.result.items c.gather_all.result.shards.items c.gather_all.ensures.shards
+    (λ i rows. AreNoted (rows_since (had i) rows) (notes_at shards i c.args.pushers.items))
+    (λ i held at. subst (λ (ps : List PusherState). AreNoted (rows_since (had i) held.shard.memory.state.rows) (notes_at shards i ps)) c.deref-2.ensures.value
+    (noted i held (ap (λ l. slice_get l i) c.deref.ensures.value ∙ at)))
+
+pub returns-clause-places : goal.returns-clause-places
+returns-clause-places g c diaries keep =
+    let shards = g.N.NodeName.settings.shards in
+    let had = had_at g.N.NodeName.earlier in
+    let noted = c.in_default-is_closable.ensures.places diaries (subst (All KeepsDiary) (sym c.deref-2.ensures.value) keep) in
+    closed_as (λ held. held.shard.memory) c.into_shards-helds.result.items c.gather_all.result.shards.items c.gather_all.ensures.shards
+    (λ i rows. HaveNotedPlaces (rows_since (had i) rows) (notes_at shards i c.args.pushers.items))
+    (λ i held at. subst (λ (ps : List PusherState). HaveNotedPlaces (rows_since (had i) held.shard.memory.state.rows) (notes_at shards i ps)) c.deref-2.ensures.value
     (noted i held (ap (λ l. slice_get l i) c.deref.ensures.value ∙ at)))

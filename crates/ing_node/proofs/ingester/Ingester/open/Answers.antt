@@ -1,5 +1,8 @@
 use Rattle.std.proofs.Common.{◌≡◌, ◌++◌, ◌∙◌, ◌∷◌, [], List, ap, append-nil, arith, length, map, reverse, subst, sym, vec_len}
-use Rattle.std.proofs.lemmas.List.{append_assoc}
+use Rattle.std.proofs.lemmas.List.{append_assoc, length-map, length-reverse}
+use Rattle.std.proofs.lemmas.Option.{IfSome_then}
+use Rattle.ing_diary.specs.Fronts.{front_in}
+use Rattle.ing_node.specs.Earlier.{fronts_in}
 use Rattle.std.specs.List.{AllByRecursion}
 use Rattle.ing_tally.specs.Books.{ShareState}
 use Rattle.ing_flush.specs.Tallies.{AreStoredIn}
@@ -16,11 +19,11 @@ loop-begun-init g c =
     let ones = reverse shards.last_first.items in
     let named = g.N.NodeName.settings in
     let books = g.N.NodeName.books in
-    let opening = c.in-Ok.opening in
-    let none = c.in-Ok.ensures.locks.0 in
-    let room = c.in-Ok.ensures.locks.1 in
-    let told_room = c.in-Ok.ensures.told.1 in
-    let stored_room = c.in-Ok.ensures.stored.1 in
+    let opening = c.in-Ok-new.opening in
+    let none = c.in-Ok-new.ensures.locks.0 in
+    let room = c.in-Ok-new.ensures.locks.1 in
+    let told_room = c.in-Ok-new.ensures.told.1 in
+    let stored_room = c.in-Ok-new.ensures.stored.1 in
     let all = shards.all ∙ ap (λ s. s.shards) c.requires.settings in
     record {
       made = omega (arith, none, all);
@@ -30,8 +33,8 @@ loop-begun-init g c =
       placed = subst (λ n. AreBegunFrom named n ones) (sym none) (subst (λ s. AreBegunFrom s 0 ones) c.requires.settings shards.placed);
       named = subst (λ n. AreNamedFrom books n ones) (sym none) (named_from books 0 ones (λ i b at. c.requires.named i b at ∙ ap books (omega arith)));
       torn = c.requires.torn;
-      told = ap (λ (l : List ShareState). l ++ map (λ b. b.accepted) ones) c.in-Ok.ensures.told.0;
-      stored = ap (λ (l : List ShareState). l ++ map (λ b. b.stored) ones) c.in-Ok.ensures.stored.0;
+      told = ap (λ (l : List ShareState). l ++ map (λ b. b.accepted) ones) c.in-Ok-new.ensures.told.0;
+      stored = ap (λ (l : List ShareState). l ++ map (λ b. b.stored) ones) c.in-Ok-new.ensures.stored.0;
     }
 
 pub add-requires-clause-begun : goal.add-requires-clause-begun
@@ -89,10 +92,17 @@ invariant_of-earlier g c =
     let empty = no_item c.loop-begun.last_first.items (sym c.loop-begun.last_first.ok.0 ∙ none) in
     let told = sym (append-nil opening.told.items) ∙ ap (λ bs. opening.told.items ++ map (λ b. b.accepted) (reverse bs)) (sym empty) ∙ at.told ∙ ap (λ e. e.told) (sym c.requires.earlier) in
     let stored = sym (append-nil opening.stored.items) ∙ ap (λ bs. opening.stored.items ++ map (λ b. b.stored) (reverse bs)) (sym empty) ∙ at.stored ∙ ap (λ e. e.stored) (sym c.requires.earlier) in
+    let shards = c.args.shards in
+    let ones = reverse shards.last_first.items in
     let kept = c.of_shares.ensures in (
       omega (arith, all_told, made, none),
       opening.own_told,
       (ap length kept ∙ sym opening.stored.ok.0 ∙ omega (arith, all_stored, made, none), subst (λ (ss : List ShareState). AreStoredIn books ss) (sym kept) opening.own_stored),
       told,
       kept ∙ stored,
+      c.in-Ok.ensures.kept ∙ ap (λ s. s.diaries) c.requires.settings,
+      IfSome_then c.in-Ok.fronts c.in-Ok.ensures.all (λ all is. (
+        omega (arith, ap length is, length-map all.items front_in, length-map ones fronts_in, length-reverse shards.last_first.items, all.ok.0, shards.last_first.ok.0, shards.all, ap (λ s. s.shards) c.requires.settings),
+        is ∙ ap (λ e. e.fronts) (sym c.requires.earlier),
+      )),
     )
