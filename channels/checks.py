@@ -15,7 +15,7 @@ from kills import Model as Kept  # noqa: E402
 from model import Chunk, Entry, Model, Refused, Settings, Stream, labels_of, text_of  # noqa: E402
 
 DURATIONS = {"1s": 10**9, "10s": 10**10, "30m": 1800 * 10**9, "2h": 7200 * 10**9}
-CLOCK = ("flush_check_period", "checkpoint_log_size")  # the settings of the clock
+OF_CHANNELS = ("flush_check_period", "checkpoint_log_size", "diaries")  # the settings that the model has not
 PLACES = ["block", "flight", "head", "stored"]
 BROAD = '{app="web"}'  # picks all streams of a tenant
 
@@ -27,7 +27,7 @@ def is_count(value):
 def settings_of(said):
     """Those of a folder, for a model, which has no clock."""
     spans = {name: DURATIONS[said[name]] for name in ("chunk_idle_period", "max_chunk_age")}
-    return Settings(**{name: value for name, value in said.items() if name not in CLOCK} | spans)
+    return Settings(**{name: value for name, value in said.items() if name not in OF_CHANNELS} | spans)
 
 
 def accepted_in(verdicts):
