@@ -210,8 +210,8 @@ pub(crate) static TABLE: [Page; 43] = [
     Page {
         refusal: Refusal::Mismatch,
         meaning: "An entry does not stand once and alike in a shard and in the diaries of its pushers.",
-        when: "Of the library alone, of a close with diaries.",
-        advice: "Keep the diaries, and report it as a fault of the program.",
+        when: "In the place of the report of channels with diaries.",
+        advice: "Keep the folder and all replies, and report it as a fault of the program.",
     },
     Page {
         refusal: Refusal::BadTenant,
