@@ -196,6 +196,33 @@ def the_clock_stores(program, parent):
     assert sum(shard["stored"] for shard in report) == 200, f"the report is {report}"
 
 
+class Spoils(Client):
+    """Gives its lines, asks while a byte of each stored chunk is another, and once more when it is put back. `objects` is their folder."""
+
+    def converse(self, given, told):
+        for line in self.lines:
+            self.hear(told, self.give(given, [line]))
+        kept = {path: path.read_bytes() for path in self.objects.glob("c-*")}
+        for path, text in kept.items():
+            path.write_bytes(text[:-1] + bytes([text[-1] ^ 1]))
+        self.hear(told, self.give(given, [query_line("s0")]))
+        self.refused = self.said.pop().reply
+        for path, text in kept.items():
+            path.write_bytes(text)
+        self.hear(told, self.give(given, [query_line("s0")]))
+        given.close()
+        rest = told.read()
+        assert kept and not rest, f"of {len(kept)} chunks behind all replies stands {rest}"
+
+
+def an_object_is_changed(program, parent):
+    """A query of what is stored is refused while one byte of it is another, and answered when it is put back."""
+    spoils = Spoils(parent / "spoils", [push_line("s0", at, [f"{at}"]) for at in range(20)] + [FLUSH])
+    spoils.objects = parent / "scene" / "folder" / "objects"
+    play(program, parent, [spoils])
+    assert json.loads(spoils.refused) == {"error": "StoreFault", "number": 26}, f"of a changed object is told {spoils.refused}"
+
+
 def words_do_not_fit(program, parent):
     """An odd number of paths, no folder, or a settings file that is none, is refused before any file is made."""
     none, good = parent / "none.toml", ["in", parent / "out"]
@@ -237,7 +264,7 @@ def streams_are_closed(program, parent):
         assert again == {"report": [{"accepted": 0, "kept": 1, "recovered": 1, "stored": 0}]}, f"behind stream {stream} closed: {again}"
 
 
-SCENES = [the_clock_stores, one_reads_nothing, one_opens_late, one_has_no_input, all_break, nothing_is_said, words_do_not_fit, folder_is_in_use, streams_are_closed]
+SCENES = [the_clock_stores, an_object_is_changed, one_reads_nothing, one_opens_late, one_has_no_input, all_break, nothing_is_said, words_do_not_fit, folder_is_in_use, streams_are_closed]
 
 
 def play_scenes(program, parent, lines, counts):

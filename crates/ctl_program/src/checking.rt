@@ -4,12 +4,13 @@ use crate::output::put;
 use crate::status::Status;
 use anyhow::{Context, Result, bail};
 use clap::ArgMatches;
-use ctl_show::{Checked, Mended, RecoverFault, RelistFault, begun_words, mend_log, other_version};
+use ctl_show::{
+    Checked, DigestReceipt, Mended, RecoverFault, RelistFault, begun_words, mend_log, other_version,
+};
 use ing_codec::{CodecFault, chunk_key, chunk_name, decode_chunk};
 use ing_folder::{FolderStore, Looked, Noted, look_at};
 use ing_limits::Settings;
 use ing_refusals::Refusal;
-use ing_store::DigestReceipt;
 use std::alloc::Global;
 use std::fs::File;
 use std::io::{ErrorKind, Write};

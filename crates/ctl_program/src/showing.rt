@@ -3,10 +3,11 @@ use crate::output::put;
 use crate::status::Status;
 use anyhow::{Context, Result, bail};
 use clap::ArgMatches;
-use ctl_show::{ShowFault, Shown, chunk_words, log_words, record_words, row_words, show};
+use ctl_show::{
+    LogReadFault, ShowFault, Shown, chunk_words, log_words, record_words, row_words, show,
+};
 use ing_codec::{CodecFault, chunk_key};
 use ing_folder::is_in_use;
-use ing_logged::LogReadFault;
 use std::fs;
 use std::io::Write;
 use std::path::Path;

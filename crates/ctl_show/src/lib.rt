@@ -16,3 +16,5 @@ pub use shown::{Kind, ShowFault, Shown, kind_of, show};
 
 // What its callers meet of the crates below.
 pub use ing_durable::{RecoverFault, RelistFault, Shard};
+pub use ing_logged::LogReadFault;
+pub use ing_store::DigestReceipt;

@@ -4,6 +4,7 @@ pub mod Recovering
 pub use Rattle.ing_durable.specs.Books
 pub use Rattle.ing_durable.specs.Calls
 pub use Rattle.ing_durable.specs.Closed
+pub use Rattle.ing_durable.specs.Coded
 pub use Rattle.ing_durable.specs.Contents
 pub use Rattle.ing_durable.specs.FinishFaults
 pub use Rattle.ing_durable.specs.Flights
@@ -14,3 +15,6 @@ pub use Rattle.ing_durable.specs.Op
 pub use Rattle.ing_durable.specs.Picked
 pub use Rattle.ing_durable.specs.RecoverFault
 pub use Rattle.ing_durable.specs.Sealing
+pub use Rattle.ing_durable.specs.ShardCoded
+pub use Rattle.ing_durable.specs.Unsynced as UnsyncedRecords
+pub use Rattle.ing_durable.specs.declared.unsynced.Unsynced

@@ -17,5 +17,5 @@ pub use told::{Told, strand_told};
 pub use ing_durable::{
     ClosedShard, Due, DurableShard, FinishFault, Finished, Flushed, Gathered, Missing, NodeFault,
     Op, PushFault, Pushed, RecoverFault, RecoveredDurable, Shard, Stranger, Stray, StreamNo,
-    Ticket, streams_are_picked,
+    Ticket, Unsynced, streams_are_picked,
 };

@@ -6,3 +6,4 @@ pub use Rattle.ing_query.specs.Answers
 pub use Rattle.ing_query.specs.Fetched
 pub use Rattle.ing_query.specs.Gathered
 pub use Rattle.ing_query.specs.QueryFaults
+pub use Rattle.ing_shard.specs.declared.listed.StreamFront

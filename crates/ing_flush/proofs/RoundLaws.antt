@@ -1,5 +1,5 @@
 -- Flushes one after another.
-use Rattle.std.proofs.Common.{◌≡◌, ◌≢◌, ◌<◌, ◌≤◌, ◌+◌, ℕ, zero, suc, List, [], ◌∷◌, ◌++◌, length, refl, sym, ap, subst, ◌∙◌, append_assoc, arith}
+use Rattle.std.proofs.Common.{◌≡◌, ◌≢◌, ◌⊎◌, ◌<◌, ◌≤◌, ◌+◌, ◌-◌, ◌^◌, ℕ, zero, suc, List, [], ◌∷◌, ◌++◌, length, inl, inr, refl, sym, ap, subst, ◌∙◌, append_assoc, arith}
 use Rattle.std.specs.Prelude.{None, Option, Some, slice_get}
 use Rattle.std.proofs.lemmas.List.{append-nil, length-append}
 use Rattle.std.proofs.lemmas.List.Sums.{sum_by-cons}
@@ -9,9 +9,11 @@ use Rattle.ing_shard.specs.declared.sealing.Op.{Op}
 use Rattle.ing_tally.specs.Books.{ShareState, amount_of}
 use Rattle.ing_flush.specs.declared.flush.Flushed.{Flushed}
 use Rattle.ing_flush.specs.declared.flush.Flushed.TheVariants.{Stored, Nothing, GaveBack, Strange}
-use Rattle.ing_flush.specs.Flushes.{IsFlushed}
+use Rattle.ing_refusals.specs.Failures.{HasFailed}
+use Rattle.ing_store.specs.declared.fault.StoreFault.TheVariants.{NoMemory, Failed, Damaged}
+use Rattle.ing_flush.specs.Flushes.{IsCounted, IsFlushed}
 use Rattle.ing_flush.specs.Queues.{PassState}
-use Rattle.ing_flush.specs.Rounds.{HasTaken, HaveRisen, IsTold, stored_in}
+use Rattle.ing_flush.specs.Rounds.{HasTaken, HaveRisen, IsTold, failed_in, other_in, stored_in}
 use Rattle.ing_flush.specs.Tallies.{amount_at}
 
 -- ---- shares
@@ -89,7 +91,7 @@ both_risen a b c old mid new first then most none = record {
   none = λ is. let zero = none is in then.none (omega (arith, zero)) ∙ first.none (omega (arith, zero));
 }
 
--- ---- passes and ends
+-- ---- passes
 
 pub none_taken : (pass : PassState) → HasTaken 0 pass pass
 none_taken pass = record { queue = refl; put = refl; alone = refl; ops = []; taken = sym (append-nil pass.taken); enough = omega arith }
@@ -105,8 +107,35 @@ one_taken a b old mid new op first is most = record {
   enough = omega (arith, first.enough, most, length-append first.ops (op ∷ []));
 }
 
-pub both_told : (a b c before between after : ℕ) → IsTold a before between → IsTold b between after → (c ≡ 0 → a + b ≡ 0) → IsTold c before after
-both_told a b c before between after first then none = record {
+-- ---- ends
+
+none_told : (before after : ℕ) → after ≡ before → IsTold 0 0 before after
+none_told before after same = record { less = omega (arith, same); none = λ _. same; cause = inl (omega (arith, same)) }
+
+one_failed : (before after : ℕ) → before ≤ after → HasFailed before after → IsTold 1 0 before after
+one_failed before after less (inl risen) = record { less = less; none = λ no. absurd (omega (arith, no)); cause = inl (omega (arith, risen)) }
+one_failed before after less (inr last) = record { less = less; none = λ no. absurd (omega (arith, no)); cause = inr (omega (arith, less, last)) }
+
+both_caused : (a m b n c k before between after : ℕ) → (before + (a - m) ≤ between) ⊎ (2 ^ 64 ≤ between + 1) → (between + (b - n) ≤ after) ⊎ (2 ^ 64 ≤ after + 1)
+    → between ≤ after → c - k ≤ (a - m) + (b - n) → (before + (c - k) ≤ after) ⊎ (2 ^ 64 ≤ after + 1)
+both_caused a m b n c k before between after (inl first) (inl then) less most = inl (omega (arith, first, then, most))
+both_caused a m b n c k before between after (inl first) (inr last) less most = inr last
+both_caused a m b n c k before between after (inr last) then less most = inr (omega (arith, last, less))
+
+-- of one flush
+pub one_told : (flushed : Flushed) (before after : ℕ) → IsCounted before after flushed → IsTold (failed_in flushed) (other_in flushed) before after
+one_told (Stored entries) before after same = none_told before after same
+one_told Nothing before after same = none_told before after same
+one_told (GaveBack NoMemory) before after same = record { less = omega (arith, same); none = λ no. absurd (omega (arith, no)); cause = inl (omega (arith, same)) }
+one_told (GaveBack Failed) before after both = one_failed before after both.0 both.1
+one_told (GaveBack Damaged) before after both = one_failed before after both.0 both.1
+one_told (Strange stray) before after less = record { less = less; none = λ no. absurd (omega (arith, no)); cause = inl (omega (arith, less)) }
+
+-- one after the other
+pub both_told : (a m b n c k before between after : ℕ) → IsTold a m before between → IsTold b n between after → (c ≡ 0 → a + b ≡ 0)
+    → c - k ≤ (a - m) + (b - n) → IsTold c k before after
+both_told a m b n c k before between after first then none most = record {
   less = let x = first.less in let y = then.less in omega (arith, x, y);
   none = λ is. let zero = none is in then.none (omega (arith, zero)) ∙ first.none (omega (arith, zero));
+  cause = both_caused a m b n c k before between after first.cause then.cause then.less most;
 }

@@ -21,12 +21,12 @@ IsFlushed Nothing shard old new = new ≡ old
 IsFlushed (GaveBack why) shard old new = new ≡ old
 IsFlushed (Strange stray) shard old new = new ≡ old
 
--- the end's count of failures before and after: it does not fall, it stays where the chunk is stored or none waited, and a chunk is
--- given back for a fault of the store only where the end has failed
+-- the end's count of failures before and after: it does not fall, it stays where the chunk is stored, none waited or memory ran out,
+-- and a chunk is given back for a fault of the store only where the end has failed
 abbrev pub IsCounted : ℕ → ℕ → Flushed → Type 0
 IsCounted before after (Stored entries) = after ≡ before
 IsCounted before after Nothing = after ≡ before
-IsCounted before after (GaveBack NoMemory) = before ≤ after
+IsCounted before after (GaveBack NoMemory) = after ≡ before
 IsCounted before after (GaveBack Failed) = (before ≤ after) × HasFailed before after
 IsCounted before after (GaveBack Damaged) = (before ≤ after) × HasFailed before after
 IsCounted before after (Strange stray) = before ≤ after

@@ -30,7 +30,7 @@ impl<S: StoreEnd, G: Gate> Worker<S, G> {
     pub fn new(flusher: Flusher<S, G>, pass: QueuePass) -> Worker<S, G>
         ensures flusher { result.flusher ≡ flusher }
         ensures pass { result.pass ≡ pass }
-        ensures round { result.round ≡ record { stored = 0; failed = 0 } }
+        ensures round { result.round ≡ record { stored = 0; failed = 0; other = 0 } }
     {
         Worker {
             flusher,
@@ -133,7 +133,7 @@ where
     ensures own { AreStoredIn D.books flusher.new.tally }
     ensures one { result.stored + result.failed ≤ 1 }
     ensures stored { HaveRisen result.stored flusher.old.tally flusher.new.tally }
-    ensures failed { IsTold result.failed (S.failure_count flusher.old.end.end)
+    ensures failed { IsTold result.failed result.other (S.failure_count flusher.old.end.end)
         (S.failure_count flusher.new.end.end) }
     ensures sure { S.never_fails flusher.old.end.end → (S.never_fails flusher.new.end.end)
         × (S.failure_count flusher.new.end.end ≡ S.failure_count flusher.old.end.end) }

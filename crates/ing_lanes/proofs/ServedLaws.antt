@@ -1,7 +1,8 @@
 -- What channels came to, from what each of them did.
 use Rattle.std.proofs.Common.{◌≡◌, ◌∙◌, ℕ, ◌+◌, Bool, List, [], ◌∷◌, map, refl, sym, ap, subst, arith, inl, inr, Ok, Err}
-use Rattle.std.specs.Prelude.{◌⊎◌, IfSome, None, OnErr, OnOk, Option, Result, Some, sum_by}
-use Rattle.std.proofs.lemmas.List.Sums.{sum_by-cons}
+use Rattle.std.specs.Prelude.{◌⊎◌, IfSome, None, OnErr, OnOk, Option, Result, Some, cond, false, filter, if◌then◌else◌, sum_by, true}
+use Rattle.std.proofs.lemmas.List.Sorted.{sum_by-IsPermutation}
+use Rattle.std.proofs.lemmas.List.Sums.{length-filter, sum_by-append, sum_by-cons}
 use Rattle.std.specs.List.{AllZip}
 use Rattle.ing_limits.specs.Settings.{StoreSettings}
 use Rattle.ing_tally.specs.Books.{ShareState, amount_of}
@@ -9,17 +10,20 @@ use Rattle.ing_tally.specs.Counts.{ReaderState}
 use Rattle.ing_node.specs.Worker.{Worker}
 use Rattle.ing_node.specs.Tallies.{amount_at}
 use Rattle.ing_tally.specs.declared.report.ShardReport.{ShardReport}
-use Rattle.ing_node.specs.Diaries.{PusherState}
-use Rattle.ing_node.specs.Earlier.{EarlierState}
+use Rattle.ing_node.specs.Closed.{ClosedContents}
+use Rattle.ing_node.specs.Diaries.{HaveNoted, HaveNotedEach, PusherState, notes_at, notes_kept}
+use Rattle.ing_node.specs.Earlier.{EarlierState, had_at}
+use Rattle.ing_node.specs.Fronts.{rows_since}
+use Rattle.ing_node.specs.Notes.{Note, is_in_shard, is_note_at, note_of}
 use Rattle.ing_session.specs.declared.ending.Ending.{Ending}
 use Rattle.ing_session.specs.Fronts.{AppendsFront}
 use Rattle.ing_session.specs.Runs.{AnswersLines, BreaksOff}
 use Rattle.std.proofs.KnownBytes.{Appends-nil}
 use Rattle.ing_session.specs.Lines.{lines_of}
 use Rattle.ing_session.proofs.CausesLaws.{no_failure}
-use Rattle.ing_lanes.specs.ByLane.{Held, by_lane, nothing_held, told_by}
+use Rattle.ing_lanes.specs.ByLane.{Entries, Held, Measure, Weight, by_lane, nothing_held, told_as, told_by}
 use Rattle.ing_lanes.specs.Counted.{IsHeld, IsHeldAtLeast, counted_by}
-use Rattle.ing_lanes.specs.Served.{Account, AddsUp, AddsUpWith, AreServed, AreTold, AreToldAtMost, IsServed, Parts, account_of}
+use Rattle.ing_lanes.specs.Served.{Account, AddsUp, AddsUpWith, AreServed, AreTold, AreToldAtMost, HaveWhatWasTold, IsServed, Parts, StandWhereTold, account_of, one_at, weight_in}
 
 -- ---- one channel
 
@@ -90,16 +94,47 @@ pub adds_up : (shards : ℕ) (earlier : EarlierState) (accounts : List Account) 
     → AddsUpWith shards earlier (λ i. sum_by (λ p. amount_at i p.told) pushers) (sum_by amount_of tallies) reports → AddsUp shards earlier accounts reports
 adds_up shards earlier accounts pushers tallies reports parts up = record {
   all = up.all;
-  accepted = λ i r at. up.accepted i r at ∙ sym (parts.told i);
+  accepted = λ i r at. up.accepted i r at ∙ sym (parts.told (Entries i));
   recovered = up.recovered;
   whole = up.whole;
   stored = up.stored ∙ ap (λ n. amount_of earlier.stored + n) (sym parts.counted);
 }
 
+-- ---- the entries
+
+chosen_sum : (b : Bool) (weight : Note → ℕ) (n : Note) (rest : List Note) (total : ℕ) → sum_by weight rest ≡ total → sum_by weight (cond b (n ∷ rest) rest) ≡ (if b then weight n else 0) + total
+chosen_sum true weight n rest total so = omega (arith, sum_by-cons weight n rest, so)
+chosen_sum false weight n rest total so = omega (arith, so)
+
+-- those of a shard weigh as much as all do where those of the others weigh nothing
+shard_sum : (shards i : ℕ) (weight : Note → ℕ) (ns : List Note) → sum_by weight (filter (is_in_shard shards i) ns) ≡ sum_by (weight_in shards i weight) ns
+shard_sum shards i weight [] = refl
+shard_sum shards i weight (n ∷ ns) =
+    chosen_sum (is_in_shard shards i n) weight n (filter (is_in_shard shards i) ns) _ (shard_sum shards i weight ns) ∙ sym (sum_by-cons (weight_in shards i weight) n ns)
+
+notes_sum : (shards i : ℕ) (weight : Note → ℕ) (pushers : List PusherState) → sum_by weight (notes_at shards i pushers) ≡ sum_by (λ p. told_as p (Weight (weight_in shards i weight))) pushers
+notes_sum shards i weight [] = refl
+notes_sum shards i weight (p ∷ ps) =
+    sum_by-append weight (filter (is_in_shard shards i) (notes_kept p.diary)) (notes_at shards i ps)
+    ∙ omega (arith, shard_sum shards i weight (notes_kept p.diary), notes_sum shards i weight ps, sum_by-cons (λ (q : PusherState). told_as q (Weight (weight_in shards i weight))) p ps)
+
+-- what came to the shards is what all channels were told
+pub have_told : (shards : ℕ) (earlier : EarlierState) (accounts : List Account) (pushers : List PusherState) (tallies : List (List ShareState)) (closed : List ClosedContents) → Parts accounts pushers tallies
+    → HaveNoted (λ (shard : ClosedContents). shard.state.rows) (had_at earlier) (λ i. notes_at shards i pushers) closed → HaveWhatWasTold shards earlier accounts closed
+have_told shards earlier accounts pushers tallies closed parts noted i shard weight at =
+    sym (sum_by-IsPermutation weight (map note_of (rows_since (had_at earlier i) shard.state.rows)) (notes_at shards i pushers) (noted i shard at))
+    ∙ notes_sum shards i weight pushers ∙ sym (parts.told (Weight (weight_in shards i weight)))
+
+pub stand_told : (shards : ℕ) (earlier : EarlierState) (accounts : List Account) (pushers : List PusherState) (tallies : List (List ShareState)) (closed : List ClosedContents) → Parts accounts pushers tallies
+    → HaveNotedEach (λ (shard : ClosedContents). shard.state.rows) (had_at earlier) (λ i. notes_at shards i pushers) closed → StandWhereTold shards earlier accounts closed
+stand_told shards earlier accounts pushers tallies closed parts noted i shard s number at =
+    noted i shard at s number ∙ length-filter (is_note_at s number) (notes_at shards i pushers)
+    ∙ notes_sum shards i (one_at s number) pushers ∙ sym (parts.told (Weight (weight_in shards i (one_at s number))))
+
 -- channels that were served and then taken apart: each came to what it did, and all of them together to what pushers and tallies have
 pub served_together : {X L : Type 0} (line : X → L) (pusher : X → PusherState) (counted : X → ℕ) (P : L → L → Account → Type 0) (before news after : List X) (lines parted : List L) (pushers : List PusherState) (tallies : List (List ShareState))
     → AllZip (λ old new. P (line old) (line new) (record { told = told_by (pusher new); counted = counted new })) before news → map line before ≡ lines → after ≡ news → parted ≡ map line after
-    → ((i : ℕ) → sum_by (λ p. amount_at i p.told) pushers ≡ sum_by (λ x. amount_at i (pusher x).told) after) → sum_by amount_of tallies ≡ sum_by counted after
+    → ((m : Measure) → sum_by (λ p. told_as p m) pushers ≡ sum_by (λ x. told_as (pusher x) m) after) → sum_by amount_of tallies ≡ sum_by counted after
     → (accounts : List Account) × AreServed P lines parted accounts × Parts accounts pushers tallies
 served_together {X = X} line pusher counted P before news after lines parted pushers tallies all were same are told stored =
     let account : X → Account = λ x. record { told = told_by (pusher x); counted = counted x } in
@@ -107,7 +142,7 @@ served_together {X = X} line pusher counted P before news after lines parted pus
       map account news,
       subst (λ ls. AreServed P ls parted (map account news)) were (subst (λ ls. AreServed P (map line before) ls (map account news)) (sym (are ∙ ap (map line) same)) each),
       record {
-        told = λ i. sum_made account (λ t. t.told i) news ∙ ap (sum_by (λ x. amount_at i (pusher x).told)) (sym same) ∙ sym (told i);
+        told = λ m. sum_made account (λ t. t.told m) news ∙ ap (sum_by (λ x. told_as (pusher x) m)) (sym same) ∙ sym (told m);
         counted = sum_made account (λ t. t.counted) news ∙ ap (sum_by counted) (sym same) ∙ sym stored;
       },
     )

@@ -1,7 +1,7 @@
 -- What each command of a channel does to shards that lie behind locks, where other channels change them too. What lies there nobody
 -- knows, so this says what is known outside: what a line says, the form of its reply, how many entries were told accepted on this
--- channel, by the number of their shard, and how many chunks were told stored on it.
-use Rattle.std.specs.Prelude.{◌≡◌, ◌≢◌, ◌⊎◌, ℕ, ◌+◌, ◌≤◌, All, Bool, false, List, [], ◌∷◌, None, Some, Result, Ok, Err, length, slice_get}
+-- channel, by the number of their shard, which ones, where the settings want diaries, and how many chunks were told stored on it.
+use Rattle.std.specs.Prelude.{◌≡◌, ◌≢◌, ◌⊎◌, ℕ, ◌+◌, ◌≤◌, All, Bool, false, true, List, [], ◌∷◌, None, Some, Result, Ok, Err, length, slice_get, sum_by}
 use Rattle.std.specs.List.{AllPass}
 use Rattle.std.specs.List.Sorted.{IsSortedBy}
 use Rattle.serde_json.specs.Data.{Data}
@@ -34,7 +34,8 @@ use Rattle.ing_node.specs.Boards.{IsNoLess, no_counts}
 use Rattle.ing_node.specs.Pushes.{AreJudged, IsPushRefusal}
 use Rattle.ing_node.specs.Queries.{AreAnswerOf, AreSelected}
 use Rattle.ing_parts.specs.declared.found.Question.{Question}
-use Rattle.ing_node.specs.Diaries.{PusherState}
+use Rattle.ing_node.specs.Diaries.{PusherState, notes_kept}
+use Rattle.ing_node.specs.Notes.{Note, noted}
 use Rattle.ing_commands.specs.Commands as commands
 use Rattle.ing_commands.specs.Commands.{Command}
 use Rattle.ing_commands.specs.PushCommands.{PushCommand, StreamEntries}
@@ -45,22 +46,35 @@ use Rattle.ing_session.specs.Manners.{Manner}
 use Rattle.ing_session.specs.Selecting.{Reads}
 use Rattle.ing_session.specs.Replies.{fault_data, judged_data, push_data, sweep_data, flush_data, gauges_data, board_data, checkpoint_data, query_data}
 
--- how many entries were told accepted, by the number of their shard
+-- How what was told accepted is measured: by how many entries they are of a shard, by its number; or by what all of them weigh, each by
+-- its stream, its number, its stamp and its line. With a weight of 1 for one entry and of 0 for any other that is how often it was told.
+pub data Measure : Type 0 where
+  Entries : ℕ → Measure
+  Weight : (Note → ℕ) → Measure
+
+-- what was told accepted, however it is measured
 abbrev pub Told : Type 0
-Told = ℕ → ℕ
+Told = Measure → ℕ
 
--- what a pusher was told, by its shares
+-- what a pusher was told, by its shares, and by its diary where it keeps one
+abbrev pub told_as : PusherState → Measure → ℕ
+told_as pusher (Entries shard) = amount_at shard pusher.told
+told_as pusher (Weight weight) = sum_by weight (notes_kept pusher.diary)
+
 abbrev pub told_by : PusherState → Told
-told_by pusher = λ i. amount_at i pusher.told
+told_by pusher = λ measure. told_as pusher measure
 
--- of no shard more or fewer
+-- neither more nor fewer
 abbrev pub Stays : Told → Told → Type 0
-Stays old new = (i : ℕ) → new i ≡ old i
+Stays old new = (measure : Measure) → new measure ≡ old measure
 
--- of one shard so many more, and of the others as many
-pub record Raises (shard count : ℕ) (old new : Told) : Type 0 where
-  pub here : new shard ≡ old shard + count
-  pub others : (i : ℕ) → i ≢ shard → new i ≡ old i
+-- Of one shard so many more, and of the others as many. Where the settings want diaries, besides, these are the ones that are told now;
+-- where they want none, nothing is said of which they are.
+pub record Raises (settings : StoreSettings) (shard count : ℕ) (notes : List Note) (old new : Told) : Type 0 where
+  pub here : new (Entries shard) ≡ old (Entries shard) + count
+  pub others : (i : ℕ) → i ≢ shard → new (Entries i) ≡ old (Entries i)
+  pub which : settings.diaries ≡ true → (weight : Note → ℕ) → new (Weight weight) ≡ old (Weight weight) + sum_by weight notes
+  pub unsaid : settings.diaries ≡ false → (weight : Note → ℕ) → new (Weight weight) ≡ old (Weight weight)
 
 -- ---- one stream of a push
 
@@ -69,7 +83,7 @@ abbrev pub place_of : StoreSettings → List ℕ → LabelMap → ℕ
 place_of settings tenant labels = shard_of tenant (canonical_of labels) settings.shards
 
 -- Its entries are judged: the verdicts are the model's, in whatever state the shard was, and of that shard so many more are told as
--- they accept. Without logs they are not told durable.
+-- they accept, those under the numbers that they give. Without logs they are not told durable.
 pub record JudgesStream (logs : Bool) (settings : StoreSettings) (tenant : List ℕ) (now : ℕ) (labels : LabelMap) (entries : List Entry) (old new : Told) (reply : Data) : Type 0 where
   pub verdicts : List Verdict
   pub judged : AreJudged (rules_for settings tenant) (stream_of tenant labels) now entries verdicts
@@ -77,7 +91,7 @@ pub record JudgesStream (logs : Bool) (settings : StoreSettings) (tenant : List 
   pub durable : Bool
   pub lasts : logs ≡ false → durable ≡ false
   pub told : reply ≡ judged_data (canonical_of labels) durable verdicts
-  pub raised : Raises (place_of settings tenant labels) (length (accepted_among entries verdicts)) old new
+  pub raised : Raises settings (place_of settings tenant labels) (length (accepted_among entries verdicts)) (noted (stream_of tenant labels) entries verdicts) old new
 
 -- It is refused, and nothing changes.
 pub record RefusesStream (settings : StoreSettings) (tenant : List ℕ) (labels : LabelMap) (entries : List Entry) (old new : Told) (reply : Data) : Type 0 where
@@ -149,7 +163,7 @@ pub record ObeysBy (form : Data → Type 0) (old new : Told) (failed : ℕ) (rep
 
 -- ---- a flush
 
--- What is held: how many entries were told accepted, how many chunks stored, and what was last told of each shard's counts.
+-- What is held: what was told accepted, how many chunks stored, and what was last told of each shard's counts.
 pub record Held : Type 0 where
   pub told : Told
   pub chunks : ℕ
@@ -213,7 +227,7 @@ pub record IsGiven (honest : Type 0) (settings : StoreSettings) (query : QueryCo
   pub most : length found ≤ query.limit
   pub once : StandApart found
   pub all : length fronts ≡ settings.shards
-  pub no_less : (i : ℕ) (front : ℕ) → slice_get fronts i ≡ Some front → known i ≤ front
+  pub no_less : (i : ℕ) (front : ℕ) → slice_get fronts i ≡ Some front → known (Entries i) ≤ front
   pub wanted : honest → AreAnswerOf query.tenant reads.ms (question_of query) fronts found
 
 -- It is not answered: a lock was not passed, or the store failed; over an honest end no object of it is bad.

@@ -9,7 +9,7 @@ use Rattle.ing_node.specs.Worker.{Worker}
 use Rattle.ing_node.specs.Boards.{IsNoLess, known_at}
 use Rattle.ing_node.specs.Diaries.{PusherState}
 use Rattle.ing_session.specs.Replies.{board_data}
-use Rattle.ing_lanes.specs.ByLane.{AreOrdered, Held, Stays, Told, told_by}
+use Rattle.ing_lanes.specs.ByLane.{AreOrdered, Held, Measure, Stays, Told, told_by}
 
 -- how many entries flushers have counted as stored
 abbrev pub counted_by : {S G R : Type 0} → List (Worker S G R) → ℕ
@@ -19,9 +19,9 @@ counted_by workers = sum_by (λ worker. amount_of worker.flusher.tally) workers
 abbrev pub told_in : List ShareState → ℕ
 told_in tally = amount_of tally
 
--- of no shard fewer
+-- not fewer
 abbrev pub Rises : Told → Told → Type 0
-Rises old new = (i : ℕ) → old i ≤ new i
+Rises old new = (measure : Measure) → old measure ≤ new measure
 
 -- for each chunk that was stored an entry at least was counted, and none where no chunk was
 pub record RisesBy (chunks before after : ℕ) : Type 0 where

@@ -2,3 +2,20 @@ pub mod ByLane
 pub mod Counted
 pub mod Drafts
 pub mod Served
+-- what its clauses, and those of its callers, speak of in the crates below
+pub use Rattle.ing_node.specs.Begun
+pub use Rattle.ing_node.specs.Earlier
+pub use Rattle.ing_node.specs.Kept
+pub use Rattle.ing_node.specs.Mismatch
+pub use Rattle.ing_node.specs.Names
+pub use Rattle.ing_node.specs.RecoverFault
+pub use Rattle.ing_node.specs.Recovering
+pub use Rattle.ing_node.specs.Reports
+pub use Rattle.ing_node.specs.Unsettled
+pub use Rattle.ing_node.specs.declared.report.CloseRefusal
+pub use Rattle.ing_session.specs.Causes
+pub use Rattle.ing_session.specs.Endings
+pub use Rattle.ing_session.specs.Manners
+pub use Rattle.ing_session.specs.Replies
+pub use Rattle.ing_session.specs.Runs
+pub use Rattle.ing_session.specs.declared.ending.Ending

@@ -1,5 +1,5 @@
 -- What several channels came to, served side by side through the same locks, and what was reported of all.
-use Rattle.std.specs.Prelude.{◌≡◌, ◌⊎◌, ℕ, ◌+◌, ◌≤◌, Bool, false, true, filter, List, [], ◌∷◌, Option, Some, IfSome, Result, Ok, Err, length, slice_get, sum_by, ⊤}
+use Rattle.std.specs.Prelude.{◌≡◌, ◌⊎◌, ℕ, ◌+◌, ◌≤◌, Bool, false, true, filter, List, [], ◌∷◌, Option, Some, IfSome, Result, Ok, Err, length, map, slice_get, sum_by, if◌then◌else◌, ⊤}
 use Rattle.ing_limits.specs.Settings.{StoreSettings}
 use Rattle.ing_refusals.specs.declared.refusal.Refusal.{Refusal}
 use Rattle.ing_refusals.specs.declared.refusal.Refusal.TheVariants as refusal
@@ -9,7 +9,11 @@ use Rattle.ing_node.specs.Worker.{Worker}
 use Rattle.ing_node.specs.NodeFault.{NodeFault}
 use Rattle.ing_node.specs.NodeFaults.{refusal_of}
 use Rattle.ing_node.specs.Diaries.{PusherState}
-use Rattle.ing_node.specs.Earlier.{EarlierState}
+use Rattle.ing_node.specs.Closed.{ClosedContents}
+use Rattle.ing_node.specs.Earlier.{EarlierState, had_at}
+use Rattle.ing_node.specs.Fronts.{rows_since}
+use Rattle.ing_node.specs.Notes.{Note, is_in_shard, is_note_at, note_of}
+use Rattle.ing_rows.specs.Rows.{StreamKey}
 use Rattle.ing_node.specs.Refusals.{IsShareRefusal}
 use Rattle.ing_node.specs.Reports as closing
 use Rattle.ing_node.specs.declared.report.CloseRefusal.{CloseRefusal}
@@ -20,10 +24,10 @@ use Rattle.ing_session.specs.Runs.{AnswersLines, BreaksOff}
 use Rattle.ing_lanes.specs.declared.fault.LanesFault.{LanesFault}
 use Rattle.ing_lanes.specs.declared.fault.LanesFault.TheVariants.{NotOpened, NotClosed}
 use Rattle.ing_lanes.specs.declared.line.Line.{Line}
-use Rattle.ing_lanes.specs.ByLane.{Held, Stays, Told, by_lane, told_by}
+use Rattle.ing_lanes.specs.ByLane.{Entries, Held, Measure, Stays, Told, Weight, by_lane, told_as, told_by}
 use Rattle.ing_lanes.specs.Counted.{Rises, counted_by}
 
--- What a channel came to: how many entries of each shard it was told accepted, and how many its flusher counted as stored.
+-- What a channel came to: what it was told accepted, and how many entries its flusher counted as stored.
 pub record Account : Type 0 where
   pub told : Told
   pub counted : ℕ
@@ -74,10 +78,33 @@ stored_in reports = sum_by (λ r. r.stored) reports
 -- each of them is stored or kept. Stored are those that were at the beginning, and those that the channels' flushers counted.
 pub record AddsUp (shards : ℕ) (earlier : EarlierState) (accounts : List Account) (reports : List ShardReport) : Type 0 where
   pub all : length reports ≡ shards
-  pub accepted : (i : ℕ) (r : ShardReport) → slice_get reports i ≡ Some r → r.accepted ≡ sum_by (λ t. t.told i) accounts
+  pub accepted : (i : ℕ) (r : ShardReport) → slice_get reports i ≡ Some r → r.accepted ≡ sum_by (λ t. t.told (Entries i)) accounts
   pub recovered : (i : ℕ) (r : ShardReport) → slice_get reports i ≡ Some r → r.recovered ≡ amount_at i earlier.told
   pub whole : (i : ℕ) (r : ShardReport) → slice_get reports i ≡ Some r → r.accepted + r.recovered ≡ r.stored + r.kept
   pub stored : stored_in reports ≡ amount_of earlier.stored + sum_by (λ t. t.counted) accounts
+
+-- an entry weighs what it weighs where it has its place in this shard, of so many, and nothing in any other
+abbrev pub weight_in : ℕ → ℕ → (Note → ℕ) → Note → ℕ
+weight_in shards i weight note = if is_in_shard shards i note then weight note else 0
+
+-- Of each of these shards the rows that came since the beginning, without where they stand, weigh as much as what all channels were told
+-- accepted there, however entries are weighed: so they are the same entries, each as often.
+abbrev pub HaveWhatWasTold : ℕ → EarlierState → List Account → List ClosedContents → Type 0
+HaveWhatWasTold shards earlier accounts closed =
+    (i : ℕ) (shard : ClosedContents) (weight : Note → ℕ) → slice_get closed i ≡ Some shard
+    → sum_by weight (map note_of (rows_since (had_at earlier i) shard.state.rows)) ≡ sum_by (λ t. t.told (Weight (weight_in shards i weight))) accounts
+
+-- one for an entry of this number of this stream, and nothing for any other
+abbrev pub one_at : StreamKey → ℕ → Note → ℕ
+one_at s number note = if is_note_at s number note then 1 else 0
+
+-- Whatever the store gave: under each number of each stream stands a row of these exactly where an entry was told accepted under it, and as
+-- often.
+abbrev pub StandWhereTold : ℕ → EarlierState → List Account → List ClosedContents → Type 0
+StandWhereTold shards earlier accounts closed =
+    (i : ℕ) (shard : ClosedContents) (s : StreamKey) (number : ℕ) → slice_get closed i ≡ Some shard
+    → length (filter (is_note_at s number) (map note_of (rows_since (had_at earlier i) shard.state.rows)))
+    ≡ sum_by (λ t. t.told (Weight (weight_in shards i (one_at s number)))) accounts
 
 -- why nothing is read: memory ran out, or a share was not had
 abbrev pub IsNotOpened : ℕ → Refusal → Type 0
@@ -98,13 +125,13 @@ IsLanesFault settings (NotClosed why) = HasReason settings why
 abbrev pub account_of : {S G R : Type 0} → PusherState → List (Worker S G R) → Account
 account_of pusher workers = record { told = told_by pusher; counted = counted_by workers }
 
--- so many were told and counted as these pushers and tallies have, together
+-- so much was told and counted as these pushers and tallies have, together
 pub record Parts (accounts : List Account) (pushers : List PusherState) (tallies : List (List ShareState)) : Type 0 where
-  pub told : (i : ℕ) → sum_by (λ t. t.told i) accounts ≡ sum_by (λ p. amount_at i p.told) pushers
+  pub told : (measure : Measure) → sum_by (λ t. t.told measure) accounts ≡ sum_by (λ p. told_as p measure) pushers
   pub counted : sum_by (λ t. t.counted) accounts ≡ sum_by amount_of tallies
 
 -- the ledger, of what pushers were told and flushers counted
-pub record AddsUpWith (shards : ℕ) (earlier : EarlierState) (told : Told) (counted : ℕ) (reports : List ShardReport) : Type 0 where
+pub record AddsUpWith (shards : ℕ) (earlier : EarlierState) (told : ℕ → ℕ) (counted : ℕ) (reports : List ShardReport) : Type 0 where
   pub all : length reports ≡ shards
   pub accepted : (i : ℕ) (r : ShardReport) → slice_get reports i ≡ Some r → r.accepted ≡ told i
   pub recovered : (i : ℕ) (r : ShardReport) → slice_get reports i ≡ Some r → r.recovered ≡ amount_at i earlier.told

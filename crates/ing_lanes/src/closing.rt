@@ -1,17 +1,22 @@
 //! Channels after they were served.
-ghost use Rattle.std.specs.Prelude.{◌≡◌, ◌+◌, ◌≤◌, ℕ, All, IfErr, IfOk, map, sum_by, vec_capacity, vec_len};
+ghost use Rattle.std.specs.Prelude.{◌≡◌, ◌+◌, ◌≤◌, ℕ, All, IfErr, IfOk, map, sum_by, true, vec_capacity, vec_len};
 ghost use Rattle.ing_tally.specs.Books.{amount_of};
 ghost use Rattle.ing_node.specs.Tallies.{amount_at};
+ghost use Rattle.ing_lanes.specs.ByLane.{Measure, told_as};
 ghost use Rattle.ing_lanes.specs.Counted.{counted_by};
 ghost use Rattle.ing_lanes.specs.Served.{AddsUpWith, HasReason};
+ghost use Rattle.ing_node.specs.Closing.{StandInPlaces};
+ghost use Rattle.ing_node.specs.Diaries.{HaveNoted, HaveNotedEach, KeepsDiary, notes_at};
+ghost use Rattle.ing_node.specs.Earlier.{had_at};
 ghost use Rattle.ing_node.specs.Names.{IsTallyOf};
-ghost use Rattle.ing_node.specs.Reports.{IsCausedClose, IsNoBadClose};
+ghost use Rattle.ing_node.specs.Reports.{CountRows, IsCausedClose, IsNoBadClose};
 
 use crate::channel::Channel;
 use crate::line::Line;
-use ing_node::{CloseFault, CloseRefusal, Earlier, FlusherTally, Ingester, NodeName, Pusher};
+use ing_node::{
+    CloseFault, CloseRefusal, Closed, Earlier, FlusherTally, Ingester, NodeName, Pusher,
+};
 use ing_store::{Receipt, StoreEnd};
-use ing_tally::ShardReport;
 use ing_wal::LogDisk;
 use std::alloc::{AllocError, Global};
 use std::io::{Read, Write};
@@ -79,8 +84,9 @@ pub(crate) fn part_all<
     requires pushers { (vec_len room.pushers ≡ 0) × (vec_len channels ≤ vec_capacity room.pushers) }
     requires tallies { (vec_len room.tallies ≡ 0) × (vec_len channels ≤ vec_capacity room.tallies) }
     ensures lines { result.lines.items ≡ map (λ c. c.line) channels.entry.items }
-    ensures told { (i : ℕ) → sum_by (λ p. amount_at i p.told) result.pushers.items
-        ≡ sum_by (λ c. amount_at i c.lane.pusher.told) channels.entry.items }
+    ensures told { (measure : Measure) → sum_by (λ p. told_as p measure) result.pushers.items
+        ≡ sum_by (λ c. told_as c.lane.pusher measure) channels.entry.items }
+    ensures diaries { N.settings.diaries ≡ true → All KeepsDiary result.pushers.items }
     ensures own { All (IsTallyOf N.settings.shards N.books) result.tallies.items }
     ensures counted { sum_by amount_of result.tallies.items
         ≡ sum_by (λ c. counted_by c.lane.workers.items) channels.entry.items }
@@ -108,7 +114,7 @@ pub(crate) fn part_all<
 }
 
 /// Closes an ingester with what channels were told and what their flushers have stored, all of it. Where diaries are wanted, what was
-/// stored is read back by this end. As `Ingester::close`; then all is let go.
+/// stored is read back by this end. As `Ingester::close`; where it is refused all is let go.
 pub(crate) fn close_all<N: NodeName, D: LogDisk + Drop, R: Receipt, S: StoreEnd<Receipt = R>>(
     alloc: Global,
     end: &mut S,
@@ -116,17 +122,27 @@ pub(crate) fn close_all<N: NodeName, D: LogDisk + Drop, R: Receipt, S: StoreEnd<
     earlier: Earlier<N>,
     pushers: Vec<Pusher<N>>,
     tallies: Vec<FlusherTally>,
-) -> Result<Vec<ShardReport>, CloseRefusal>
+) -> Result<Closed<R>, CloseRefusal>
     requires { All (IsTallyOf N.settings.shards N.books) tallies.items }
-    ensures closed { IfOk result (λ reports. AddsUpWith N.settings.shards N.earlier
-        (λ i. sum_by (λ p. amount_at i p.told) pushers.items) (sum_by amount_of tallies.items) reports.items) }
+    ensures closed { IfOk result (λ closed. AddsUpWith N.settings.shards N.earlier
+        (λ i. sum_by (λ p. amount_at i p.told) pushers.items) (sum_by amount_of tallies.items) closed.report.shards.items) }
+    ensures all { IfOk result (λ closed. vec_len closed.shards ≡ N.settings.shards) }
+    ensures placed { IfOk result (λ closed. StandInPlaces N.settings closed.shards.items) }
+    ensures rows { IfOk result (λ closed.
+        CountRows (λ shard. shard.state.rows) closed.shards.items closed.report.shards.items) }
+    ensures settled { S.is_honest → N.settings.diaries ≡ true → IfOk result (λ closed. All KeepsDiary pushers.items →
+        HaveNoted (λ shard. shard.state.rows) (had_at N.earlier)
+        (λ i. notes_at N.settings.shards i pushers.items) closed.shards.items) }
+    ensures places { N.settings.diaries ≡ true → IfOk result (λ closed. All KeepsDiary pushers.items →
+        HaveNotedEach (λ shard. shard.state.rows) (had_at N.earlier)
+        (λ i. notes_at N.settings.shards i pushers.items) closed.shards.items) }
     ensures refused { IfErr result (HasReason N.settings) }
     ensures honest { S.is_honest → IfErr result IsNoBadClose }
     ensures cause { IfErr result (IsCausedClose (S.failure_count end.old) (S.failure_count end.new)) }
 {
     earlier.is_of_each();
     match ingester.close(alloc, end, earlier, pushers, tallies) {
-        Ok(closed) => Ok(closed.into_report().shards),
+        Ok(closed) => Ok(closed),
         Err(fault) => Err(not_closed(fault)),
     }
 }

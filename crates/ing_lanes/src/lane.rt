@@ -1,5 +1,5 @@
 //! Who obeys the commands of one channel.
-ghost use Rattle.std.specs.Prelude.{◌≡◌, ◌≤◌, All, IfOk, ℕ, vec_len};
+ghost use Rattle.std.specs.Prelude.{◌≡◌, ◌≤◌, All, IfOk, ℕ, is_some, vec_len};
 ghost use Rattle.ing_node.specs.Names.{IsTallyOf};
 ghost use Rattle.ing_lanes.specs.ByLane as lanes;
 ghost use Rattle.ing_lanes.specs.Counted.{ReadsBoard, counted_by, told_in};
@@ -34,6 +34,7 @@ pub struct Lane<'r, N: NodeName, D: LogDisk + Drop, R: Receipt, F: StoreEnd<Rece
     /// The flusher, as a list of one.
     pub(crate) workers: Vec<Worker<F, FreeGate>>,
     ghost one: { vec_len workers ≡ 1 },
+    ghost diary: { is_some pusher.diary ≡ N.settings.diaries },
     ghost sweeps: { sweeper.pass.queue ≡ shared.now.flushing.queue.name },
     ghost queue: { All (λ worker. worker.pass.queue ≡ shared.now.flushing.queue.name) workers.items },
     ghost own: { All (λ worker. IsTallyOf N.settings.shards N.books worker.flusher.tally) workers.items },
@@ -96,6 +97,7 @@ impl<'r, N: NodeName, D: LogDisk + Drop, R: Receipt, F: StoreEnd<Receipt = R> + 
     /// What the channel was told accepted, and what its flusher has stored. All else is let go. Takes no memory.
     pub(crate) fn into_parts(self) -> (Pusher<N>, FlusherTally)
         ensures pusher { result.0 ≡ self.entry.pusher }
+        ensures diary { is_some result.0.diary ≡ N.settings.diaries }
         ensures own { IsTallyOf N.settings.shards N.books result.1 }
         ensures counted { counted_by self.entry.workers.items ≡ told_in result.1 }
     {

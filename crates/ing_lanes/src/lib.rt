@@ -18,3 +18,7 @@ mod shared;
 pub use fault::LanesFault;
 pub use line::{Line, Opens, StandOpen};
 pub use running::{Ended, Ends, run_lanes};
+
+// What its callers meet of the crates below.
+pub use ing_node::{Begun, CloseRefusal, Mismatch, NodeName, RecoverFault, Shards, Unsettled};
+pub use ing_session::{Ending, Reply, conclude, put_reply};

@@ -1,5 +1,5 @@
 //! Channels before they are served.
-ghost use Rattle.std.specs.Prelude.{◌≡◌, All, IfErr, IfOk, map, vec_len, is_some};
+ghost use Rattle.std.specs.Prelude.{◌≡◌, All, IfErr, IfOk, map, vec_len};
 ghost use Rattle.ing_lanes.specs.ByLane.{nothing_held};
 ghost use Rattle.ing_lanes.specs.Counted.{IsHeld, counted_by};
 ghost use Rattle.ing_node.specs.Names.{IsTallyOf};
@@ -17,7 +17,8 @@ use std::io::{Read, Write};
 use std::sync::Wait;
 
 /// Who obeys the commands of a channel, with a flusher that puts into the store by this end, and with a diary where the settings want one.
-/// `CounterFull` where 2^62 shares of a shard are out, `Misplaced`, and `NoMemory`; then no share more is out.
+/// `CounterFull` where 2^62 shares of a shard are out, `Misplaced`, and `NoMemory`; then shares may be given up, and the ingester is not
+/// closed any more.
 pub(crate) fn lane_of<
     'r,
     N: NodeName,
@@ -35,7 +36,6 @@ pub(crate) fn lane_of<
     requires { sweeper.old.pass.queue ≡ shared.now.flushing.queue.name }
     ensures nothing { IfOk result (λ lane.
         IsHeld lane.pusher (counted_by lane.workers.items) lane.board nothing_held) }
-    ensures diary { IfOk result (λ lane. is_some lane.pusher.diary ≡ N.settings.diaries) }
     ensures sweeper { sweeper.new.pass.queue ≡ sweeper.old.pass.queue }
     ensures refused { IfErr result (IsShareRefusal N.settings.shards) }
 {

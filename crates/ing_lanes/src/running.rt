@@ -1,12 +1,15 @@
 //! All channels, side by side, from shards to a report.
-ghost use Rattle.std.specs.Prelude.{◌≡◌, ℕ, All, IfErr, IfOk, List, false, reverse, sum_by, vec_len};
+ghost use Rattle.std.specs.Prelude.{◌≡◌, ℕ, All, IfErr, IfOk, List, false, reverse, sum_by, true, vec_len};
 ghost use Rattle.std.specs.List.{AllByRecursion, AllZip};
 ghost use Rattle.ing_node.specs.Begun.{HasTornLog};
 ghost use Rattle.ing_lanes.specs.ByLane.{nothing_held};
 ghost use Rattle.ing_lanes.specs.Counted.{IsHeld, counted_by};
-ghost use Rattle.ing_lanes.specs.Served.{Account, AddsUp, AreServed, IsLanesFault, IsNotOpened, IsServed, Parts, account_of, broken_in};
+ghost use Rattle.ing_lanes.specs.Served.{Account, AddsUp, AreServed, HaveWhatWasTold, IsLanesFault, IsNotOpened, IsServed, Parts, StandWhereTold, account_of, broken_in};
+ghost use Rattle.ing_node.specs.Closing.{StandInPlaces};
+ghost use Rattle.ing_node.specs.Diaries.{KeepsDiary};
 ghost use Rattle.ing_node.specs.Earlier.{earlier_of};
 ghost use Rattle.ing_node.specs.Names.{AreNamed, IsTallyOf};
+ghost use Rattle.ing_node.specs.Reports.{CountRows};
 
 use crate::channel::Channel;
 use crate::closing::{Parted, close_all, part_all};
@@ -14,7 +17,7 @@ use crate::fault::LanesFault;
 use crate::line::{Line, Opens};
 use crate::opening::channels_of;
 use crate::shared::Shared;
-use ing_node::{Flushing, Ingester, NodeName, Shards, Sweeper};
+use ing_node::{Closed, ClosedShard, Flushing, Ingester, NodeName, Shards, Sweeper};
 use ing_refusals::Refusal;
 use ing_store::{Receipt, StoreEnd};
 use ing_tally::ShardReport;
@@ -33,11 +36,13 @@ pub struct Ends<F: StoreEnd, S: StoreEnd> {
     pub reader: S,
 }
 
-/// Channels that have ended, and what is reported of the shards.
+/// Channels that have ended, what is reported of the shards, and they.
 #[derive(Drop)]
 pub struct Ended<I: Read, O: Write, S: StoreEnd> {
     /// Of each shard, by number.
     pub reports: Vec<ShardReport>,
+    /// The shards, by number, to be read.
+    pub shards: Vec<ClosedShard<S::Receipt>>,
     /// The channels, in their order.
     pub lines: Vec<Line<I, O, S>>,
 }
@@ -61,7 +66,9 @@ impl<I: Read, O: Write, S: StoreEnd> Ended<I, O, S> {
 /// own, or one after another where no thread can be made, and has a flusher of its own, which puts into the store by one of these ends.
 /// Then it is closed, with all that the channels were told, also those that broke: of each shard as many entries are reported accepted as
 /// all channels were told together, and with what was recovered they are stored or kept. Where the settings want diaries, each channel
-/// notes what it was told accepted, and the close compares every entry that came since the start with the notes, as `Ingester::close`.
+/// notes what it was told accepted, and the close compares every entry that came since the start with the notes, as `Ingester::close`:
+/// over an honest store those that came to the shards, which are handed out, are then exactly those that all channels were told, and over
+/// any store there are as many of them under each number of each stream.
 ///
 /// `NotOpened` before anything is read: `NoMemory`, `CounterFull` or `Misplaced`; `NotClosed` as `Ingester::close`, where an entry differs
 /// or could not be read back only where diaries are wanted. (Own.)
@@ -94,7 +101,15 @@ pub fn run_lanes<
         × AreServed (λ old new account. IsServed S.is_honest N.has_logs N.settings (I.remaining old.reader)
         (S.failure_count old.end) (S.failure_count new.end) (O.contents old.writer) (O.contents new.writer) account new.ended)
         lines.items ended.lines.items accounts
-        × AddsUp N.settings.shards N.earlier accounts ended.reports.items) }
+        × AddsUp N.settings.shards N.earlier accounts ended.reports.items
+        × (S.is_honest → N.settings.diaries ≡ true →
+        HaveWhatWasTold N.settings.shards N.earlier accounts ended.shards.items)
+        × (N.settings.diaries ≡ true → StandWhereTold N.settings.shards N.earlier accounts ended.shards.items)) }
+    ensures all { IfOk result (λ ended. vec_len ended.shards ≡ N.settings.shards) }
+    ensures placed { IfOk result (λ ended. StandInPlaces N.settings ended.shards.items) }
+    // What is reported of a shard is so of the one that is handed out.
+    ensures rows { IfOk result (λ ended.
+        CountRows (λ shard. shard.state.rows) ended.shards.items ended.reports.items) }
     ensures refused { IfErr result (IsLanesFault N.settings) }
 {
     let Ok(settings) = shards.settings().try_clone() else {
@@ -130,8 +145,13 @@ pub fn run_lanes<
                 tallies,
             } = parted;
             let Shared { ingester, .. } = shared;
-            let reports = close_all(alloc, &mut reader, ingester, earlier, pushers, tallies)?;
-            Ok(Ended { reports, lines })
+            let closed = close_all(alloc, &mut reader, ingester, earlier, pushers, tallies)?;
+            let Closed { report, shards } = closed;
+            Ok(Ended {
+                reports: report.shards,
+                shards,
+                lines,
+            })
         }
         Err(refusal) => {
             earlier.strand();
@@ -167,6 +187,7 @@ fn serve_lanes<
         (S.failure_count old.end) (S.failure_count new.end) (O.contents old.writer) (O.contents new.writer) account new.ended)
         lines.items parted.lines.items accounts
         × Parts accounts parted.pushers.items parted.tallies.items) }
+    ensures diaries { IfOk result (λ parted. N.settings.diaries ≡ true → All KeepsDiary parted.pushers.items) }
     ensures own { IfOk result (λ parted. All (IsTallyOf N.settings.shards N.books) parted.tallies.items) }
     ensures refused { IfErr result (IsNotOpened N.settings.shards) }
 {

@@ -1,8 +1,9 @@
 -- Lists whose last item is taken, and what is closed.
-use Rattle.std.proofs.Common.{append_assoc, ◌≡◌, ◌≢◌, ◌<◌, ◌≤◌, ◌+◌, ◌-◌, ◌⊎◌, inl, inr, ℕ, zero, suc, List, [], ◌∷◌, ◌++◌, length, Some, true, false, refl, sym, ap, subst, ◌∙◌, arith, slice_index_or, slice_set, Bool}
-use Rattle.std.specs.Prelude.{map, reverse, slice_get}
+use Rattle.std.proofs.Common.{append_assoc, ◌≡◌, ◌≢◌, ◌<◌, ◌≤◌, ◌+◌, ◌-◌, ◌⊎◌, inl, inr, ℕ, zero, suc, List, [], ◌∷◌, ◌++◌, length, Some, true, false, refl, sym, ap, subst, ◌∙◌, ◌^◌, arith, slice_index_or, slice_set, take, Bool}
+use Rattle.std.specs.Prelude.{map, min, reverse, slice_get, sum_by}
 use Rattle.std.specs.Global.{Vec}
-use Rattle.std.proofs.lemmas.List.{map-append, reverse-append}
+use Rattle.std.proofs.lemmas.List.{map-append, reverse-append, take_more}
+use Rattle.std.proofs.lemmas.List.Sums.{sum_by-append, sum_by-cons}
 use Rattle.std.proofs.lemmas.List.Sorted.{IsPermutation-refl}
 use Rattle.ing_rows.specs.Rows.{IsSame, Row, State}
 use Rattle.ing_limits.specs.Settings.{StoreSettings}
@@ -10,13 +11,15 @@ use Rattle.ing_tally.specs.Books.{ShareState}
 use Rattle.ing_begun.specs.Closed.{ClosedContents, closed_of}
 use Rattle.ing_begun.specs.Contents.{Contents, flying_count, stored_count}
 use Rattle.ing_tally.specs.declared.report.ShardReport.{ShardReport}
-use Rattle.ing_node.specs.Closing.{AreInPlaces, IsComplete, StandInPlaces, shares_at, shares_in}
+use Rattle.ing_node.specs.declared.report.CloseRefusal.{CloseRefusal}
+use Rattle.ing_node.specs.declared.report.CloseRefusal.TheVariants.{NoMemory, StillOut, Misplaced, Unsettled}
+use Rattle.ing_node.specs.Closing.{AreInPlaces, IsComplete, StandInPlaces, TellsOf, shares_at, shares_in}
 use Rattle.ing_diary.specs.Fronts.{front_in}
-use Rattle.ing_shard.specs.declared.listed.StreamFront.{StreamFront}
+use Rattle.ing_diary.specs.StreamFront.{StreamFront}
 use Rattle.ing_node.specs.Earlier.{EarlierState, had_at, had_in}
 use Rattle.std.specs.Option.{option_map}
 use Rattle.std.proofs.lemmas.Option.{slice_get-map}
-use Rattle.ing_node.specs.Reports.{CountRows, CountRowsFrom, CountsRows, IsClosed, IsGathered, recovered_at, recovered_in}
+use Rattle.ing_node.specs.Reports.{CountRows, CountRowsFrom, CountsRows, IsClosed, IsGathered, IsUnsettled, recovered_at, recovered_in}
 
 -- ---- lists
 
@@ -184,6 +187,13 @@ meets (suc i) (suc j) = further (meets i j) where
   further (inl same) = inl (ap suc same)
   further (inr other) = inr (λ same. other (omega (arith, same)))
 
+sum_next : {H : Type 0} (f : H → ℕ) (helds : List H) (place : ℕ) (x : H) → place < length helds → x ≡ slice_index_or helds place x
+    → sum_by f (take (place + 1) helds) ≡ sum_by f (take place helds) + f x
+sum_next f helds place x below is =
+    let next : take (place + 1) helds ≡ take place helds ++ x ∷ [] = take_more helds place x below ∙ ap (λ z. take place helds ++ z ∷ []) (sym is) in
+    let sum = ap (sum_by f) next in
+    omega (arith, sum, sum_by-append f (take place helds) (x ∷ []), sum_by-cons f x [])
+
 -- what is so of the first items, each at its place, and of the next one
 pub next_too : {H : Type 0} (P : ℕ → H → Type 0) (helds : List H) (place : ℕ) (x : H) → place < length helds → x ≡ slice_index_or helds place x → P place x
     → ((i : ℕ) (held : H) → i < place → slice_get helds i ≡ Some held → P i held)
@@ -195,6 +205,20 @@ next_too {H} P helds place x below is this before i held next at = by (meets i p
       let one : held ≡ slice_index_or helds place x = cc in
       subst (λ n. P n held) (sym same) (subst (P place) (is ∙ sym one) this)
   by (inr other) = before i held (omega (arith, next, other)) at
+
+-- shares that are missing of one shard more
+pub next_missing : {H : Type 0} (f : H → ℕ) (helds : List H) (place : ℕ) (x : H) (sum found more : ℕ) → place < length helds → x ≡ slice_index_or helds place x → found ≡ f x
+    → sum ≡ min (sum_by f (take place helds)) (2 ^ 64 - 1) → more ≡ min (sum + found) (2 ^ 64 - 1) → more ≡ min (sum_by f (take (place + 1) helds)) (2 ^ 64 - 1)
+next_missing f helds place x sum found more below is one before adds =
+    let next = sum_next f helds place x below is in
+    omega (arith, one, before, adds, next)
+
+-- entries that are not settled tell of no share
+pub unsettled_tells : {H : Type 0} (shard_in : H → Contents) (pushing tallies : ℕ) (helds : List H) (why : CloseRefusal) → IsUnsettled why → TellsOf shard_in pushing tallies helds why
+unsettled_tells shard_in pushing tallies helds NoMemory none = absurd none
+unsettled_tells shard_in pushing tallies helds (StillOut all) none = absurd none
+unsettled_tells shard_in pushing tallies helds (Misplaced place) none = absurd none
+unsettled_tells shard_in pushing tallies helds (Unsettled shard why) is = tt
 
 -- the item at a place
 pub same_there : {H : Type 0} (helds : List H) (place : ℕ) (x held : H) → place < length helds → x ≡ slice_index_or helds place x → slice_get helds place ≡ Some held → held ≡ x

@@ -10,3 +10,5 @@ pub mod Selected
 pub mod VerdictLaws
 pub mod RoundLaws
 mod WaitingLaws
+-- what crates above need of the crates below
+pub use Rattle.ing_begun.proofs.Lists

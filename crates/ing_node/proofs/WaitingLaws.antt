@@ -3,9 +3,9 @@ use Rattle.std.proofs.Common.{◌≡◌, ◌∙◌, true, false, true≢false, L
 use Rattle.std.specs.Prelude.{is_some}
 use Rattle.ing_rows.specs.Rows.{State}
 use Rattle.ing_wal.specs.Logs.{LogState}
-use Rattle.ing_durable.specs.Kept.{DurableContents, whose}
-use Rattle.ing_durable.specs.Unsynced.{WaitsBehind, was_torn}
-use Rattle.ing_durable.specs.declared.unsynced.Unsynced.{Unsynced}
+use Rattle.ing_begun.specs.Kept.{DurableContents, whose}
+use Rattle.ing_begun.specs.UnsyncedRecords.{WaitsBehind, was_torn}
+use Rattle.ing_begun.specs.Unsynced.{Unsynced}
 use Rattle.ing_node.specs.Waiting.{WaitBehind}
 
 module _ {D : Type 0} (honest : Type 0) (seen : D → LogState) where

@@ -1,11 +1,13 @@
 -- Shares that are gathered, shard by shard, and shards that can be gathered (own).
-use Rattle.std.specs.Prelude.{◌≡◌, ℕ, ◌+◌, ◌≤◌, List, [], ◌∷◌, Option, Some, None, slice_get, vec_len}
+use Rattle.std.specs.Prelude.{◌≡◌, ◌≢◌, ℕ, ◌+◌, ◌-◌, ◌^◌, ◌≤◌, List, [], ◌∷◌, Option, Some, None, min, slice_get, sum_by, vec_len}
 use Rattle.std.specs.Global.{Vec}
 use Rattle.std.specs.Vec.{vec_capacity}
 use Rattle.ing_tally.specs.Books.{ShareState}
 use Rattle.ing_limits.specs.Settings.{StoreSettings}
 use Rattle.ing_begun.specs.Closed.{ClosedContents}
 use Rattle.ing_begun.specs.Contents.{Contents}
+use Rattle.ing_node.specs.declared.report.CloseRefusal.{CloseRefusal}
+use Rattle.ing_node.specs.declared.report.CloseRefusal.TheVariants.{StillOut, Misplaced}
 
 -- ---- lists of shares, one for each shard
 
@@ -42,6 +44,18 @@ pub record IsComplete (place pushing tallies : ℕ) (shard : Contents) : Type 0 
 abbrev pub AreComplete : {H : Type 0} → (H → Contents) → (ℕ → ℕ) → (ℕ → ℕ) → List H → Type 0
 AreComplete {H = H} shard_in pushing tallies helds =
     (i : ℕ) (held : H) → slice_get helds i ≡ Some held → IsComplete i (pushing i) (tallies i) (shard_in held)
+
+-- shares that are out beyond so many of each shard, over all shards: of each book their sum, up to 2^64-1
+pub record AreMissing {H : Type 0} (shard_in : H → Contents) (pushing tallies : ℕ) (helds : List H) (accepted flight stored : ℕ) : Type 0 where
+  pub accepted_are : accepted ≡ min (sum_by (λ held. (shard_in held).books.accepted.out - pushing) helds) (2 ^ 64 - 1)
+  pub flight_are : flight ≡ min (sum_by (λ held. (shard_in held).books.flight.out) helds) (2 ^ 64 - 1)
+  pub stored_are : stored ≡ min (sum_by (λ held. (shard_in held).books.stored.out - tallies) helds) (2 ^ 64 - 1)
+
+-- what a refusal tells of the shards is so: how many shares are missing, or which shard does not stand at its place
+abbrev pub TellsOf : {H : Type 0} → (H → Contents) → ℕ → ℕ → List H → CloseRefusal → Type 0
+TellsOf shard_in pushing tallies helds (StillOut all) = AreMissing shard_in pushing tallies helds all.accepted all.flight all.stored
+TellsOf {H = H} shard_in pushing tallies helds (Misplaced place) = (held : H) → slice_get helds place ≡ Some held → (shard_in held).number ≢ place
+TellsOf shard_in pushing tallies helds _ = Unit {0}
 
 -- closed shards: each stands at the place of its number, and has these settings
 abbrev pub StandInPlaces : StoreSettings → List ClosedContents → Type 0

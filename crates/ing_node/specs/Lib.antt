@@ -11,13 +11,18 @@ pub mod Diaries
 pub mod Earlier
 pub mod Waiting
 -- what its clauses speak of in the crates below
+pub use Rattle.ing_diary.specs.Fronts
+pub use Rattle.ing_diary.specs.Notes
 pub use Rattle.ing_diary.specs.declared.fault.Mismatch
 pub use Rattle.ing_diary.specs.declared.fault.Unsettled
 pub use Rattle.ing_begun.specs.Begun
+pub use Rattle.ing_begun.specs.Closed
 pub use Rattle.ing_begun.specs.Contents
 pub use Rattle.ing_begun.specs.Kept
 pub use Rattle.ing_begun.specs.NodeFault
 pub use Rattle.ing_begun.specs.NodeFaults
+pub use Rattle.ing_begun.specs.RecoverFault
+pub use Rattle.ing_begun.specs.Recovering
 pub use Rattle.ing_flush.specs.Rounds
 pub use Rattle.ing_flush.specs.Tallies
 pub use Rattle.ing_flush.specs.declared.worker.Worker

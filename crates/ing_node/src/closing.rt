@@ -3,7 +3,7 @@ ghost use Rattle.std.specs.Prelude.{◌≡◌, [], ℕ, ◌+◌, ◌<◌, ◌≤
 ghost use Rattle.ing_tally.specs.Books.{AreOf, amount_of};
 ghost use Rattle.ing_begun.specs.Closed.{closed_of};
 ghost use Rattle.ing_flush.specs.Tallies.{amount_at};
-ghost use Rattle.ing_node.specs.Closing.{AreComplete, HaveRoom, IsComplete, StandInPlaces, shares_at};
+ghost use Rattle.ing_node.specs.Closing.{AreComplete, HaveRoom, IsComplete, StandInPlaces, TellsOf, shares_at};
 ghost use Rattle.ing_node.specs.Diaries.{HaveNoted, HaveNotedEach, KeepsDiary, NamesOtherIn, notes_at};
 ghost use Rattle.ing_node.specs.Names.{IsTallyOf};
 ghost use Rattle.ing_node.specs.Earlier.{had_at};
@@ -233,6 +233,7 @@ fn is_closable<N: NodeName, D: LogDisk + Drop, S: StoreEnd>(
     ensures differs { S.is_honest → IfErr result (NamesOtherIn (λ held. held.shard.memory.state.rows) (had_at N.earlier)
         (λ i. notes_at N.settings.shards i pushers.now) helds.now) }
     ensures why { IfErr result HasReason }
+    ensures told { IfErr result (TellsOf (λ held. held.shard.memory) (length pushers.now + 1) tallies helds.now) }
     ensures asked { IfErr result (λ why. IsUnsettled why → (N.settings.diaries ≡ true) × All KeepsDiary pushers.now) }
     ensures honest { S.is_honest → IfErr result IsNoBadClose }
     ensures count { OnOk result (S.failure_count end.new ≡ S.failure_count end.old) }
@@ -259,6 +260,7 @@ fn are_complete<N: NodeName, D: LogDisk + Drop, R: Receipt>(
     ensures complete { OnOk result
         (AreComplete (λ held. held.shard.memory) (λ _. pushers) (λ _. tallies) helds.now) }
     ensures why { IfErr result (λ why. HasReason why × (IsUnsettled why → ⊥)) }
+    ensures told { IfErr result (TellsOf (λ held. held.shard.memory) pushers tallies helds.now) }
 {
     let mut all = Missing {
         accepted: 0,

@@ -4,7 +4,7 @@ ghost use Rattle.ing_node.specs.Closing.{AreInPlaces};
 ghost use Rattle.ing_diary.specs.Fronts.{front_in};
 ghost use Rattle.ing_node.specs.Diaries.{HaveNoted, HaveNotedEach, KeepsDiary, NamesOtherIn, notes_at};
 ghost use Rattle.ing_node.specs.Earlier.{had_at};
-ghost use Rattle.ing_node.specs.Reports.{HasReason, IsCausedClose, IsNoBadClose};
+ghost use Rattle.ing_node.specs.Reports.{HasReason, IsCausedClose, IsNoBadClose, IsUnsettled};
 
 use crate::held::Held;
 use crate::laws::settle;
@@ -49,7 +49,7 @@ pub(crate) fn settle_all<N: NodeName, D: LogDisk, S: StoreEnd>(
         (λ i. notes_at N.settings.shards i pushers.now) helds.now) }
     ensures differs { S.is_honest → IfErr result (NamesOtherIn (λ held. held.shard.memory.state.rows) (had_at N.earlier)
         (λ i. notes_at N.settings.shards i pushers.now) helds.now) }
-    ensures why { IfErr result HasReason }
+    ensures why { IfErr result (λ why. HasReason why × IsUnsettled why) }
     ensures honest { S.is_honest → IfErr result IsNoBadClose }
     ensures count { OnOk result (S.failure_count end.new ≡ S.failure_count end.old) }
     ensures cause { IfErr result (IsCausedClose (S.failure_count end.old) (S.failure_count end.new)) }

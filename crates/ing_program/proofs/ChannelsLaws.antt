@@ -2,10 +2,10 @@
 use Rattle.std.proofs.Common.{◌≡◌, ◌≢◌, ◌+◌, ◌-◌, ◌*◌, ◌≤◌, ℕ, Bool, not, List, [], ◌∷◌, arith, drop, inl, inr, length, length-drop, length-take-le, refl, subst, take}
 use Rattle.std.specs.Prelude.{IsTrue, filter}
 use Rattle.std.proofs.lemmas.List.Filters.{length-filter_both}
-use Rattle.ing_begun.specs.RecoverFault.{RecoverFault}
-use Rattle.ing_session.specs.Endings.{ending_of_recover, is_of_run}
-use Rattle.ing_session.specs.declared.ending.Ending.TheVariants.{BadArguments}
-use Rattle.ing_session.proofs.EndingsLaws.{recover_ending}
+use Rattle.ing_lanes.specs.RecoverFault.{RecoverFault}
+use Rattle.ing_lanes.specs.Endings.{ending_of_recover, is_of_run}
+use Rattle.ing_lanes.specs.Ending.TheVariants.{BadArguments}
+use Rattle.ing_lanes.proofs.EndingsLaws.{recover_ending}
 use Rattle.ing_lanes.specs.Served.{Account, AreServed}
 
 -- what a recovery is refused for is not the words

@@ -6,8 +6,8 @@ use Rattle.std.specs.List.{AllByRecursion}
 use Rattle.std.specs.Prelude.{All}
 use Rattle.std.proofs.lemmas.List.Elements.{All-cons, All-head, All-nil, All-tail}
 use Rattle.ing_limits.specs.Settings.{StoreSettings}
-use Rattle.ing_begun.specs.Kept.{Replays, whose}
-use Rattle.ing_begun.specs.Begun.{AreBegunFrom, BegunState, HasReplayed}
+use Rattle.ing_lanes.specs.Kept.{Replays, whose}
+use Rattle.ing_lanes.specs.Begun.{AreBegunFrom, BegunState, HasReplayed}
 use Rattle.ing_service.specs.Held.{AreShardsOf, Begun, BeginsOver, ShardHeld, shard_held, whose_from}
 
 -- what stands at a place of a list that is made of another

@@ -10,9 +10,9 @@ use Rattle.ing_limits.specs.Faults as limits
 use Rattle.ing_limits.specs.declared.fault.SettingsFault.{SettingsFault}
 use Rattle.ing_limits.specs.declared.fault.SettingsFault.TheVariants.{NoMemory, NotToml, UnknownSetting, BadSetting}
 use Rattle.ing_service.specs.Ends.{up_to_last}
-use Rattle.ing_session.specs.Manners.{Manner}
-use Rattle.ing_session.specs.declared.ending.Ending.{Ending}
-use Rattle.ing_session.specs.Endings.{ending_of_settings, refusal_of}
+use Rattle.ing_lanes.specs.Manners.{Manner}
+use Rattle.ing_lanes.specs.Ending.{Ending}
+use Rattle.ing_lanes.specs.Endings.{ending_of_settings, refusal_of}
 use Rattle.ing_program.specs.Starting.{BeginSettings, GiveSettings, InManner, IsOverFolder, NamesFile, manner_of, started_by}
 
 -- bytes that are no UTF-8 are no TOML

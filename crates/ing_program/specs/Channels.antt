@@ -3,8 +3,8 @@ use Rattle.std.specs.Prelude.{◌≡◌, ◌⊎◌, ℕ, ◌+◌, ◌*◌, ◌<�
 use Rattle.std.specs.Io.KnownBytes.{Appends}
 use Rattle.ing_limits.specs.Settings.{StoreSettings}
 use Rattle.ing_lanes.specs.Served.{Account, AddsUp}
-use Rattle.ing_node.specs.Earlier.{EarlierState}
-use Rattle.ing_session.specs.Replies.{channels_data, line_text}
+use Rattle.ing_lanes.specs.Earlier.{EarlierState}
+use Rattle.ing_lanes.specs.Replies.{channels_data, line_text}
 use Rattle.ing_tally.specs.declared.report.ShardReport.{ShardReport}
 
 -- These argument words name no channels over a folder: that of the folder is empty, no path follows it, one without a partner, or more than

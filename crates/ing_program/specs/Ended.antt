@@ -2,15 +2,15 @@
 use Rattle.std.specs.Prelude.{◌≡◌, ◌⊎◌, ℕ, List, ◌++◌, String, codes, decimal, string_bytes}
 use Rattle.ing_lanes.specs.declared.fault.LanesFault.{LanesFault}
 use Rattle.ing_lanes.specs.declared.fault.LanesFault.TheVariants.{NotOpened, NotClosed}
-use Rattle.ing_node.specs.Reports.{close_refusal_of}
-use Rattle.ing_node.specs.declared.report.CloseRefusal.{CloseRefusal}
-use Rattle.ing_node.specs.declared.report.CloseRefusal.TheVariants as close
-use Rattle.ing_node.specs.Mismatch.{Mismatch}
-use Rattle.ing_node.specs.Unsettled.{Unsettled}
-use Rattle.ing_node.specs.Unsettled.TheVariants.{Query, Differs}
+use Rattle.ing_lanes.specs.Reports.{close_refusal_of}
+use Rattle.ing_lanes.specs.CloseRefusal.{CloseRefusal}
+use Rattle.ing_lanes.specs.CloseRefusal.TheVariants as close
+use Rattle.ing_lanes.specs.Mismatch.{Mismatch}
+use Rattle.ing_lanes.specs.Unsettled.{Unsettled}
+use Rattle.ing_lanes.specs.Unsettled.TheVariants.{Query, Differs}
 use Rattle.ing_refusals.specs.declared.refusal.Refusal.{Refusal}
-use Rattle.ing_session.specs.declared.ending.Ending.{Ending}
-use Rattle.ing_session.specs.declared.ending.Ending.TheVariants as ending
+use Rattle.ing_lanes.specs.Ending.{Ending}
+use Rattle.ing_lanes.specs.Ending.TheVariants as ending
 use Rattle.std.specs.declared.alloc.Global.{Global}
 
 -- what is told of an entry that differs: its shard, its tenant, its stream and its number

@@ -2,12 +2,12 @@
 use Rattle.std.specs.Prelude.{◌≡◌, ◌⊎◌, ℕ, true, List, [], ◌∷◌, if◌then◌else◌, Result, Ok, Err, ⊤}
 use Rattle.std.specs.Str.{is_utf8}
 use Rattle.ing_limits.specs.Settings.{StoreSettings, Refusal, not_toml, settings_of}
-use Rattle.ing_session.specs.Endings.{IsNotRecovered}
+use Rattle.ing_lanes.specs.Endings.{IsNotRecovered}
 use Rattle.ing_service.specs.ByShards.{by_shards}
 use Rattle.ing_service.specs.Held.{Begun, begun_new}
-use Rattle.ing_session.specs.Manners.{Manner}
-use Rattle.ing_session.specs.declared.ending.Ending.{Ending}
-use Rattle.ing_session.specs.declared.ending.Ending.TheVariants.{NoFolder, NoObjects, FolderInUse, MissingLog}
+use Rattle.ing_lanes.specs.Manners.{Manner}
+use Rattle.ing_lanes.specs.Ending.{Ending}
+use Rattle.ing_lanes.specs.Ending.TheVariants.{NoFolder, NoObjects, FolderInUse, MissingLog}
 
 -- the settings with which the program starts by the bytes of its settings file: what is not UTF-8 is no TOML
 abbrev pub started_by : List ℕ → Result StoreSettings Refusal

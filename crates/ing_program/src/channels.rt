@@ -4,9 +4,9 @@ ghost use Rattle.std.specs.Io.KnownBytes.{Appends};
 ghost use Rattle.std.specs.String.{string_bytes};
 ghost use Rattle.ing_lanes.specs.Served.{broken_in};
 ghost use Rattle.ing_limits.specs.Settings.{StoreSettings};
-ghost use Rattle.ing_node.specs.Earlier.{earlier_of};
-ghost use Rattle.ing_node.specs.Names.{AreNamed};
-ghost use Rattle.ing_session.specs.Replies.{channels_data, line_text};
+ghost use Rattle.ing_lanes.specs.Earlier.{earlier_of};
+ghost use Rattle.ing_lanes.specs.Names.{AreNamed};
+ghost use Rattle.ing_lanes.specs.Replies.{channels_data, line_text};
 ghost use Rattle.ing_program.specs.Ended.{IsEndingOf, IsEndingOfClose, IsEndingOfEntries, place_text};
 ghost use Rattle.ing_program.specs.Channels.{AreNoChannels, ReportsChannels, ReportsPaths, clock_count};
 ghost use Rattle.ing_program.specs.Starting.{started_by};
@@ -15,12 +15,12 @@ use crate::folders::{Folders, begin, conclude_folder, end_in, ends_in, hold_of, 
 use crate::paths::{Input, Output};
 use crate::program::{read_file, settings_of_file};
 use crate::ticks::Ticking;
-use ing_begun::Shards;
-use ing_lanes::{Ended, Ends, LanesFault, Line, Opens, run_lanes};
+use ing_lanes::{
+    CloseRefusal, Ended, Ending, Ends, LanesFault, Line, Mismatch, NodeName, Opens, Reply, Shards,
+    Unsettled, put_reply, run_lanes,
+};
 use ing_limits::Settings;
-use ing_node::{CloseRefusal, Mismatch, NodeName, Unsettled};
 use ing_refusals::Refusal;
-use ing_session::{Ending, Reply, put_reply};
 use ing_store::{Receipt, StoreEnd};
 use ing_wal::LogDisk;
 use std::alloc::{AllocError, Global};
@@ -311,7 +311,11 @@ fn report<I: Read + Drop, O: Write + Drop, S: StoreEnd + Drop, W: Write>(
     ensures ending { IfErr result (λ e. (e ≡ Ending.NoMemory) ⊎ (e ≡ Ending.OutputFault)) }
 {
     let broken = ended.broken();
-    let Ended { reports, lines: _ } = ended;
+    let Ended {
+        reports,
+        shards: _,
+        lines: _,
+    } = ended;
     let reply = Reply::Channels {
         broken,
         shards: reports,

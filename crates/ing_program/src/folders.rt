@@ -1,12 +1,11 @@
 //! What lies in a folder: the logs of shards, and a store.
 ghost use Rattle.std.specs.Prelude.{◌≡◌, ◌+◌, ◌<◌, ◌^◌, ◌⊎◌, IfErr, IfOk, sum_by, vec_len};
-ghost use Rattle.ing_session.specs.declared.ending.Ending.{Ending};
+ghost use Rattle.ing_lanes.specs.Ending.{Ending};
 ghost use Rattle.ing_program.specs.Starting.{IsOfFolder};
 
-use ing_begun::RecoverFault;
 use ing_folder::{FolderFault, FolderHold, FolderLog, FolderStore, HoldFault};
+use ing_lanes::{Ending, RecoverFault};
 use ing_limits::Settings;
-use ing_session::Ending;
 use ing_store::StoreEnd;
 use ing_wal::LogDisk;
 use std::alloc::Global;

@@ -26,6 +26,6 @@ pub use ticks::{Ticking, Ticks};
 
 // What its callers meet of the crates below.
 pub use ing_folder::{FolderLog, FolderStore, hold_streams};
+pub use ing_lanes::{Ending, conclude};
 pub use ing_service::{Ends, run};
-pub use ing_session::{Ending, conclude};
 pub use ing_store::DigestReceipt;

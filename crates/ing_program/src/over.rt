@@ -2,14 +2,14 @@
 ghost use Rattle.std.specs.Prelude.{◌≡◌, ◌≢◌, ◌⊎◌, ◌<◌, IfErr, IfSome, IsErrOf, IsTrue, Err, Ok, OnOk, vec_len};
 ghost use Rattle.ing_limits.specs.Settings.{StoreSettings};
 ghost use Rattle.ing_program.specs.Starting.{IsOfFolder, IsOverFolder, started_by};
-ghost use Rattle.ing_session.specs.Endings.{ending_status, refusal_of};
-ghost use Rattle.ing_session.specs.Runs.{AnswersAll, AnswersFirstLines, AnswersFront, AnswersWhatWasRead};
+ghost use Rattle.ing_lanes.specs.Endings.{ending_status, refusal_of};
+ghost use Rattle.ing_lanes.specs.Runs.{AnswersAll, AnswersFirstLines, AnswersFront, AnswersWhatWasRead};
 
 use crate::folders::{Folders, begin, conclude_folder, end_in, ends_in, hold_of, logs_in};
 use crate::own::run_over;
 use crate::program::{settings_of_file, worker_count};
+use ing_lanes::Ending;
 use ing_service::Ends;
-use ing_session::Ending;
 use ing_store::{Receipt, StoreEnd};
 use ing_wal::LogDisk;
 use std::io::{Read, Write};

@@ -1,21 +1,20 @@
 //! Runs over shards that nobody shares, as their logs say.
 ghost use Rattle.std.specs.Prelude.{◌≡◌, ◌+◌, ◌≤◌, ◌⊎◌, All, IfErr, IfOk, IfSome, IsErrOf, IsTrue, List, OnOk, map, reverse, true, vec_capacity, vec_len};
-ghost use Rattle.ing_begun.specs.Kept.{whose};
-ghost use Rattle.ing_begun.specs.Begun.{AreBegunFrom};
-ghost use Rattle.ing_begun.specs.RecoverFault.{RecoverFault};
-ghost use Rattle.ing_begun.specs.Recovering.{AreOwnLogs, IsLowestRefused};
+ghost use Rattle.ing_lanes.specs.Kept.{whose};
+ghost use Rattle.ing_lanes.specs.Begun.{AreBegunFrom};
+ghost use Rattle.ing_lanes.specs.RecoverFault.{RecoverFault};
+ghost use Rattle.ing_lanes.specs.Recovering.{AreOwnLogs, IsLowestRefused};
 ghost use Rattle.ing_service.specs.ByShards.{by_shards};
 ghost use Rattle.ing_service.specs.Ends.{NeverFail, failures_in};
 ghost use Rattle.ing_service.specs.Held as held;
 ghost use Rattle.ing_service.specs.Held.{BeginsOver, shard_held};
-ghost use Rattle.ing_session.specs.Causes.{GoesOn};
-ghost use Rattle.ing_session.specs.Endings.{IsNotRecovered, is_of_run};
-ghost use Rattle.ing_session.specs.Runs.{AnswersAll, AnswersFirstLines, AnswersFront, AnswersWhatWasRead};
+ghost use Rattle.ing_lanes.specs.Causes.{GoesOn};
+ghost use Rattle.ing_lanes.specs.Endings.{IsNotRecovered, is_of_run};
+ghost use Rattle.ing_lanes.specs.Runs.{AnswersAll, AnswersFirstLines, AnswersFront, AnswersWhatWasRead};
 
-use ing_begun::{Begun, Shards};
+use ing_lanes::{Begun, Ending, Shards};
 use ing_limits::Settings;
 use ing_service::{Beginning, Ends, Seat, run_own};
-use ing_session::Ending;
 use ing_store::{Receipt, StoreEnd};
 use ing_wal::LogDisk;
 use std::alloc::Global;

@@ -1,9 +1,8 @@
 //! The two ends of a channel: paths that are opened when it is served, or the clock, which nobody answers.
 ghost use Rattle.std.specs.Prelude.{IsTrue};
-ghost use Rattle.ing_session.specs.Endings.{is_of_run};
+ghost use Rattle.ing_lanes.specs.Endings.{is_of_run};
 
-use ing_lanes::Opens;
-use ing_session::Ending;
+use ing_lanes::{Ending, Opens};
 use std::io::{Error, ErrorKind, Read, Write};
 use std::rt::Files;
 use std::sync::atomic::{AtomicU64, Ordering};

@@ -4,15 +4,15 @@ ghost use Rattle.std.specs.String.{string_bytes};
 ghost use Rattle.ing_limits.specs.Settings.{StoreSettings};
 ghost use Rattle.ing_store.specs.declared.memory_end.Fuse.{Fuse};
 ghost use Rattle.ing_store.specs.declared.memory_end.Fuse.TheVariants as fuses;
-ghost use Rattle.ing_session.specs.Endings.{ending_status, refusal_of};
-ghost use Rattle.ing_session.specs.Runs.{AnswersAll, AnswersWhatWasRead, AnswersFirstLines, AnswersFront};
+ghost use Rattle.ing_lanes.specs.Endings.{ending_status, refusal_of};
+ghost use Rattle.ing_lanes.specs.Runs.{AnswersAll, AnswersWhatWasRead, AnswersFirstLines, AnswersFront};
 ghost use Rattle.ing_program.specs.Starting.{AreBad, BeginSettings, GiveSettings, IsOfFolder, NamesFile, manner_of, started_by};
 
 use crate::folders::Folders;
 use crate::over::start_over;
+use ing_lanes::Ending;
 use ing_limits::Settings;
 use ing_service::{Ends, run};
-use ing_session::Ending;
 use ing_store::{Fuse, MemoryEnd, MemoryStore, Receipt, StoreEnd};
 use ing_wal::LogDisk;
 use std::alloc::{AllocError, Global};

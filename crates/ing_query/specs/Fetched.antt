@@ -39,9 +39,9 @@ abbrev pub WasBadIn : (Listed → Type 0) → List ℕ → Type 0
 WasBadIn P key = (listed : Listed) × P listed × (key ≡ listed.key) × WasBad listed
 
 -- what a fault tells of the end's count of failures before and after: it does not fall, a fault of the store
--- comes only where the end has failed, and it stays where the object is bad
+-- comes only where the end has failed, and it stays where memory ran out or the object is bad
 abbrev pub Counts : ℕ → ℕ → QueryFault → Type 0
-Counts before after NoMemory = before ≤ after
+Counts before after NoMemory = after ≡ before
 Counts before after (StoreFault key) = (before ≤ after) × HasFailed before after
 Counts before after (BadObject key) = after ≡ before
 

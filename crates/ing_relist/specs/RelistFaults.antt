@@ -24,9 +24,9 @@ relist_refusal_of (Missing key) = refusal.BadObject
 relist_refusal_of (BadObject key) = refusal.BadObject
 
 -- what a fault tells of the end's count of failures before and after: it does not fall, a fault of the store comes only where the
--- end has failed, and it stays where the object is missing or bad
+-- end has failed, and it stays where memory ran out or the object is missing or bad
 abbrev pub Counts : ℕ → ℕ → RelistFault → Type 0
-Counts before after NoMemory = before ≤ after
+Counts before after NoMemory = after ≡ before
 Counts before after (Failed key) = (before ≤ after) × HasFailed before after
 Counts before after (Damaged key) = (before ≤ after) × HasFailed before after
 Counts before after (Missing key) = after ≡ before

@@ -32,21 +32,21 @@ has_failed before after others risen (inr last) = inr (omega (arith, last))
 
 pub counted_too : {T : Type 0} (before after others : ℕ) (r : Result T StoreFault) → IsCounted before after r → IsCounted (up_to_last (before + others)) (up_to_last (after + others)) r
 counted_too before after others (Ok x) same = ap (λ n. up_to_last (n + others)) same
-counted_too before after others (Err NoMemory) risen = omega (arith, risen)
+counted_too before after others (Err NoMemory) same = ap (λ n. up_to_last (n + others)) same
 counted_too before after others (Err Failed) both = (omega (arith, both.0), has_failed before after others both.0 both.1)
 counted_too before after others (Err Damaged) both = (omega (arith, both.0), has_failed before after others both.0 both.1)
 
 -- an answer of an end lets its count not fall
 pub counted_risen : {T : Type 0} (before after : ℕ) (r : Result T StoreFault) → IsCounted before after r → before ≤ after
 counted_risen before after (Ok x) same = omega (arith, same)
-counted_risen before after (Err NoMemory) risen = risen
+counted_risen before after (Err NoMemory) same = omega (arith, same)
 counted_risen before after (Err Failed) both = both.0
 counted_risen before after (Err Damaged) both = both.0
 
 -- an upload that failed has a cause
 pub upload_cause : {T : Type 0} (before after : ℕ) (r : Result T StoreFault) → IsCounted before after r → HaveCause before after (failed_by r)
 upload_cause before after (Ok x) same = same_count before after same
-upload_cause before after (Err NoMemory) risen = (risen, inl (omega (arith, risen)))
+upload_cause before after (Err NoMemory) same = (omega (arith, same), inl (omega (arith, same)))
 upload_cause before after (Err Failed) both = one_failure before after both.0 both.1
 upload_cause before after (Err Damaged) both = one_failure before after both.0 both.1
 

@@ -111,7 +111,7 @@ module _ (honest : Type 0) (begun : Begun) (settings : StoreSettings) (query : Q
 
 -- a fault of a query lets the count of failures not fall
 pub risen : (before after : ℕ) (fault : QueryFault) → Counts before after fault → before ≤ after
-risen before after NoMemory counted = counted
+risen before after NoMemory counted = omega (arith, counted)
 risen before after (StoreFault key) counted = counted.0
 risen before after (BadObject key) counted = omega (arith, counted)
 

@@ -12,10 +12,10 @@ store_refusal_of NoMemory = refusal.NoMemory
 store_refusal_of Failed = refusal.Failed
 store_refusal_of Damaged = refusal.Damaged
 
--- what an answer tells of the count of failures before and after the call: it does not fall, it stays where
--- the answer is Ok, and a fault that is not want of memory is answered only where the end has failed
+-- what an answer tells of the count of failures before and after the call: it does not fall, it stays where the answer is Ok or
+-- want of memory, and another fault is answered only where the end has failed
 abbrev pub IsCounted : {T : Type 0} → ℕ → ℕ → Result T StoreFault → Type 0
 IsCounted before after (Ok answer) = after ≡ before
-IsCounted before after (Err NoMemory) = before ≤ after
+IsCounted before after (Err NoMemory) = after ≡ before
 IsCounted before after (Err Failed) = (before ≤ after) × HasFailed before after
 IsCounted before after (Err Damaged) = (before ≤ after) × HasFailed before after

@@ -15,6 +15,6 @@ invariant-loop g l =
       own : AreStoredIn g.D.Door.books new.flusher.tally;
       stored : HaveRisen l.round.stored old.flusher.tally new.flusher.tally;
       taken : HasTaken (l.round.stored + l.round.failed) old.pass new.pass;
-      failed : IsTold l.round.failed (count old.flusher.end.end) (count new.flusher.end.end);
+      failed : IsTold l.round.failed l.round.other (count old.flusher.end.end) (count new.flusher.end.end);
       sure : sure old.flusher.end.end → (sure new.flusher.end.end) × (count new.flusher.end.end ≡ count old.flusher.end.end);
     }

@@ -11,10 +11,9 @@ use Rattle.ing_lanes.proofs.closing.close_all.Goals as goal
 -- what the flushers counted is what is stored
 pub returns-in-Ok-clause-closed : goal.returns-in-Ok-clause-closed
 returns-in-Ok-clause-closed g c =
-    let shards = c.into_report.result.shards in
-    let same = c.into_report.ensures in
-    let closed = λ (i : ℕ) (r : ShardReport) (at : slice_get shards.items i ≡ Some r). c.in-Ok.ensures.closed i r (ap (λ (x : Report). slice_get x.shards.items i) (sym same) ∙ at) in
-    let all : length shards.items ≡ g.N.NodeName.settings.shards = sym shards.ok.0 ∙ ap (λ (x : Report). vec_len x.shards) same ∙ c.in-Ok.ensures.all.0 in
+    let shards = c.in-Ok.closed.report.shards in
+    let closed = c.in-Ok.ensures.closed in
+    let all : length shards.items ≡ g.N.NodeName.settings.shards = sym shards.ok.0 ∙ c.in-Ok.ensures.all.0 in
     record {
       all = all;
       accepted = λ i r at. (closed i r at).accepted;

@@ -3,10 +3,11 @@ use Rattle.std.proofs.lemmas.List.Elements.{All-push}
 use Rattle.std.proofs.lemmas.List.Sums.{sum_by_push}
 use Rattle.std.specs.Prelude.{sum_by}
 use Rattle.ing_tally.specs.Books.{amount_of}
-use Rattle.ing_node.specs.Tallies.{amount_at}
+use Rattle.ing_node.specs.Diaries.{KeepsDiary}
+use Rattle.ing_lanes.specs.ByLane.{told_as}
 use Rattle.ing_node.specs.Names.{IsTallyOf}
 use Rattle.ing_lanes.specs.Counted.{counted_by}
-use Rattle.ing_begun.proofs.Lists.{none_left}
+use Rattle.ing_node.proofs.Lists.{none_left}
 use Rattle.ing_node.proofs.ClosingLaws.{handed_on, no_item}
 use Rattle.ing_lanes.proofs.closing.part_all.Goals as goal
 
@@ -27,16 +28,17 @@ loop-channel-preserved g c =
       room_of_tallies = search rules;
       same =
           sym (handed_on (λ ch. ch.line) before.channels.items rest channel before.lines.items c.push_reserved.new.self.items _ popped c.push_reserved.ensures.items (sym before.invariant.same));
-      told = λ i.
+      told = λ m.
           omega (
             arith,
-            ap (sum_by (λ p. amount_at i p.told)) c.push_reserved-in-Some.ensures.items,
-            sum_by_push (λ p. amount_at i p.told) before.pushers.items pusher,
-            ap (λ p. amount_at i p.told) parts.pusher,
-            ap (sum_by (λ ch. amount_at i ch.lane.pusher.told)) popped,
-            sum_by_push (λ ch. amount_at i ch.lane.pusher.told) rest channel,
-            before.invariant.told i,
+            ap (sum_by (λ p. told_as p m)) c.push_reserved-in-Some.ensures.items,
+            sum_by_push (λ p. told_as p m) before.pushers.items pusher,
+            ap (λ p. told_as p m) parts.pusher,
+            ap (sum_by (λ ch. told_as ch.lane.pusher m)) popped,
+            sum_by_push (λ ch. told_as ch.lane.pusher m) rest channel,
+            before.invariant.told m,
           );
+      diaries = λ wants. rw c.push_reserved-in-Some.ensures.items (All-push KeepsDiary before.pushers.items pusher (before.invariant.diaries wants) (parts.diary ∙ wants));
       own = rw c.push_reserved-in-Some-2.ensures.items (All-push IsOwn before.tallies.items tally before.invariant.own parts.own);
       counted =
           omega (
@@ -52,8 +54,8 @@ loop-channel-preserved g c =
 
 -- none is left
 pub returns-clause-told : goal.returns-clause-told
-returns-clause-told g c = λ i.
+returns-clause-told g c = λ m.
     let none = none_left (vec_len c.loop-channel.channels) c.in_default.ensures.variant.1 in
     let empty = no_item c.loop-channel.channels.items (sym c.loop-channel.channels.ok.0 ∙ none) in
-    let told = c.loop-channel.invariant.told i in
-    omega (arith, told, ap (sum_by (λ ch. amount_at i ch.lane.pusher.told)) empty)
+    let told = c.loop-channel.invariant.told m in
+    omega (arith, told, ap (sum_by (λ ch. told_as ch.lane.pusher m)) empty)

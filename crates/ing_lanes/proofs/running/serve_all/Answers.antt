@@ -2,7 +2,7 @@ use Rattle.std.proofs.Common.{slice_index_or, subst, sym}
 use denote.Exit.{unseen}
 use denote.Param.Send.{Quiet-if}
 use mir.Syntax.{of_param}
-use Rattle.ing_begun.proofs.Lists.{of_same}
+use Rattle.ing_node.proofs.Lists.{of_same}
 use Rattle.ing_node.proofs.RoundLaws.{zip_of}
 use Rattle.ing_lanes.specs.ByLane.{nothing_held}
 use Rattle.ing_lanes.specs.Counted.{IsHeld, counted_by}

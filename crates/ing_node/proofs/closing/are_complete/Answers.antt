@@ -1,5 +1,5 @@
 use Rattle.std.proofs.Common.{◌≡◌, arith}
-use Rattle.ing_node.proofs.ClosingLaws.{get_below, next_too}
+use Rattle.ing_node.proofs.ClosingLaws.{get_below, next_missing, next_too}
 use Rattle.ing_node.specs.Closing.{IsComplete}
 use Rattle.ing_node.proofs.closing.are_complete.Goals as goal
 
@@ -20,6 +20,14 @@ loop-place-preserved g c = record {
       next_too (λ n h. IsComplete n c.args.pushers c.args.tallies h.shard.memory) c.args.helds.now c.loop-place.place c.index-helds-place.result c.loop-place-test.true c.index-helds-place.is
       (record { number = m.number; accepted = omega (arith, no_a, is_a); flight = omega (arith, no_f, is_f); stored = omega (arith, no_s, is_s) })
       (c.loop-place.invariant.complete none_a none_f none_s) i held below at;
+  missing =
+      let m = c.in_ok-missing.ensures in
+      let before = c.loop-place.invariant.missing in
+      record {
+        accepted_are = next_missing _ c.args.helds.now c.loop-place.place c.index-helds-place.result _ _ _ c.loop-place-test.true c.index-helds-place.is m.accepted before.accepted_are c.saturating_add.ensures;
+        flight_are = next_missing _ c.args.helds.now c.loop-place.place c.index-helds-place.result _ _ _ c.loop-place-test.true c.index-helds-place.is m.flight before.flight_are c.saturating_add-in-loop-place.ensures;
+        stored_are = next_missing _ c.args.helds.now c.loop-place.place c.index-helds-place.result _ _ _ c.loop-place-test.true c.index-helds-place.is m.stored before.stored_are c.saturating_add-in-loop-place-2.ensures;
+      };
 }
 
 pub returns-clause-complete : goal.returns-clause-complete

@@ -1,5 +1,5 @@
 use Rattle.std.proofs.Common.{inr, refl, subst, sym}
-use Rattle.ing_session.specs.declared.ending.Ending.TheVariants.{Differs}
+use Rattle.ing_lanes.specs.Ending.TheVariants.{Differs}
 use Rattle.ing_program.specs.Ended.{IsEndingOfEntries}
 use Rattle.ing_program.proofs.channels.ending_of_entries.Goals as goal
 

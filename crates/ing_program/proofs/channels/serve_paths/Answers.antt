@@ -1,7 +1,7 @@
 use Rattle.std.proofs.Common.{◌≡◌, ◌≢◌, ◌+◌, ◌*◌, ℕ, IfErr, List, Ok, OnOk, Option, length, subst, sym, vec_len}
 use Rattle.std.proofs.lemmas.Result.{on_ok_weaker}
 use Rattle.ing_limits.specs.Settings.{StoreSettings}
-use Rattle.ing_session.specs.declared.ending.Ending.TheVariants.{BadArguments, OutputFault}
+use Rattle.ing_lanes.specs.Ending.TheVariants.{BadArguments, OutputFault}
 use Rattle.ing_program.specs.Channels.{ReportsChannels, ReportsPaths, clock_count}
 use Rattle.ing_program.specs.Starting.{started_by}
 use Rattle.ing_program.proofs.ChannelsLaws.{beside_the_clock, not_of_words}

@@ -1,6 +1,6 @@
 use Rattle.std.proofs.Common.{reverse, true}
-use Rattle.ing_node.specs.Earlier.{earlier_of}
-use Rattle.ing_node.specs.Names.{names_at}
+use Rattle.ing_lanes.specs.Earlier.{earlier_of}
+use Rattle.ing_lanes.specs.Names.{names_at}
 use Rattle.ing_program.proofs.channels.serve_paths.Given as goal
 
 -- the shards are named by what they begin with

@@ -4,8 +4,8 @@ use Rattle.ing_limits.specs.Settings.{StoreSettings}
 use Rattle.ing_service.specs.ByShards.{by_shards}
 use Rattle.ing_service.specs.Ends.{failures_in}
 use Rattle.ing_service.specs.Held.{Begun, BeginsOver}
-use Rattle.ing_session.specs.Runs.{AnswersAll, AnswersWhatWasRead, AnswersFirstLines, AnswersFront}
-use Rattle.ing_session.proofs.KnownLaws.{if_some_then}
+use Rattle.ing_lanes.specs.Runs.{AnswersAll, AnswersWhatWasRead, AnswersFirstLines, AnswersFront}
+use Rattle.ing_lanes.proofs.KnownLaws.{if_some_then}
 use Rattle.ing_program.specs.Starting.{IsOverFolder, started_by}
 use Rattle.ing_program.proofs.StartingLaws.{none_failed}
 use Rattle.ing_program.proofs.over.start_over.Goals as goal

@@ -1,6 +1,6 @@
 use Rattle.std.proofs.Common.{◌∙◌, ap, map, reverse, subst, sym}
 use Rattle.std.proofs.lemmas.List.{length-reverse}
-use Rattle.ing_begun.specs.Kept.{DurableContents, whose}
+use Rattle.ing_lanes.specs.Kept.{DurableContents, whose}
 use Rattle.ing_service.specs.Held.{AreShardsOf, shard_held}
 use Rattle.ing_program.proofs.OwnLaws.{are_shards, made_alike, own_shares}
 use Rattle.ing_program.proofs.own.run_begun.Goals as goal

@@ -1,12 +1,12 @@
 use Rattle.std.proofs.Common.{◌∙◌, ap, map, subst, sym, inl, inr, reverse}
 use Rattle.std.specs.Prelude.{◌⊎◌, IsTrue}
 use Rattle.std.proofs.lemmas.Result.{on_ok_weaker}
-use Rattle.ing_begun.specs.Recovering.{IsLowestRefused}
-use Rattle.ing_session.specs.Runs.{AnswersAll, AnswersWhatWasRead, AnswersFirstLines, AnswersFront}
-use Rattle.ing_session.specs.Endings.{IsNotRecovered, is_of_run}
-use Rattle.ing_session.specs.declared.ending.Ending.TheVariants.{NotRecovered}
-use Rattle.ing_session.proofs.KnownLaws.{if_some_then}
-use Rattle.ing_session.proofs.EndingsLaws.{not_of_run, not_recovered, recover_ending, same_ending}
+use Rattle.ing_lanes.specs.Recovering.{IsLowestRefused}
+use Rattle.ing_lanes.specs.Runs.{AnswersAll, AnswersWhatWasRead, AnswersFirstLines, AnswersFront}
+use Rattle.ing_lanes.specs.Endings.{IsNotRecovered, is_of_run}
+use Rattle.ing_lanes.specs.Ending.TheVariants.{NotRecovered}
+use Rattle.ing_lanes.proofs.KnownLaws.{if_some_then}
+use Rattle.ing_lanes.proofs.EndingsLaws.{not_of_run, not_recovered, recover_ending, same_ending}
 use Rattle.ing_service.specs.ByShards.{by_shards}
 use Rattle.ing_service.specs.Ends.{failures_in}
 use Rattle.ing_service.specs.Held.{Begun, BeginsOver}

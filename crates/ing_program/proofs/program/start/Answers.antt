@@ -1,11 +1,11 @@
 use Rattle.std.proofs.Common.{◌≡◌, ◌<◌, ◌≤◌, ◌∙◌, Err, ap, arith, length, map, inl, inr, sym}
 use Rattle.std.proofs.lemmas.List.{length-map}
 use Rattle.std.proofs.lemmas.Result.{IfErr-weaker, on_ok_weaker}
-use Rattle.ing_session.proofs.KnownLaws.{if_some_then}
-use Rattle.ing_session.specs.Endings.{refusal_of}
+use Rattle.ing_lanes.proofs.KnownLaws.{if_some_then}
+use Rattle.ing_lanes.specs.Endings.{refusal_of}
 use Rattle.ing_program.specs.Starting.{started_by}
 use Rattle.std.specs.String.{string_bytes}
-use Rattle.ing_session.specs.Runs.{AnswersAll, AnswersWhatWasRead, AnswersFirstLines, AnswersFront}
+use Rattle.ing_lanes.specs.Runs.{AnswersAll, AnswersWhatWasRead, AnswersFirstLines, AnswersFront}
 use Rattle.ing_program.proofs.StartingLaws.{give_begun, known_memory, known_over}
 use Rattle.ing_program.proofs.program.start.Goals as goal
 

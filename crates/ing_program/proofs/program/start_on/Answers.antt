@@ -1,8 +1,8 @@
 use Rattle.std.proofs.Common.{◌≡◌, ◌∙◌, Ok, ap, inl, inr}
 use Rattle.std.proofs.lemmas.Result.{on_ok_weaker}
 use Rattle.ing_limits.specs.Settings.{StoreSettings}
-use Rattle.ing_session.specs.Runs.{AnswersAll, AnswersWhatWasRead, AnswersFirstLines, AnswersFront}
-use Rattle.ing_session.proofs.KnownLaws.{if_some_then}
+use Rattle.ing_lanes.specs.Runs.{AnswersAll, AnswersWhatWasRead, AnswersFirstLines, AnswersFront}
+use Rattle.ing_lanes.proofs.KnownLaws.{if_some_then}
 use Rattle.ing_service.specs.Ends.{failures_in}
 use Rattle.ing_program.specs.Starting.{manner_of, started_by}
 use Rattle.ing_program.proofs.StartingLaws.{at_zero, none_failed}

@@ -4,16 +4,15 @@ use Rattle.ing_labels.specs.Labels.{labels_of, texts}
 use Rattle.ing_limits.specs.Ranges.{rules_for}
 use Rattle.ing_commands.specs.Views.{label_view, stream_view}
 use Rattle.ing_session.specs.Faults.{limits_of}
-use Rattle.ing_node.specs.Tallies.{amount_at}
 use Rattle.ing_node.specs.Diaries.{PusherState}
 use Rattle.ing_node.specs.Pushes.{IsPushRefusal}
 use Rattle.ing_lanes.specs.ByLane.{place_of}
 use Rattle.ing_session.specs.Views.{stream_data}
 use Rattle.ing_node.specs.NodeFault.TheVariants as node
-use Rattle.ing_lanes.specs.ByLane.{PushesAs, told_by}
+use Rattle.ing_lanes.specs.ByLane.{PushesAs, told_as, told_by}
 use Rattle.ing_lanes.proofs.HeldLaws.{rises_none, rises_same}
 use Rattle.ing_lanes.specs.Drafts.{lasts_at}
-use Rattle.ing_lanes.proofs.LedgerLaws.{amount_same, amounts_rise}
+use Rattle.ing_lanes.proofs.LedgerLaws.{amount_same, none_weighs, notes_weigh, told_rises}
 use Rattle.ing_lanes.proofs.lane.Lane.draft_stream.Goals as goal
 
 -- the entries are judged
@@ -36,6 +35,8 @@ returns-in-Ok-push_unsynced-clause-pushed g c = λ lasting may.
       raised = record {
         here = pushed.told;
         others = λ i other. amount_same c.args.self.now.pusher.told c.push_unsynced.new.self.told i (pushed.others i other);
+        which = λ wants weight. notes_weigh c.args.self.now.pusher.diary c.push_unsynced.new.self.diary _ weight (c.args.self.now.diary ∙ wants) pushed.noted;
+        unsaid = λ none weight. none_weighs c.args.self.now.pusher.diary c.push_unsynced.new.self.diary _ weight (c.args.self.now.diary ∙ none) pushed.noted;
       };
     }))
 
@@ -68,13 +69,14 @@ returns-clause-pushed g c = λ lasting may.
       may_be = subst (λ n. IsPushRefusal rules n (place_of settings c.args.tenant.now c.in-Ok.labels) fault) c.args.stream.entries.ok.0 refused.refused;
       no_memory = other;
       told = c.in_ok-stream_fault-in-Err-push_unsynced.ensures.reply;
-      left = λ i. ap (λ (p : PusherState). amount_at i p.told) refused.err;
+      left = λ measure. ap (λ (p : PusherState). told_as p measure) refused.err;
     }))
 
 -- ---- what was told
 
 pub returns-in-Ok-push_unsynced-clause-rises : goal.returns-in-Ok-push_unsynced-clause-rises
-returns-in-Ok-push_unsynced-clause-rises g c = amounts_rise c.args.self.now.pusher.told c.push_unsynced.new.self.told _ _ c.in-Ok-push_unsynced.ensures.told c.in-Ok-push_unsynced.ensures.others
+returns-in-Ok-push_unsynced-clause-rises g c =
+    told_rises c.args.self.now.pusher c.push_unsynced.new.self _ _ _ c.in-Ok-push_unsynced.ensures.told c.in-Ok-push_unsynced.ensures.others c.in-Ok-push_unsynced.ensures.noted
 
 pub returns-in-Err-clause-rises : goal.returns-in-Err-clause-rises
 returns-in-Err-clause-rises g c = rises_none (told_by c.args.self.now.pusher)

@@ -2,7 +2,7 @@ use Rattle.std.proofs.Common.{◌≤◌, refl, subst, sym, ◌∙◌}
 use Rattle.std.proofs.lemmas.Result.{IfOk-weaker}
 use Rattle.ing_node.specs.declared.query.Answer.{Answer}
 use Rattle.ing_session.proofs.CausesLaws.{same_count}
-use Rattle.ing_lanes.specs.ByLane.{Given, Failed}
+use Rattle.ing_lanes.specs.ByLane.{Entries, Given, Failed}
 use Rattle.ing_lanes.proofs.LedgerLaws.{failed_causes}
 use Rattle.ing_lanes.proofs.lane.Lane.find.Goals as goal
 
@@ -22,7 +22,7 @@ returns-in-Ok-clause-came g c = λ spelt usable told same.
         once = said.once;
         all = sym answer.fronts.ok.0 ∙ said.fronts.0;
         wanted = λ honest. said.found honest;
-        no_less = λ i front at. subst (λ n. n ≤ front) (sym (same i)) (said.fronts.1 i front at);
+        no_less = λ i front at. subst (λ n. n ≤ front) (sym (same (Entries i))) (said.fronts.1 i front at);
       };
       told = refl;
       causes = same_count _ _ said.count;
