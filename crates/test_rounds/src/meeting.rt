@@ -1,20 +1,23 @@
-//! Two flushers whose first puts overlap, and a push that is answered meanwhile: an upload holds no lock. Then all are given up, and the
-//! close misses them.
-ghost use Rattle.std.specs.Prelude.{◌≡◌, ◌<◌, IfOk, length, reverse, true};
-ghost use Rattle.ing_flush.specs.Tallies.{AreStoredIn};
+//! Two flushers of one queue whose first puts overlap, and a push that is answered meanwhile: an upload holds no lock, and a round has a
+//! thread for each flusher. Then the ingester is closed: without who pushed and flushed, with a ticket out, and with all there.
+ghost use Rattle.std.specs.Prelude.{◌≡◌, ◌+◌, ◌<◌, ◌≤◌, All, IfErr, IfOk, IfSome, OnOk, length, reverse, true, vec_capacity, vec_len};
 ghost use Rattle.ing_node.specs.Earlier.{earlier_of};
-ghost use Rattle.ing_node.specs.Names.{AreNamed};
+ghost use Rattle.ing_node.specs.Names.{AreNamed, IsTallyOf};
 
-use ing_flush::{Flushed, Flusher, Gate, flush_one};
+use ing_flush::{Door, FlusherTally, Gate, Worker};
 use ing_labels::{LabelLimits, Labels};
 use ing_limits::Settings;
-use ing_node::{CloseFault, CloseRefusal, Earlier, Ingester, NodeName, Pusher, Shards};
+use ing_node::{
+    CloseFault, CloseRefusal, Closed, Earlier, Flushing, Ingester, NodeName, Pusher, Shards,
+    Sweeper,
+};
 use ing_rows::{Entry, Line, Stamp, Tenant};
-use ing_shard::{Missing, Op};
+use ing_shard::{Missing, Op, Ticket};
 use ing_store::{Fuse, MemoryEnd, MemoryReceipt, MemoryStore, Receipt, StoreEnd};
 use ing_wal::NoLog;
 use std::alloc::Global;
-use std::marker::{Brand, PhantomData};
+use std::marker::Brand;
+use std::process::Abort;
 use std::sync::Wait;
 use std::sync::atomic::{AtomicU64, Ordering};
 use std::test::Fail;
@@ -67,279 +70,349 @@ impl<'a, W: Clock> Gate for MeetingGate<'a, W> {
     }
 }
 
-/// A flusher with one operation.
-struct Uploader<N: NodeName, S: StoreEnd, G: Gate> {
-    flusher: Flusher<S, G>,
-    op: Op,
-    is_stored: bool,
-    of: PhantomData<N>,
-    ghost shard: { op.shard < N.settings.shards },
-    ghost full: { length flusher.tally ≡ N.settings.shards },
-    ghost own: { AreStoredIn N.books flusher.tally },
+/// Where they meet, what they write to, and whose streams they push to.
+#[derive(Clone, Copy)]
+struct Scene<'a> {
+    meeting: &'a Meeting,
+    store: &'a MemoryStore,
+    tenant: &'a Tenant,
+    streams: &'a [Labels; 2],
 }
 
-impl<N: NodeName, R: Receipt, S: StoreEnd<Receipt = R>, G: Gate> Uploader<N, S, G> {
-    fn upload<W: Wait>(&mut self, rt: &W, alloc: Global, node: &Ingester<N, NoLog, R>) {
-        let flushed = flush_one(rt, alloc, node, &mut self.flusher, &self.op);
-        self.is_stored = matches!(flushed, Flushed::Stored(_));
+/// Pushes an entry of this nanosecond to a stream.
+fn push<N: NodeName, R: Receipt, W: Wait + Abort>(
+    rt: &W,
+    alloc: Global,
+    node: &Ingester<N, NoLog, R>,
+    pusher: &mut Pusher<N>,
+    tenant: &Tenant,
+    labels: &Labels,
+    nanoseconds: u64,
+) {
+    let stamp = Stamp::of_nanoseconds(nanoseconds).expect(rt, "a stamp");
+    let line = Line::of_text(alloc, "x").expect(rt, "a line");
+    let entries = vec![in alloc; Entry { stamp, line }].expect(rt, "memory");
+    if labels.name().len() >= 1 << 32 {
+        panic!(rt; "a long name");
     }
+    let pushed = pusher.push(rt, alloc, node, tenant, labels, entries, stamp);
+    assert!(rt; pushed.is_ok());
 }
 
-/// Who pushes once both flushers stand before their first put.
-struct Presser<N: NodeName> {
-    pusher: Pusher<N>,
-    is_answered: bool,
+/// A flush queue, and two flushers of it. It cannot be dropped.
+struct Crew<N: NodeName, S: StoreEnd, G: Gate> {
+    flushing: Flushing<N>,
+    workers: Vec<Worker<S, G>>,
+    ghost queue: { All (λ worker. worker.pass.queue ≡ flushing.queue.name) workers.items },
+    ghost own: { All (λ worker. IsTallyOf N.settings.shards N.books worker.flusher.tally) workers.items },
 }
 
-impl<N: NodeName> Presser<N> {
-    /// Pushes an entry of this nanosecond to a stream of a tenant. `None` where it is refused.
-    fn push<R: Receipt, W: Wait>(
-        &mut self,
-        rt: &W,
-        alloc: Global,
-        node: &Ingester<N, NoLog, R>,
-        tenant: &Tenant,
-        labels: &Labels,
-        nanoseconds: u64,
-    ) -> Option<()> {
-        let stamp = Stamp::of_nanoseconds(nanoseconds)?;
-        let line = Line::of_text(alloc, "x").ok()?;
-        let entries = vec![in alloc; Entry { stamp, line }].ok()?;
-        if labels.name().len() >= 1 << 32 {
-            return None;
+/// Two flushers of an ingester, by good ends of a store, each of which waits for the push before its first put.
+fn crew_of<'a, N: NodeName, W: Wait + Clock + Abort>(
+    rt: &'a W,
+    alloc: Global,
+    flushing: Flushing<N>,
+    sweeper: &mut Sweeper,
+    node: &Ingester<N, NoLog, MemoryReceipt<'a>>,
+    scene: Scene<'a>,
+) -> Crew<N, MemoryEnd<'a, W>, MeetingGate<'a, W>>
+    requires { sweeper.old.pass.queue ≡ flushing.queue.name }
+    ensures { sweeper.new.pass.queue ≡ result.flushing.queue.name }
+{
+    let mut workers = Vec::with_capacity(alloc, 2).expect(rt, "memory");
+    while workers.len() < 2 {
+        let gate = MeetingGate {
+            rt,
+            meeting: scene.meeting,
+            met: None,
+        };
+        let end = scene.store.end(rt, Fuse::None);
+        match flushing.flusher(rt, alloc, node, sweeper, end, gate) {
+            Ok(worker) => workers.push_reserved(worker),
+            Err(_) => panic!(rt; "no flusher"),
         }
-        self.pusher
-            .push(rt, alloc, node, tenant, labels, entries, stamp)
-            .ok()?;
-        Some(())
     }
+    Crew { flushing, workers }
 }
 
 /// Who is in a thread of its own.
 enum Actor<N: NodeName, S: StoreEnd, G: Gate> {
-    Uploads(Uploader<N, S, G>),
-    Presses(Presser<N>),
+    /// Flushers, for one round.
+    Flushes(Crew<N, S, G>),
+    /// Who pushes once both flushers stand before their first put, and whether that was answered while they stood there.
+    Presses(Pusher<N>, bool),
 }
 
-/// Lets all act at once. The pusher pushes to this stream.
+/// Lets all act at once.
 fn act_all<N, R, S, G, W>(
     rt: &W,
     alloc: Global,
     node: &Ingester<N, NoLog, R>,
     actors: &mut [Actor<N, S, G>],
-    meeting: &Meeting,
-    tenant: &Tenant,
-    labels: &Labels,
+    scene: Scene<'_>,
 )
 where
     N: NodeName + Send + Sync,
     R: Receipt + Send + Sync,
     S: StoreEnd<Receipt = R> + Send,
     G: Gate + Send,
-    W: Threads + Wait + Sync + Clock,
+    W: Threads + Wait + Sync + Clock + Abort,
 {
     let work = |_: usize, actor: &mut Actor<N, S, G>| match actor {
-        Actor::Uploads(uploader) => uploader.upload(rt, alloc, node),
-        Actor::Presses(presser) => {
-            let both = wait_for(rt, &meeting.at_put, 2);
-            let pushed = presser.push(rt, alloc, node, tenant, labels, 2);
-            presser.is_answered = both && pushed.is_some();
-            meeting.pushed.fetch_add(1, Ordering::SeqCst);
+        Actor::Flushes(crew) => {
+            let round = crew
+                .flushing
+                .flush_round(rt, alloc, node, crew.workers.as_mut_slice());
+            assert_eq!(rt; (round.stored, round.failed, round.other), (2, 0, 0));
+        }
+        Actor::Presses(pusher, is_answered) => {
+            let both = wait_for(rt, &scene.meeting.at_put, 2);
+            push(rt, alloc, node, pusher, scene.tenant, &scene.streams[0], 2);
+            scene.meeting.pushed.fetch_add(1, Ordering::SeqCst);
+            *is_answered = both;
         }
     };
     for_each_mut(rt, actors, actors.len().max(1), &work);
 }
 
-/// A flusher for this operation, by a good end of a store, which waits for the push before its first put.
-fn uploader_for<'a, N: NodeName, W: Wait + Clock>(
-    rt: &'a W,
-    alloc: Global,
-    node: &Ingester<N, NoLog, MemoryReceipt<'a>>,
-    store: &'a MemoryStore,
-    meeting: &'a Meeting,
-    op: Op,
-) -> Option<Uploader<N, MemoryEnd<'a, W>, MeetingGate<'a, W>>>
-    requires { op.shard < N.settings.shards }
-{
-    let tally = node.tally(rt, alloc).ok()?;
-    let gate = MeetingGate {
-        rt,
-        meeting,
-        met: None,
-    };
-    Some(Uploader {
-        flusher: Flusher::new(store.end(rt, Fuse::None), gate, tally),
-        op,
-        is_stored: false,
-        of: PhantomData,
-    })
+/// Who pushed, and what was flushed: with how many of the three have met. A flusher has before whose first put the push was answered, and
+/// who pushed where both flushers stood there.
+struct Parts<N: NodeName> {
+    pushers: Vec<Pusher<N>>,
+    tallies: Vec<FlusherTally>,
+    met: u32,
+    ghost own: { All (IsTallyOf N.settings.shards N.books) tallies.items },
 }
 
-/// Seals what is pushed, and adds a flusher for each operation.
-fn add_uploaders<'a, N: NodeName, W: Wait + Clock>(
-    rt: &'a W,
+/// The parts of all actors, beside a pusher.
+fn parts_of<'a, N: NodeName, W: Wait + Clock + Abort>(
+    rt: &W,
     alloc: Global,
-    node: &Ingester<N, NoLog, MemoryReceipt<'a>>,
-    shards: u32,
-    store: &'a MemoryStore,
-    meeting: &'a Meeting,
-    actors: &mut Vec<Actor<N, MemoryEnd<'a, W>, MeetingGate<'a, W>>>,
-) -> Option<()>
-    requires { shards ≡ N.settings.shards }
-{
-    if shards == 0 {
-        return None;
-    }
-    let due = node.seal_all(rt, alloc, 0).ok()?;
-    for op in &due.ops {
-        if op.shard >= shards {
-            return None;
-        }
-        actors.reserve(1).ok()?;
-        actors.push_reserved(Actor::Uploads(uploader_for(rt, alloc, node, store, meeting, *op)?));
-    }
-    Some(())
-}
-
-/// Gives the shares of all up. Says how many have met the others: flushers whose chunk is stored and before whose first put the push
-/// was answered, and the pusher whose push was answered while they stood there.
-fn count_met<'a, N: NodeName, W: Wait + Clock>(
+    first: Pusher<N>,
     mut actors: Vec<Actor<N, MemoryEnd<'a, W>, MeetingGate<'a, W>>>,
-) -> usize {
-    let mut met = 0usize;
+) -> Parts<N> {
+    let mut pushers = Vec::with_capacity(alloc, 1).expect(rt, "memory");
+    pushers.push_reserved(first);
+    let mut tallies = Vec::new(alloc);
+    let mut met = 0u32;
     while let Some(actor) = actors.pop() {
-        let has_met = match actor {
-            Actor::Uploads(
-                Uploader {
-                    flusher,
-                    op: _,
-                    is_stored,
-                    of: _,
+        match actor {
+            Actor::Flushes(
+                Crew {
+                    flushing: _,
+                    workers,
                 },
             ) => {
-                let (_, gate, tally) = flusher.into_parts();
-                tally.strand();
-                is_stored && gate.met == Some(true)
+                met = met.saturating_add(let_go::<N, W>(rt, workers, &mut tallies));
             }
-            Actor::Presses(
-                Presser {
-                    pusher,
-                    is_answered,
-                },
-            ) => {
-                pusher.strand();
-                is_answered
+            Actor::Presses(pusher, is_answered) => {
+                pushers.reserve(1).expect(rt, "memory");
+                pushers.push_reserved(pusher);
+                met = met.saturating_add(u32::from(is_answered));
             }
-        };
-        met = met.saturating_add(usize::from(has_met));
+        }
     }
     actors.destroy_empty();
+    Parts {
+        pushers,
+        tallies,
+        met,
+    }
+}
+
+/// Takes the tallies of flushers, and says before how many of their first puts the push was answered.
+fn let_go<'a, N: NodeName, W: Wait + Clock + Abort>(
+    rt: &W,
+    mut workers: Vec<Worker<MemoryEnd<'a, W>, MeetingGate<'a, W>>>,
+    tallies: &mut Vec<FlusherTally>,
+) -> u32
+    requires given { All (λ worker. IsTallyOf N.settings.shards N.books worker.flusher.tally) workers.items }
+    requires own { All (IsTallyOf N.settings.shards N.books) tallies.old.items }
+    ensures own { All (IsTallyOf N.settings.shards N.books) tallies.new.items }
+{
+    let mut met = 0u32;
+    while let Some(worker) = workers.pop() {
+        let (flusher, _) = worker.into_parts();
+        let (_, gate, tally) = flusher.into_parts();
+        tallies.reserve(1).expect(rt, "memory");
+        tallies.push_reserved(tally);
+        met = met.saturating_add(u32::from(gate.met == Some(true)));
+    }
+    workers.destroy_empty();
     met
 }
 
-/// Why an ingester is not closed without pushers and tallies; `None` where it is.
-fn refused_close<N: NodeName, R: Receipt, S: StoreEnd<Receipt = R>>(
+/// Who keeps a diary.
+fn pusher_of<N: NodeName, R: Receipt, W: Wait + Abort>(
+    rt: &W,
+    alloc: Global,
+    node: &Ingester<N, NoLog, R>,
+) -> Pusher<N> {
+    match node.pusher(rt, alloc, true) {
+        Ok(pusher) => pusher,
+        Err(_) => panic!(rt; "no pusher"),
+    }
+}
+
+/// Two push, two flush, and one of the pushers does while the flushers stand before their first put. With diaries.
+fn acted<'a, N: NodeName + Send + Sync, W: Threads + Wait + Sync + Clock + Abort>(
+    rt: &'a W,
+    alloc: Global,
+    settings: &Settings,
+    node: &Ingester<N, NoLog, MemoryReceipt<'a>>,
+    scene: Scene<'a>,
+) -> Parts<N>
+    requires { settings.now ≡ N.settings }
+{
+    let mut first = pusher_of(rt, alloc, node);
+    let second = pusher_of(rt, alloc, node);
+    for labels in scene.streams {
+        push(rt, alloc, node, &mut first, scene.tenant, labels, 1);
+    }
+    let (flushing, mut sweeper) = Flushing::open(alloc, settings).expect(rt, "memory");
+    let crew = crew_of(rt, alloc, flushing, &mut sweeper, node, scene);
+    let Ok(swept) = crew.flushing.seal_round(rt, alloc, node, &mut sweeper) else {
+        panic!(rt; "not sealed");
+    };
+    assert_eq!(rt; swept.queued, 2);
+    let mut actors = Vec::with_capacity(alloc, 2).expect(rt, "memory");
+    actors.push_reserved(Actor::Flushes(crew));
+    actors.push_reserved(Actor::Presses(second, false));
+    act_all(rt, alloc, node, actors.as_mut_slice(), scene);
+    parts_of(rt, alloc, first, actors)
+}
+
+/// A ticket for the chunk of the stream that was pushed to last.
+fn claimed<N: NodeName, R: Receipt, W: Wait + Abort>(
+    rt: &W,
+    alloc: Global,
+    node: &Ingester<N, NoLog, R>,
+) -> Ticket
+    requires some { 0 < N.settings.shards }
+    ensures shard { result.claimed.shard < N.settings.shards }
+    ensures share { result.share.book ≡ (N.books result.claimed.shard).flight }
+{
+    let due = node.seal_all(rt, alloc, 0);
+    let Ok(due) = due else {
+        panic!(rt; "not sealed");
+    };
+    let [op] = due.ops.as_slice() else {
+        panic!(rt; "one chunk waits");
+    };
+    assert_eq!(rt; op.shard, 0);
+    match node.claim(rt, alloc, *op) {
+        Ok(Some(ticket)) => ticket,
+        _ => panic!(rt; "not claimed"),
+    }
+}
+
+/// Looks whether a close was refused since so many shares are missing: of the accepted, those in flight, and the stored entries.
+fn still_out<A: Abort>(rt: &A, why: &CloseRefusal, accepted: u64, flight: u64, stored: u64) {
+    let missing = Missing {
+        accepted,
+        flight,
+        stored,
+    };
+    assert!(rt; *why == CloseRefusal::StillOut(missing));
+}
+
+/// How many entries of one shard were accepted, stored and kept.
+fn told_of<R: Receipt, A: Abort>(rt: &A, closed: &Closed<R>) -> (u64, u64, u64) {
+    match closed.report.shards.as_slice() {
+        [shard] => (shard.accepted, shard.stored, shard.kept),
+        _ => panic!(rt; "one shard"),
+    }
+}
+
+/// Closes an ingester of one shard: first without its parts and with a ticket out, then with the ticket out, then with all. Says how many
+/// entries were accepted, stored and kept.
+fn closed_at_last<N: NodeName, R: Receipt, S: StoreEnd<Receipt = R>, W: Wait + Abort>(
+    rt: &W,
     alloc: Global,
     node: Ingester<N, NoLog, R>,
     end: &mut S,
     earlier: Earlier<N>,
-) -> Option<CloseRefusal> {
-    match node.close(alloc, end, earlier, Vec::new(alloc), Vec::new(alloc)) {
-        Ok(_) => None,
-        Err(fault) => {
-            let CloseFault {
-                why,
-                ingester,
-                earlier,
-                pushers,
-                tallies,
-            } = fault;
-            ingester.abandon(earlier, pushers, tallies);
-            Some(why)
-        }
+    parts: Parts<N>,
+) -> (u64, u64, u64)
+    requires some { 0 < N.settings.shards }
+{
+    let Parts {
+        pushers,
+        tallies,
+        met: _,
+    } = parts;
+    let ticket = claimed(rt, alloc, &node);
+    let closed = node.close(alloc, end, earlier, Vec::new(alloc), Vec::new(alloc));
+    let Err(fault) = closed else {
+        panic!(rt; "closed without all");
+    };
+    still_out(rt, &fault.why, 2, 1, 2);
+    let CloseFault {
+        why: _,
+        ingester,
+        earlier,
+        pushers: none,
+        tallies: nothing,
+    } = fault;
+    none.destroy_empty();
+    nothing.destroy_empty();
+    let Err(fault) = ingester.close(alloc, end, earlier, pushers, tallies) else {
+        panic!(rt; "closed with a ticket out");
+    };
+    still_out(rt, &fault.why, 0, 1, 0);
+    let CloseFault {
+        why: _,
+        ingester,
+        earlier,
+        pushers,
+        tallies,
+    } = fault;
+    assert!(rt; ingester.give_back(rt, ticket).is_ok());
+    match ingester.close(alloc, end, earlier, pushers, tallies) {
+        Ok(closed) => told_of(rt, &closed),
+        Err(_) => panic!(rt; "not closed"),
     }
 }
 
-/// Pushes to both streams, seals, and lets a flusher for each and the pusher meet. Gives how many of the three have, and why the close
-/// without them is refused; `None` where they could not.
-fn meet<'a, N: NodeName + Send + Sync, W: Threads + Wait + Sync + Clock>(
+/// While two flushers of a round stand before their first put, each with a chunk of the one shard, a push to it is answered. The close
+/// misses each share that is out, and no other; with all there, it finds what both pushers have noted.
+fn meet<'a, N: NodeName + Send + Sync, W: Threads + Wait + Sync + Clock + Abort>(
     rt: &'a W,
     alloc: Global,
     shards: Shards<NoLog, MemoryReceipt<'a>>,
     store: &'a MemoryStore,
     meeting: &'a Meeting,
-    tenant: &Tenant,
-    streams: &[Labels; 2],
-) -> Option<(usize, Option<CloseRefusal>)>
+    tenant: &'a Tenant,
+    streams: &'a [Labels; 2],
+)
     requires settings { shards.settings ≡ N.settings }
     requires named { AreNamed N.books (reverse shards.last_first.items) }
     requires earlier { N.earlier ≡ earlier_of (reverse shards.last_first.items) }
     requires logs { N.has_logs ≡ true }
+    requires some { 0 < N.settings.shards }
 {
-    let count = shards.settings().shards();
+    let scene = Scene {
+        meeting,
+        store,
+        tenant,
+        streams,
+    };
+    let settings = shards.settings().try_clone().expect(rt, "memory");
     let (node, earlier): (Ingester<N, NoLog, MemoryReceipt<'a>>, Earlier<N>) = match Ingester::open(
         alloc, shards,
     ) {
         Ok(opened) => opened,
-        Err(shards) => {
-            shards.abandon();
-            return None;
-        }
+        Err(_) => panic!(rt; "memory"),
     };
-    let Some(actors) = act_on(rt, alloc, &node, count, store, meeting, tenant, streams) else {
-        earlier.strand();
-        return None;
-    };
-    let met = count_met(actors);
-    Some((
-        met,
-        refused_close(alloc, node, &mut store.end(rt, Fuse::None), earlier),
-    ))
+    let parts = acted(rt, alloc, &settings, &node, scene);
+    assert_eq!(rt; parts.met, 3);
+    let mut end = store.end(rt, Fuse::None);
+    assert_eq!(rt;
+        closed_at_last(rt, alloc, node, &mut end, earlier, parts),
+        (3, 2, 1)
+    );
 }
 
-/// The three, when they have acted.
-fn act_on<'a, N: NodeName + Send + Sync, W: Threads + Wait + Sync + Clock>(
-    rt: &'a W,
-    alloc: Global,
-    node: &Ingester<N, NoLog, MemoryReceipt<'a>>,
-    shards: u32,
-    store: &'a MemoryStore,
-    meeting: &'a Meeting,
-    tenant: &Tenant,
-    streams: &[Labels; 2],
-) -> Option<Vec<Actor<N, MemoryEnd<'a, W>, MeetingGate<'a, W>>>>
-    requires { shards ≡ N.settings.shards }
-{
-    let mut actors = Vec::with_capacity(alloc, 1).ok()?;
-    let Ok(pusher) = node.pusher(rt, alloc, false) else {
-        actors.destroy_empty();
-        return None;
-    };
-    let mut presser = Presser {
-        pusher,
-        is_answered: false,
-    };
-    let [first, second] = streams;
-    let pushed = presser.push(rt, alloc, node, tenant, first, 1).is_some()
-        && presser.push(rt, alloc, node, tenant, second, 1).is_some();
-    actors.push_reserved(Actor::Presses(presser));
-    let added = add_uploaders(rt, alloc, node, shards, store, meeting, &mut actors);
-    if pushed && added.is_some() {
-        act_all(
-            rt,
-            alloc,
-            node,
-            actors.as_mut_slice(),
-            meeting,
-            tenant,
-            first,
-        );
-    }
-    Some(actors)
-}
-
-/// While two flushers stand before their first put, each with a chunk of the one shard, a push to it is answered. A close without their
-/// shares and the pusher's is refused, and names them.
 #[test]
 fn uploads_hold_no_lock(rt: HostRuntime) -> Result<(), Fail> {
     let alloc = rt.alloc();
@@ -353,7 +426,7 @@ fn uploads_hold_no_lock(rt: HostRuntime) -> Result<(), Fail> {
         pushed: AtomicU64::new(0),
     };
     let store = MemoryStore::new(alloc)?;
-    let settings = Settings::from_toml(alloc, "")?;
+    let settings = Settings::from_toml(alloc, "diaries = true\n")?;
     let logs = vec![in alloc; NoLog::new()]?;
     if settings.shards() as usize != logs.len() {
         return Err("one shard".into());
@@ -361,12 +434,6 @@ fn uploads_hold_no_lock(rt: HostRuntime) -> Result<(), Fail> {
     let Ok(shards) = Shards::fresh(alloc, settings, logs) else {
         return Err("memory".into());
     };
-    let met = meet::<Brand, HostRuntime>(&rt, alloc, shards, &store, &meeting, &tenant, &streams);
-    let missing = Missing {
-        accepted: 1,
-        flight: 0,
-        stored: 2,
-    };
-    assert_eq!(rt; met, Some((3, Some(CloseRefusal::StillOut(missing)))));
+    meet::<Brand, HostRuntime>(&rt, alloc, shards, &store, &meeting, &tenant, &streams);
     Ok(())
 }
