@@ -19,4 +19,4 @@ pub use noting::Draft;
 pub use settling::settle;
 
 // What its callers meet of the crates below.
-pub use ing_query::{QueryFault, run_query};
+pub use ing_query::{Found, QueryFault, Question, Snapshot, rows_stand, run_query, standing_joins};

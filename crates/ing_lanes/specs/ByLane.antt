@@ -17,9 +17,9 @@ use Rattle.ing_rows.specs.Placement.{shard_of}
 use Rattle.ing_rows.specs.Turns.{accepted_among}
 use Rattle.ing_limits.specs.Settings.{StoreSettings}
 use Rattle.ing_limits.specs.Ranges.{rules_for}
-use Rattle.ing_parts.specs.declared.found.Found.{Found}
-use Rattle.ing_parts.specs.Answers.{StandApart, precedes}
-use Rattle.ing_parts.specs.Parts.{is_within}
+use Rattle.ing_node.specs.Found.{Found}
+use Rattle.ing_node.specs.PartAnswers.{StandApart, precedes}
+use Rattle.ing_node.specs.Parts.{is_within}
 use Rattle.ing_session.specs.QueryFault.TheVariants as queries
 use Rattle.ing_node.specs.Contents.{stream_of}
 use Rattle.ing_tally.specs.declared.counts.Counts.{Counts}
@@ -33,7 +33,7 @@ use Rattle.ing_node.specs.NodeFaults.{refusal_of}
 use Rattle.ing_node.specs.Boards.{IsNoLess, no_counts}
 use Rattle.ing_node.specs.Pushes.{AreJudged, IsPushRefusal}
 use Rattle.ing_node.specs.Queries.{AreAnswerOf, AreSelected}
-use Rattle.ing_parts.specs.declared.found.Question.{Question}
+use Rattle.ing_node.specs.Question.{Question}
 use Rattle.ing_node.specs.Diaries.{PusherState, notes_kept}
 use Rattle.ing_node.specs.Notes.{Note, noted}
 use Rattle.ing_commands.specs.Commands as commands

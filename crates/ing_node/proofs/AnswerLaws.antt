@@ -8,11 +8,11 @@ use Rattle.std.proofs.lemmas.List.Sorted.{IsPermutation-refl, IsPermutation-appe
 use Rattle.ing_labels.specs.Selectors.{Match}
 use Rattle.ing_rows.specs.Rows.{Row, StreamKey}
 use Rattle.ing_rows.specs.declared.order.Order.{Order}
-use Rattle.ing_parts.specs.declared.found.Found.{Found}
-use Rattle.ing_parts.specs.declared.found.Question.{Question}
-use Rattle.ing_parts.specs.declared.snapshot.Snapshot.{Snapshot}
-use Rattle.ing_parts.specs.Answers.{StandFor}
-use Rattle.ing_parts.specs.Parts.{found_at, wanted, within}
+use Rattle.ing_diary.specs.Found.{Found}
+use Rattle.ing_diary.specs.Question.{Question}
+use Rattle.ing_diary.specs.Snapshot.{Snapshot}
+use Rattle.ing_diary.specs.PartAnswers.{StandFor}
+use Rattle.ing_diary.specs.Parts.{found_at, wanted, within}
 use Rattle.ing_diary.specs.Answers.{wanted_in}
 use Rattle.ing_begun.specs.Picked.{Picks}
 use Rattle.ing_node.specs.Queries.{IsAskedOf, wanted_of}

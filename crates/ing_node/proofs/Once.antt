@@ -5,10 +5,10 @@ use Rattle.std.proofs.lemmas.Bool.Decides.{nat_tests}
 use Rattle.std.proofs.lemmas.Grind.{flat_map-append}
 use Rattle.std.proofs.lemmas.List.Elements.{All-append, All-head, All-tail, All-weaker, filter-append}
 use Rattle.std.proofs.lemmas.Slice.Eq.{bytes_eq-Decides}
-use Rattle.ing_parts.specs.declared.found.Found.{Found}
-use Rattle.ing_parts.specs.declared.snapshot.Snapshot.{Snapshot}
-use Rattle.ing_parts.specs.Answers.{StandApart, is_at}
-use Rattle.ing_parts.specs.Parts.{standing}
+use Rattle.ing_diary.specs.Found.{Found}
+use Rattle.ing_diary.specs.Snapshot.{Snapshot}
+use Rattle.ing_diary.specs.PartAnswers.{StandApart, is_at}
+use Rattle.ing_diary.specs.Parts.{standing}
 use Rattle.ing_diary.specs.Answers.{standing_in}
 use Rattle.ing_rows.specs.Placement.{shard_of}
 use Rattle.ing_node.specs.Queries.{AreBelow}

@@ -6,11 +6,11 @@ use Rattle.std.proofs.lemmas.List.Elements.{All-nil, All-cons, All-head, All-tai
 use Rattle.std.proofs.lemmas.List.Sorted.{All-permutation, IsPermutation-sym}
 use Rattle.std.proofs.lemmas.Slice.Eq.{bytes_eq-Decides}
 use Rattle.ing_labels.specs.Selectors.{Match, selects}
-use Rattle.ing_parts.specs.declared.found.Found.{Found}
-use Rattle.ing_parts.specs.declared.found.Question.{Question}
-use Rattle.ing_parts.specs.declared.snapshot.Snapshot.{Snapshot}
-use Rattle.ing_parts.specs.Answers.{AreSomeOf}
-use Rattle.ing_parts.specs.Parts.{HasRows, KeepsInRange, found_at, is_within, standing}
+use Rattle.ing_diary.specs.Found.{Found}
+use Rattle.ing_diary.specs.Question.{Question}
+use Rattle.ing_diary.specs.Snapshot.{Snapshot}
+use Rattle.ing_diary.specs.PartAnswers.{AreSomeOf}
+use Rattle.ing_diary.specs.Parts.{HasRows, KeepsInRange, found_at, is_within, standing}
 use Rattle.ing_diary.specs.Gathered.{IsOf}
 use Rattle.ing_rows.specs.Rows.{Row, StreamKey}
 use Rattle.ing_begun.specs.Picked.{Picks}

@@ -11,8 +11,12 @@ pub mod Diaries
 pub mod Earlier
 pub mod Waiting
 -- what its clauses speak of in the crates below
+pub use Rattle.ing_diary.specs.Found
 pub use Rattle.ing_diary.specs.Fronts
 pub use Rattle.ing_diary.specs.Notes
+pub use Rattle.ing_diary.specs.PartAnswers
+pub use Rattle.ing_diary.specs.Parts
+pub use Rattle.ing_diary.specs.Question
 pub use Rattle.ing_diary.specs.declared.fault.Mismatch
 pub use Rattle.ing_diary.specs.declared.fault.Unsettled
 pub use Rattle.ing_begun.specs.Begun

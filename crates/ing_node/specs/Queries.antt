@@ -2,11 +2,11 @@
 use Rattle.std.specs.Prelude.{◌≡◌, ◌<◌, ◌≤◌, ℕ, Bool, true, List, All, Some, filter, length, map, slice_get}
 use Rattle.std.specs.List.{flat_map}
 use Rattle.ing_labels.specs.Selectors.{Match}
-use Rattle.ing_parts.specs.declared.found.Found.{Found}
-use Rattle.ing_parts.specs.declared.found.Question.{Question}
-use Rattle.ing_parts.specs.declared.snapshot.Snapshot.{Snapshot}
-use Rattle.ing_parts.specs.Answers.{IsAnswer}
-use Rattle.ing_parts.specs.Parts.{HasRows, KeepsInRange, found_at, standing, within}
+use Rattle.ing_diary.specs.Found.{Found}
+use Rattle.ing_diary.specs.Question.{Question}
+use Rattle.ing_diary.specs.Snapshot.{Snapshot}
+use Rattle.ing_diary.specs.PartAnswers.{IsAnswer}
+use Rattle.ing_diary.specs.Parts.{HasRows, KeepsInRange, found_at, standing, within}
 use Rattle.ing_rows.specs.Gauges.{gauges_of}
 use Rattle.ing_rows.specs.Placement.{shard_of}
 use Rattle.ing_rows.specs.Rows.{Row, StreamKey}

@@ -8,3 +8,6 @@ mod query;
 pub use fault::QueryFault;
 pub use part_reading::read_part;
 pub use query::run_query;
+
+// What its callers meet of the crates below.
+pub use ing_parts::{Found, Question, Snapshot, rows_stand, standing_joins};

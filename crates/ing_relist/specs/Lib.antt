@@ -1,3 +1,5 @@
 pub mod Counts
 pub mod Ends
 pub mod RelistFaults
+-- what its clauses speak of in the crates below
+pub use Rattle.ing_refusals.specs.declared.relist_fault.RelistFault

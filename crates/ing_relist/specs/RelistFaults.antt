@@ -1,4 +1,4 @@
--- Which refusal a fault of a relisting is, and what it tells of the store (own).
+-- What a fault of a re-listing tells of the store (own).
 use Rattle.std.specs.Prelude.{◌≡◌, ℕ, ◌+◌, ◌≤◌, List, Option, Some, None, Result, Ok, Err, IfErr}
 use Rattle.sha2.specs.Sha256.{sha256}
 use Rattle.ing_codec.specs.ChunkObjects.{ChunkObject, chunk_text}
@@ -6,22 +6,12 @@ use Rattle.ing_codec.specs.ChunkReading.{read_chunk}
 use Rattle.ing_codec.specs.RowObjects.{RowObject}
 use Rattle.ing_parts.specs.Listings.{IsListing, blocks_in}
 use Rattle.ing_refusals.specs.Failures.{HasFailed}
-use Rattle.ing_refusals.specs.declared.refusal.Refusal.{Refusal}
-use Rattle.ing_refusals.specs.declared.refusal.Refusal.TheVariants as refusal
 use Rattle.ing_store.specs.declared.fault.StoreFault as store
 use Rattle.ing_store.specs.declared.fault.StoreFault.TheVariants as store_fault
 use Rattle.ing_rows.specs.declared.entry.Entry.{Entry}
 use Rattle.ing_relist.specs.Ends.{EndsWith}
-use Rattle.ing_relist.specs.declared.fault.RelistFault.{RelistFault}
-use Rattle.ing_relist.specs.declared.fault.RelistFault.TheVariants.{NoMemory, Failed, Damaged, Missing, BadObject}
-
--- the refusal of the same name; an object that is missing is not the chunk that is listed
-abbrev pub relist_refusal_of : RelistFault → Refusal
-relist_refusal_of NoMemory = refusal.NoMemory
-relist_refusal_of (Failed key) = refusal.Failed
-relist_refusal_of (Damaged key) = refusal.Damaged
-relist_refusal_of (Missing key) = refusal.BadObject
-relist_refusal_of (BadObject key) = refusal.BadObject
+use Rattle.ing_refusals.specs.declared.relist_fault.RelistFault.{RelistFault}
+use Rattle.ing_refusals.specs.declared.relist_fault.RelistFault.TheVariants.{NoMemory, Failed, Damaged, Missing, BadObject}
 
 -- what a fault tells of the end's count of failures before and after: it does not fall, a fault of the store comes only where the
 -- end has failed, and it stays where memory ran out or the object is missing or bad

@@ -4,8 +4,7 @@
 
 mod counted;
 mod ends;
-mod fault;
 mod relisting;
 
-pub use fault::RelistFault;
+pub use ing_refusals::RelistFault;
 pub use relisting::{relist, relist_chunk};

@@ -8,11 +8,11 @@ use Rattle.std.proofs.lemmas.List.Sorted.{IsPermutation-refl, IsPermutation-appe
 use Rattle.ing_labels.specs.Selectors.{Match}
 use Rattle.ing_rows.specs.Rows.{Row, StreamKey}
 use Rattle.ing_rows.specs.declared.order.Order.{Order}
-use Rattle.ing_parts.specs.declared.found.Found.{Found}
-use Rattle.ing_parts.specs.declared.found.Question.{Question}
-use Rattle.ing_parts.specs.declared.snapshot.Snapshot.{Snapshot}
-use Rattle.ing_parts.specs.Answers.{IsAnswer, StandFor}
-use Rattle.ing_parts.specs.Parts.{found_at, is_within, wanted, within}
+use Rattle.ing_query.specs.Found.{Found}
+use Rattle.ing_query.specs.Question.{Question}
+use Rattle.ing_query.specs.Snapshot.{Snapshot}
+use Rattle.ing_query.specs.PartAnswers.{IsAnswer, StandFor}
+use Rattle.ing_query.specs.Parts.{found_at, is_within, wanted, within}
 use Rattle.ing_query.specs.Answers.{wanted_in}
 use Rattle.ing_durable.specs.Picked.{Picks}
 use Rattle.ing_commands.specs.QueryCommands.{QueryCommand}

@@ -12,7 +12,7 @@ use Rattle.ing_rows.specs.Events.{is_full}
 use Rattle.ing_session.specs.PushFault.{PushFault}
 use Rattle.ing_session.specs.PushFault.TheVariants.{NoMemory, CounterFull, TooManyEntries}
 use Rattle.ing_durable.specs.Contents.{stream_of}
-use Rattle.ing_session.specs.PushFaults.{refusal_of}
+use Rattle.ing_session.specs.PushFaults.{push_refusal_of}
 use Rattle.ing_commands.specs.PushCommands.{StreamEntries}
 use Rattle.ing_session.specs.Replies.{fault_data}
 use Rattle.ing_session.specs.Faults.{limits_of}
@@ -43,7 +43,7 @@ module _ (rules : List ℕ → Rules) (key : StreamKey) (now : ℕ) (es : List E
       rw (few_entries, room) judges
 
   -- they are refused
-  pub refused : {T : Type 0} (fault : PushFault) → TooMany {T = T} (Err fault) → Full {T = T} (Err fault) → fault ≢ NoMemory → RefusesStream (fault_data (refusal_of fault) None) old new reply
+  pub refused : {T : Type 0} (fault : PushFault) → TooMany {T = T} (Err fault) → Full {T = T} (Err fault) → fault ≢ NoMemory → RefusesStream (fault_data (push_refusal_of fault) None) old new reply
       → PushesIn rules key now es old new reply
   refused NoMemory many full other refuses = absurd (other refl)
   refused TooManyEntries many full other refuses =

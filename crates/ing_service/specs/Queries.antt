@@ -4,9 +4,9 @@ use Rattle.ing_labels.specs.Selectors.{Match, IsSelector, IsSelectorText}
 use Rattle.ing_labels.specs.TextFaults.{IsSelectorFault}
 use Rattle.ing_labels.specs.declared.text_fault.TextFault.{TextFault}
 use Rattle.ing_labels.specs.declared.text_fault.TextFault.TheVariants.{NoMemory}
-use Rattle.ing_parts.specs.declared.found.Found.{Found}
-use Rattle.ing_parts.specs.Answers.{IsAnswer}
-use Rattle.ing_parts.specs.Parts.{found_at, within}
+use Rattle.ing_query.specs.Found.{Found}
+use Rattle.ing_query.specs.PartAnswers.{IsAnswer}
+use Rattle.ing_query.specs.Parts.{found_at, within}
 use Rattle.ing_rows.specs.Rows.{Row, StreamKey}
 use Rattle.ing_durable.specs.Picked.{Picks}
 use Rattle.ing_commands.specs.QueryCommands.{QueryCommand}

@@ -1,9 +1,9 @@
 -- Snapshots of shards, one of each, for one question.
 use Rattle.std.specs.Prelude.{◌≡◌, ⊤, ℕ, Bool, List, [], ◌∷◌, filter, length}
 use Rattle.ing_labels.specs.Selectors.{Match}
-use Rattle.ing_parts.specs.declared.found.Question.{Question}
-use Rattle.ing_parts.specs.declared.snapshot.Snapshot.{Snapshot}
-use Rattle.ing_parts.specs.Parts.{HasRows}
+use Rattle.ing_query.specs.Question.{Question}
+use Rattle.ing_query.specs.Snapshot.{Snapshot}
+use Rattle.ing_query.specs.Parts.{HasRows}
 use Rattle.ing_rows.specs.Rows.{Row, StreamKey}
 use Rattle.ing_durable.specs.Picked.{Picks}
 use Rattle.ing_service.specs.Held.{ShardHeld}

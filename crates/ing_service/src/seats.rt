@@ -13,7 +13,7 @@ ghost use Rattle.ing_service.specs.Snapshots.{AreAsked};
 use crate::seat::{Seat, ToSeal};
 use ing_durable::Op;
 use ing_labels::Selector;
-use ing_parts::{Question, Snapshot};
+use ing_query::{Question, Snapshot};
 use ing_rows::{Gauges, Tenant};
 use ing_store::Receipt;
 use ing_tally::{Counts, ShardReport};

@@ -1,9 +1,9 @@
 -- Faults as the endings that they become.
 use Rattle.std.proofs.Common.{◌≡◌, ◌≢◌, ◌⊎◌, inl, inr, false, true, refl, subst, sym, Result, Ok, Err}
 use Rattle.std.specs.Prelude.{IfErr, IsErrOf, IsTrue}
-use Rattle.ing_shard.specs.declared.recover_fault.RecoverFault.{RecoverFault}
-use Rattle.ing_shard.specs.declared.recover_fault.RecoverFault.TheVariants as recover
-use Rattle.ing_shard.specs.RelistFault.TheVariants as relist
+use Rattle.ing_refusals.specs.declared.recover_fault.RecoverFault.{RecoverFault}
+use Rattle.ing_refusals.specs.declared.recover_fault.RecoverFault.TheVariants as recover
+use Rattle.ing_refusals.specs.declared.relist_fault.RelistFault.TheVariants as relist
 use Rattle.ing_session.specs.declared.lines.LineError.{LineError}
 use Rattle.ing_session.specs.declared.lines.LineError.TheVariants as lines
 use Rattle.ing_session.specs.declared.ending.Ending.{Ending}

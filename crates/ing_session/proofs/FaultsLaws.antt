@@ -4,8 +4,8 @@ use Rattle.std.specs.Prelude.{◌⊎◌, Result, IfOk, IsErr}
 use Rattle.std.proofs.lemmas.Result.{IfOk-from_err}
 use Rattle.ing_labels.specs.declared.fault.LabelFault.{LabelFault}
 use Rattle.ing_labels.specs.declared.fault.LabelFault.TheVariants as labels
-use Rattle.ing_shard.specs.declared.fault.PushFault.{PushFault}
-use Rattle.ing_shard.specs.declared.fault.PushFault.TheVariants.{NoMemory, CounterFull, TooManyEntries}
+use Rattle.ing_refusals.specs.declared.push_fault.PushFault.{PushFault}
+use Rattle.ing_refusals.specs.declared.push_fault.PushFault.TheVariants.{NoMemory, CounterFull, TooManyEntries}
 
 is_no_memory : (fault : PushFault) → (fault ≡ NoMemory) ⊎ (fault ≢ NoMemory)
 is_no_memory NoMemory = inl refl

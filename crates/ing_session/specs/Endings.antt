@@ -6,10 +6,10 @@ use Rattle.ing_refusals.specs.Refusals.{refusal_name}
 use Rattle.ing_limits.specs.Settings.{Refusal, not_toml, unknown_setting, bad_setting}
 use Rattle.ing_limits.specs.declared.fault.SettingsFault.{SettingsFault}
 use Rattle.ing_limits.specs.declared.fault.SettingsFault.TheVariants as settings
-use Rattle.ing_shard.specs.RecoverFaults.{recover_refusal_of}
-use Rattle.ing_shard.specs.declared.recover_fault.RecoverFault.{RecoverFault}
-use Rattle.ing_shard.specs.declared.recover_fault.RecoverFault.TheVariants as recover_faults
-use Rattle.ing_shard.specs.RelistFault.TheVariants as relist_faults
+use Rattle.ing_refusals.specs.RecoverFaults.{recover_refusal_of}
+use Rattle.ing_refusals.specs.declared.recover_fault.RecoverFault.{RecoverFault}
+use Rattle.ing_refusals.specs.declared.recover_fault.RecoverFault.TheVariants as recover_faults
+use Rattle.ing_refusals.specs.declared.relist_fault.RelistFault.TheVariants as relist_faults
 use Rattle.ing_session.specs.declared.lines.LineError.{LineError}
 use Rattle.ing_session.specs.declared.lines.LineError.TheVariants as lines
 use Rattle.ing_session.specs.declared.ending.Ending.{Ending}

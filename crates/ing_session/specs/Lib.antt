@@ -16,6 +16,5 @@ pub mod Written
 -- what its clauses speak of in the crates below
 pub use Rattle.ing_query.specs.declared.fault.QueryFault
 pub use Rattle.ing_refusals.specs.declared.refusal.Refusal
-pub use Rattle.ing_shard.specs.Faults as PushFaults
-pub use Rattle.ing_shard.specs.RelistFault
-pub use Rattle.ing_shard.specs.declared.fault.PushFault
+pub use Rattle.ing_refusals.specs.PushFaults
+pub use Rattle.ing_refusals.specs.declared.push_fault.PushFault

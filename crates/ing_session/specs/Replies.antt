@@ -6,7 +6,7 @@ use Rattle.serde_json.specs.Written.{compact_text}
 use Rattle.ing_tally.specs.declared.report.ShardReport.{ShardReport}
 use Rattle.ing_refusals.specs.declared.refusal.Refusal.{Refusal}
 use Rattle.ing_refusals.specs.Refusals.{refusal_number, refusal_name}
-use Rattle.ing_parts.specs.declared.found.Found.{Found}
+use Rattle.ing_query.specs.Found.{Found}
 use Rattle.ing_rows.specs.declared.gauges.Gauge.{Gauge}
 use Rattle.ing_rows.specs.declared.gauges.Gauges.{Gauges}
 use Rattle.ing_rows.specs.declared.verdict.Verdict.{Verdict}

@@ -4,8 +4,7 @@ ghost use Rattle.ing_session.specs.Endings.{ending_detail, ending_refusal, endin
 
 use crate::lines::LineError;
 use ing_limits::SettingsFault;
-use ing_refusals::Refusal;
-use ing_shard::{RecoverFault, RelistFault};
+use ing_refusals::{RecoverFault, Refusal, RelistFault};
 use std::alloc::{AllocError, AllocFailed};
 
 /// Why the program ended without a report. `name` is the dotted name of the setting, as `tenants.acme.max_line_size`.

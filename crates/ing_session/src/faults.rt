@@ -1,7 +1,7 @@
 //! The replies to streams and queries that are refused.
 ghost use Rattle.std.specs.Prelude.{◌≡◌, IfOk, IsErr, None};
 ghost use Rattle.ing_labels.specs.TextFaults.{text_fault_place, text_refusal_of};
-ghost use Rattle.ing_shard.specs.Faults.{refusal_of as push_refusal};
+ghost use Rattle.ing_refusals.specs.PushFaults.{push_refusal_of};
 ghost use Rattle.ing_query.specs.QueryFaults.{query_refusal_of};
 ghost use Rattle.ing_session.specs.Replies.{fault_data};
 ghost use Rattle.ing_session.specs.Faults.{label_fault, limits_of};
@@ -10,9 +10,8 @@ ghost use Rattle.ing_session.specs.Views.{reply_data, stream_data};
 use crate::reply::{Reply, StreamReply};
 use ing_labels::{LabelFault, LabelLimits, TextFault};
 use ing_query::QueryFault;
-use ing_refusals::Refusal;
+use ing_refusals::{PushFault, Refusal};
 use ing_rows::Rules;
-use ing_shard::PushFault;
 use std::alloc::AllocError;
 
 /// The limits on labels among a tenant's rules.
@@ -42,7 +41,7 @@ pub fn label_fault(fault: LabelFault) -> Result<StreamReply, AllocError>
 
 /// The reply to a stream that is refused as a whole.
 pub fn push_fault(fault: PushFault) -> Result<StreamReply, AllocError>
-    ensures reply { IfOk result (λ reply. stream_data reply ≡ fault_data (push_refusal fault) None) }
+    ensures reply { IfOk result (λ reply. stream_data reply ≡ fault_data (push_refusal_of fault) None) }
     ensures memory { fault ≡ PushFault.NoMemory → IsErr result }
 {
     if fault == PushFault::NoMemory {

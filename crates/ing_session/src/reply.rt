@@ -9,7 +9,7 @@ ghost use Rattle.serde_json.specs.View.{items_of};
 ghost use Rattle.ing_labels.specs.Canonical.{canonical_of};
 
 use ing_labels::Labels;
-use ing_parts::Found;
+use ing_query::Found;
 use ing_refusals::Refusal;
 use ing_rows::{Gauge, Gauges, Verdict};
 use ing_tally::{Counts, ShardReport};

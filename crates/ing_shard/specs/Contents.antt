@@ -12,8 +12,8 @@ use Rattle.ing_checkpoint.specs.Slots.{Slot}
 use Rattle.ing_checkpoint.specs.Contents.{flights_of}
 use Rattle.ing_tally.specs.Books.{ShareState}
 use Rattle.ing_shard.specs.Books.{BookStates, names_of}
-use Rattle.ing_shard.specs.declared.fault.PushFault.{PushFault}
-use Rattle.ing_shard.specs.declared.fault.PushFault.TheVariants.{NoMemory, CounterFull, TooManyEntries}
+use Rattle.ing_refusals.specs.declared.push_fault.PushFault.{PushFault}
+use Rattle.ing_refusals.specs.declared.push_fault.PushFault.TheVariants.{NoMemory, CounterFull, TooManyEntries}
 
 -- its settings, its number, the streams that have been listed, in the order of their numbers, the sealed chunks of each that
 -- a claim has taken over, the oldest first, its rows and marks, and its books

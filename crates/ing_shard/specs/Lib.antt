@@ -1,11 +1,9 @@
 pub mod Books
 pub mod Coded
 pub mod Contents
-pub mod Faults
 pub mod FinishFaults
 pub mod NodeFaults
 pub mod PushFaults
-pub mod RecoverFaults
 pub mod JudgedPushes
 pub mod KeptFacts
 pub mod OneStream
@@ -37,5 +35,4 @@ pub use Rattle.ing_limits.specs.Settings
 pub use Rattle.ing_limits.specs.Ranges
 pub use Rattle.ing_checkpoint.specs.Flushed
 pub use Rattle.ing_checkpoint.specs.Meaning
-pub use Rattle.ing_checkpoint.specs.RelistFault
 pub use Rattle.ing_checkpoint.specs.RelistFaults

@@ -1,6 +1,6 @@
 -- Which fault of an ingester a shard's refusal of a push is (own).
-use Rattle.ing_shard.specs.declared.fault.PushFault.{PushFault}
-use Rattle.ing_shard.specs.declared.fault.PushFault.TheVariants as push
+use Rattle.ing_refusals.specs.declared.push_fault.PushFault.{PushFault}
+use Rattle.ing_refusals.specs.declared.push_fault.PushFault.TheVariants as push
 use Rattle.ing_shard.specs.declared.node_fault.NodeFault.{NodeFault}
 use Rattle.ing_shard.specs.declared.node_fault.NodeFault.TheVariants as node
 

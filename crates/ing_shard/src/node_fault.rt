@@ -2,8 +2,7 @@
 ghost use Rattle.std.specs.Prelude.{◌≡◌};
 ghost use Rattle.ing_shard.specs.NodeFaults.{refusal_of};
 
-use crate::fault::PushFault;
-use ing_refusals::Refusal;
+use ing_refusals::{PushFault, Refusal};
 use ing_tally::CounterFull;
 use std::alloc::AllocError;
 use thiserror::Error;

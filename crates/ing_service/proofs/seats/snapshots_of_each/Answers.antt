@@ -1,6 +1,6 @@
 use Rattle.std.proofs.Common.{◌++◌, ◌∷◌, [], filter, map, subst, sym, take}
 use Rattle.ing_durable.specs.Contents.{Contents}
-use Rattle.ing_parts.specs.Parts.{HasRows}
+use Rattle.ing_query.specs.Parts.{HasRows}
 use Rattle.ing_rows.specs.Rows.{IsSame, Row}
 use Rattle.ing_service.specs.Held.{shard_held}
 use Rattle.ing_service.specs.Snapshots.{AreAsked, IsAsked}

@@ -2,13 +2,13 @@ use Rattle.std.proofs.Common.{rules, ◌≡◌, ◌≤◌, ◌<◌, ◌∙◌, �
 use Rattle.std.specs.Prelude.{All, map}
 use Rattle.std.proofs.lemmas.List.{map-append}
 use Rattle.std.proofs.lemmas.List.Elements.{All-append, All-cons, All-nil}
-use Rattle.ing_parts.specs.declared.snapshot.Snapshot.{Snapshot}
+use Rattle.ing_diary.specs.Snapshot.{Snapshot}
 use Rattle.ing_tally.specs.Books.{ShareState}
 use Rattle.ing_flush.specs.Tallies.{amount_at}
 use Rattle.ing_node.specs.Names.{AreAcceptedIn}
 use Rattle.ing_node.specs.Queries.{AreBelow, AreNoLess, IsAskedOf}
-use Rattle.ing_parts.specs.Answers.{StandApart}
-use Rattle.ing_parts.specs.Parts.{standing}
+use Rattle.ing_diary.specs.PartAnswers.{StandApart}
+use Rattle.ing_diary.specs.Parts.{standing}
 use Rattle.ing_diary.specs.Answers.{standing_in}
 use Rattle.ing_node.proofs.Once.{once_more, standing_push}
 use Rattle.ing_node.proofs.PusherLaws.{amount_there, no_less_push, same_set}

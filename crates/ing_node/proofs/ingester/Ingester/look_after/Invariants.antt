@@ -4,7 +4,7 @@ use Rattle.std.specs.Vec.{vec_capacity}
 use Rattle.ing_node.specs.Names.{AreAcceptedIn}
 use Rattle.ing_node.specs.Queries.{AreBelow, AreNoLess, IsAskedOf}
 use Rattle.ing_node.specs.Diaries.{notes_in}
-use Rattle.ing_parts.specs.Answers.{StandApart}
+use Rattle.ing_diary.specs.PartAnswers.{StandApart}
 use Rattle.ing_diary.specs.Answers.{standing_in}
 use Rattle.ing_node.proofs.ingester.Ingester.look_after.Given as goal
 

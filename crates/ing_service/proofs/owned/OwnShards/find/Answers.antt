@@ -3,7 +3,7 @@ use Rattle.ing_service.specs.Queries.{Given}
 use Rattle.ing_session.specs.Replies.{query_data}
 use Rattle.ing_session.proofs.CausesLaws.{same_count}
 use Rattle.ing_commands.specs.Views.{query_view}
-use Rattle.ing_parts.specs.declared.found.Question.{Question}
+use Rattle.ing_query.specs.Question.{Question}
 use Rattle.ing_service.specs.Held.{held_in, shard_held}
 use Rattle.ing_service.specs.Snapshots.{AreAsked}
 use Rattle.ing_service.proofs.AskLaws.{fronts_are, is_found}

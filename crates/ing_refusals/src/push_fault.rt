@@ -1,8 +1,8 @@
 //! Why a push is refused as a whole.
 ghost use Rattle.std.specs.Prelude.{◌≡◌};
-ghost use Rattle.ing_shard.specs.Faults.{refusal_of};
+ghost use Rattle.ing_refusals.specs.PushFaults.{push_refusal_of};
 
-use ing_refusals::Refusal;
+use crate::refusal::Refusal;
 use std::alloc::AllocError;
 use thiserror::Error;
 
@@ -23,7 +23,7 @@ pub enum PushFault {
 impl PushFault {
     /// Which refusal it is. Takes no memory.
     pub fn refusal(&self) -> Refusal
-        ensures { result ≡ refusal_of self.now }
+        ensures { result ≡ push_refusal_of self.now }
     {
         match self {
             PushFault::NoMemory => Refusal::NoMemory,
@@ -35,7 +35,7 @@ impl PushFault {
 
 impl From<AllocError> for PushFault {
     ghost use Rattle.std.specs.Prelude.{◌≡◌};
-    ghost use Rattle.ing_shard.specs.declared.fault.PushFault.TheVariants.{NoMemory};
+    ghost use Rattle.ing_refusals.specs.declared.push_fault.PushFault.TheVariants.{NoMemory};
 
     ghost from_gives = { λ _ fault. fault ≡ NoMemory };
 

@@ -1,8 +1,8 @@
 //! Why a stored chunk is not listed again.
 ghost use Rattle.std.specs.Prelude.{◌≡◌};
-ghost use Rattle.ing_relist.specs.RelistFaults.{relist_refusal_of};
+ghost use Rattle.ing_refusals.specs.RelistFaults.{relist_refusal_of};
 
-use ing_refusals::Refusal;
+use crate::refusal::Refusal;
 use std::alloc::{AllocError, AllocFailed};
 use thiserror::Error;
 
@@ -42,7 +42,7 @@ impl RelistFault {
 
 impl From<AllocError> for RelistFault {
     ghost use Rattle.std.specs.Prelude.{◌≡◌};
-    ghost use Rattle.ing_relist.specs.declared.fault.RelistFault.TheVariants.{NoMemory};
+    ghost use Rattle.ing_refusals.specs.declared.relist_fault.RelistFault.TheVariants.{NoMemory};
 
     ghost from_gives = { λ _ fault. fault ≡ NoMemory };
 
@@ -53,7 +53,7 @@ impl From<AllocError> for RelistFault {
 
 impl<T: Drop> From<AllocFailed<T>> for RelistFault {
     ghost use Rattle.std.specs.Prelude.{◌≡◌};
-    ghost use Rattle.ing_relist.specs.declared.fault.RelistFault.TheVariants.{NoMemory};
+    ghost use Rattle.ing_refusals.specs.declared.relist_fault.RelistFault.TheVariants.{NoMemory};
 
     ghost from_gives = { λ _ fault. fault ≡ NoMemory };
 
