@@ -1,6 +1,6 @@
 -- Lists whose last item is taken, and what is closed.
 use Rattle.std.proofs.Common.{append_assoc, ◌≡◌, ◌≢◌, ◌<◌, ◌≤◌, ◌+◌, ◌-◌, ◌⊎◌, inl, inr, ℕ, zero, suc, List, [], ◌∷◌, ◌++◌, length, Some, true, false, refl, sym, ap, subst, ◌∙◌, ◌^◌, arith, slice_index_or, slice_set, take, Bool}
-use Rattle.std.specs.Prelude.{map, min, reverse, slice_get, sum_by}
+use Rattle.std.specs.Prelude.{Err, IfErr, Ok, Result, map, min, reverse, slice_get, sum_by}
 use Rattle.std.specs.Global.{Vec}
 use Rattle.std.proofs.lemmas.List.{map-append, reverse-append, take_more}
 use Rattle.std.proofs.lemmas.List.Sums.{sum_by-append, sum_by-cons}
@@ -18,6 +18,7 @@ use Rattle.ing_diary.specs.Fronts.{front_in}
 use Rattle.ing_diary.specs.StreamFront.{StreamFront}
 use Rattle.ing_node.specs.Earlier.{EarlierState, had_at, had_in}
 use Rattle.std.specs.Option.{option_map}
+use Rattle.std.specs.Result.{IsErrAnd}
 use Rattle.std.proofs.lemmas.Option.{slice_get-map}
 use Rattle.ing_node.specs.Reports.{CountRows, CountRowsFrom, CountsRows, IsClosed, IsGathered, IsUnsettled, recovered_at, recovered_in}
 
@@ -81,12 +82,6 @@ gathered_by recovered accepted stored told counted is_told is_counted within bef
 pub counted_by : (rows : List Row) (recovered accepted stored : ℕ) → recovered ≤ accepted → accepted ≡ length rows → stored ≡ stored_count rows → flying_count rows ≡ 0
     → CountsRows rows (record { accepted = accepted - recovered; recovered = recovered; stored = stored; kept = accepted - stored })
 counted_by rows recovered accepted stored before all some none = record { all = omega (arith, before, all); stored = some; landed = none }
-
--- an item at a place
-pub there : {X : Type 0} (xs : List X) (i : ℕ) → i < length xs → (x : X) × (slice_get xs i ≡ Some x)
-there [] i below = absurd (omega (arith, below))
-there (y ∷ xs) zero below = (y, refl)
-there (y ∷ xs) (suc i) below = there xs i (omega (arith, below))
 
 -- with equal counts
 pub gathered_as : (recovered told counted before more less : ℕ) (r : ShardReport) → recovered ≡ before → told ≡ more → counted ≡ less → IsGathered recovered told counted r → IsGathered before more less r
@@ -221,9 +216,16 @@ unsettled_tells shard_in pushing tallies helds (Misplaced place) none = absurd n
 unsettled_tells shard_in pushing tallies helds (Unsettled shard why) is = tt
 
 -- the item at a place
-pub same_there : {H : Type 0} (helds : List H) (place : ℕ) (x held : H) → place < length helds → x ≡ slice_index_or helds place x → slice_get helds place ≡ Some held → held ≡ x
-same_there helds place x held below is at =
-    let one : Some held ≡ Some x = sym at ∙ get_there helds place x below ∙ ap Some (sym is) in cc
+pub stands_there : {H : Type 0} (helds : List H) (place : ℕ) (x : H) → place < length helds → x ≡ slice_index_or helds place x → slice_get helds place ≡ Some x
+stands_there helds place x below is = get_there helds place x below ∙ ap Some (sym is)
+
+-- a shard that is found at another place than its own is told of
+pub misplaced_tells : {T H : Type 0} (shard_in : H → Contents) (pushing tallies : ℕ) (helds : List H) (place : ℕ) (x : H) (why : CloseRefusal) (r : Result T CloseRefusal)
+    → place < length helds → x ≡ slice_index_or helds place x → (shard_in x).number ≢ place → why ≡ Misplaced place → IsErrAnd r (λ told. told ≡ why)
+    → IfErr r (TellsOf shard_in pushing tallies helds)
+misplaced_tells shard_in pushing tallies helds place x why (Ok done) below is other fault same = tt
+misplaced_tells shard_in pushing tallies helds place x why (Err told) below is other fault same =
+    subst (TellsOf shard_in pushing tallies helds) (sym (same ∙ fault)) (x, stands_there helds place x below is, other)
 
 -- how many entries each stream of a shard had, by the fronts at its place
 pub had_there : (fronts : List (List StreamFront)) (earlier : EarlierState) (place : ℕ) (had : List StreamFront) → map front_in fronts ≡ earlier.fronts → place < length fronts

@@ -51,10 +51,10 @@ pub record AreMissing {H : Type 0} (shard_in : H → Contents) (pushing tallies 
   pub flight_are : flight ≡ min (sum_by (λ held. (shard_in held).books.flight.out) helds) (2 ^ 64 - 1)
   pub stored_are : stored ≡ min (sum_by (λ held. (shard_in held).books.stored.out - tallies) helds) (2 ^ 64 - 1)
 
--- what a refusal tells of the shards is so: how many shares are missing, or which shard does not stand at its place
+-- what a refusal tells of the shards is so: how many shares are missing, or at which place a shard stands that is of another
 abbrev pub TellsOf : {H : Type 0} → (H → Contents) → ℕ → ℕ → List H → CloseRefusal → Type 0
 TellsOf shard_in pushing tallies helds (StillOut all) = AreMissing shard_in pushing tallies helds all.accepted all.flight all.stored
-TellsOf {H = H} shard_in pushing tallies helds (Misplaced place) = (held : H) → slice_get helds place ≡ Some held → (shard_in held).number ≢ place
+TellsOf {H = H} shard_in pushing tallies helds (Misplaced place) = (held : H) × (slice_get helds place ≡ Some held) × ((shard_in held).number ≢ place)
 TellsOf shard_in pushing tallies helds _ = Unit {0}
 
 -- closed shards: each stands at the place of its number, and has these settings

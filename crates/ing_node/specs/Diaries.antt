@@ -53,9 +53,9 @@ abbrev pub HaveNotedEach : {H : Type 0} → (H → List Row) → (ℕ → Stream
 HaveNotedEach {H = H} rows_in had notes shards =
     (i : ℕ) (shard : H) → slice_get shards i ≡ Some shard → HaveNotedPlaces (rows_since (had i) (rows_in shard)) (notes i)
 
--- what is told of a shard, if it is that an entry differs, is so: the entry stands among its rows that came since or among what was noted of
--- it, and not exactly once and alike in both
+-- what is told of a shard, if it is that an entry differs, is so: it is one of these shards, and the entry stands among its rows that came
+-- since or among what was noted of it, and not exactly once and alike in both
 abbrev pub NamesOtherIn : {H : Type 0} → (H → List Row) → (ℕ → StreamKey → ℕ) → (ℕ → List Note) → List H → CloseRefusal → Type 0
 NamesOtherIn {H = H} rows_in had notes shards (Unsettled i why) =
-    (shard : H) → slice_get shards i ≡ Some shard → NamesOther (rows_since (had i) (rows_in shard)) (notes i) why
+    (shard : H) × (slice_get shards i ≡ Some shard) × NamesOther (rows_since (had i) (rows_in shard)) (notes i) why
 NamesOtherIn rows_in had notes shards _ = Unit {0}

@@ -413,6 +413,8 @@ fn meet<'a, N: NodeName + Send + Sync, W: Threads + Wait + Sync + Clock + Abort>
     );
 }
 
+/// Two flushers of one round put at once, while a push goes through between them. A close with a ticket out tells it, one without those who
+/// pushed and flushed tells theirs, and one with all of them adds up with what was noted.
 #[test]
 fn uploads_hold_no_lock(rt: HostRuntime) -> Result<(), Fail> {
     let alloc = rt.alloc();

@@ -1,5 +1,5 @@
 use Rattle.std.proofs.Common.{◌≡◌, arith}
-use Rattle.ing_node.proofs.ClosingLaws.{get_below, next_missing, next_too}
+use Rattle.ing_node.proofs.ClosingLaws.{get_below, misplaced_tells, next_missing, next_too}
 use Rattle.ing_node.specs.Closing.{IsComplete}
 use Rattle.ing_node.proofs.closing.are_complete.Goals as goal
 
@@ -29,6 +29,12 @@ loop-place-preserved g c = record {
         stored_are = next_missing _ c.args.helds.now c.loop-place.place c.index-helds-place.result _ _ _ c.loop-place-test.true c.index-helds-place.is m.stored before.stored_are c.saturating_add-in-loop-place-2.ensures;
       };
 }
+
+-- the shard that is looked at stands at another place than its own
+pub returns-in_err-missing-clause-told : goal.returns-in_err-missing-clause-told
+returns-in_err-missing-clause-told g c =
+    misplaced_tells (λ held. held.shard.memory) c.args.pushers c.args.tallies c.args.helds.now c.loop-place.place c.index-helds-place.result c.in_err-missing.field-0.0
+    c.from_residual.result c.loop-place-test.true c.index-helds-place.is c.in_err-missing.ensures.other c.in_err-missing.ensures.fault c.from_residual.ensures.1
 
 pub returns-clause-complete : goal.returns-clause-complete
 returns-clause-complete g c i held at =

@@ -5,19 +5,19 @@ use Rattle.ing_diary.specs.Fronts.{front_in, rows_since}
 use Rattle.ing_diary.specs.Notes.{AreNoted, HaveNotedPlaces}
 use Rattle.ing_node.specs.Diaries.{notes_at}
 use Rattle.ing_node.specs.Earlier.{had_at}
-use Rattle.ing_node.proofs.ClosingLaws.{get_below, had_there, next_too, same_there, so_there}
+use Rattle.ing_node.proofs.ClosingLaws.{get_below, had_there, next_too, so_there, stands_there}
 use Rattle.ing_node.proofs.settling.settle_all.Goals as goal
 
 pub returns-in-Err-clause-differs : goal.returns-in-Err-clause-differs
-returns-in-Err-clause-differs g c honest held at =
+returns-in-Err-clause-differs g c honest =
     let helds = c.args.helds.now in
     let place = c.loop-place.place in
     let one = c.index-helds-place.result in
     let shards = g.N.NodeName.settings.shards in
     let had = had_there c.args.fronts.now g.N.NodeName.earlier place c.index-fronts-place.result c.requires.fronts (omega (arith, c.loop-place-test.true, c.requires.each)) c.index-fronts-place.is in
     let F = λ (rows : List Row) (n k : ℕ). NamesOther (rows_since (front_in c.index-fronts-place.result) rows) (notes_at n k c.args.pushers.now) c.in-Err.why in
-    subst (λ (f : StreamKey → ℕ). NamesOther (rows_since f held.shard.memory.state.rows) (notes_at shards place c.args.pushers.now) c.in-Err.why) (sym had)
-    (subst (λ h. F h.shard.memory.state.rows shards place) (sym (same_there helds place one held c.loop-place-test.true c.index-helds-place.is at))
+    (one, stands_there helds place one c.loop-place-test.true c.index-helds-place.is,
+    subst (λ (f : StreamKey → ℕ). NamesOther (rows_since f one.shard.memory.state.rows) (notes_at shards place c.args.pushers.now) c.in-Err.why) (sym had)
     (so_there (λ h. h.shard.memory) helds place one c.memory.result.now shards F c.loop-place-test.true c.index-helds-place.is c.memory.ensures c.requires.placed c.requires.all
     (c.in-Err.ensures.differs honest)))
 
