@@ -1,7 +1,8 @@
 #!/usr/bin/python3
 """A load of agents at once over a front, which is killed meanwhile; then each line is looked for.
 
-    front/bench/agents.py FRONT PROGRAM [--agents N] [--lines N] [--kills N] [--in-flight N] [--ctl INGESTCTL] [--parent FOLDER]
+    front/bench/agents.py FRONT PROGRAM [--agents N] [--lines N] [--kills N] [--in-flight N] [--channels N] [--ctl INGESTCTL]
+                          [--parent FOLDER]
 
 Each agent has a stream of its own and sends its lines in batches, by turns as JSON, JSON with gzip, and protobuf with Snappy.
 A batch without an answer, or with 429 or 503, is sent again as it is. Now and then front and program are killed, or one of
@@ -208,6 +209,7 @@ def main() -> int:
     parser.add_argument("--batch", type=int, default=100)
     parser.add_argument("--kills", type=int, default=3)
     parser.add_argument("--in-flight", type=int, default=1)
+    parser.add_argument("--channels", type=int, default=1, help="channels to the program (%(default)s)")
     parser.add_argument("--seconds", type=float, default=300, help="the longest that it may take (%(default)s)")
     parser.add_argument("--ctl", help="ingestctl, by which the folder is read at the end")
     parser.add_argument("--parent", default=None)
@@ -216,6 +218,7 @@ def main() -> int:
     agents = [Agent(number, words.lines // words.agents, words.batch, began) for number in range(words.agents)]
     with tempfile.TemporaryDirectory(dir=words.parent) as place:
         options = ("--ingester.flush-check-period", "2s", "--ingester.checkpoint-duration", "5s")
+        options += ("--channels", str(words.channels))
         run = FrontRun(words.front, words.program, pathlib.Path(place), SETTINGS, options)
         run.start()
         try:

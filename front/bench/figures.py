@@ -1,12 +1,14 @@
 #!/usr/bin/python3
 """Figures of pushes of 100 lines: through the front, by the program alone, and by a plain server that appends and syncs.
 
-    front/bench/figures.py PROGRAM FRONT [--pushes N] [--parent FOLDER]
+    front/bench/figures.py PROGRAM FRONT [--pushes N] [--shards N] [--channels N [N ..]] [--parent FOLDER]
 
-Each of ten streams gets a tenth of the pushes; a line has 100 bytes. One push waits at a time, then ten.
+Each of ten streams gets a tenth of the pushes; a line has 100 bytes. One push waits at a time, then ten; so of the front with
+each number of channels to the program.
 """
 import argparse
 import asyncio
+import functools
 import json
 import pathlib
 import socket
@@ -85,8 +87,13 @@ async def over_pipes(words: list[str], pushes: int, at_once: int) -> tuple[list[
     return figures
 
 
-def of_front(words: argparse.Namespace, place: pathlib.Path, at_once: int) -> tuple[list[float], float]:
-    run = FrontRun(words.front, words.program, place)
+def settings_text(words: argparse.Namespace) -> str:
+    """The settings of the program."""
+    return f"shards = {words.shards}\n"
+
+
+def of_front(words: argparse.Namespace, place: pathlib.Path, at_once: int, channels: int) -> tuple[list[float], float]:
+    run = FrontRun(words.front, words.program, place, settings_text(words), ("--channels", str(channels)))
     run.start()
     try:
         return asyncio.run(over_http(run.url, words.pushes, at_once))
@@ -95,7 +102,8 @@ def of_front(words: argparse.Namespace, place: pathlib.Path, at_once: int) -> tu
 
 
 def of_program(words: argparse.Namespace, place: pathlib.Path, at_once: int) -> tuple[list[float], float]:
-    return asyncio.run(over_pipes([words.program, "/dev/null", str(place / "folder")], words.pushes, at_once))
+    (place / "settings.toml").write_text(settings_text(words))
+    return asyncio.run(over_pipes([words.program, str(place / "settings.toml"), str(place / "folder")], words.pushes, at_once))
 
 
 def of_plain_server(words: argparse.Namespace, place: pathlib.Path, at_once: int) -> tuple[list[float], float]:
@@ -115,10 +123,16 @@ def main() -> None:
     parser.add_argument("program")
     parser.add_argument("front")
     parser.add_argument("--pushes", type=int, default=2000)
+    parser.add_argument("--shards", type=int, default=1, help="%(default)s")
+    parser.add_argument("--channels", type=int, nargs="+", default=[1], help="of the front, runs for each number (%(default)s)")
     parser.add_argument("--parent", default=None)
     words = parser.parse_args()
     print("| Pushes of 100 lines | at once | requests a second | lines a second | p50 ms | p99 ms |\n|---|---|---|---|---|---|")
-    for name, work in (("the program alone", of_program), ("the front", of_front), ("a plain server", of_plain_server)):
+    works = [("the program alone", of_program)]
+    for channels in words.channels:
+        name = "the front" if channels == 1 else f"the front, {channels} channels"
+        works.append((name, functools.partial(of_front, channels=channels)))
+    for name, work in [*works, ("a plain server", of_plain_server)]:
         for at_once in (1, 10):
             with tempfile.TemporaryDirectory(dir=words.parent) as place:
                 times, seconds = work(words, pathlib.Path(place), at_once)

@@ -14,8 +14,9 @@ BENCH = pathlib.Path(__file__).resolve().parent.parent / "bench"
 HOUR = 3600 * 10**9
 
 
-def test_a_push_is_found_flushed_and_found_again(front):
-    client = front("shards = 4\nflushers = 2\n")
+@pytest.mark.parametrize("channels", ["1", "4"])
+def test_a_push_is_found_flushed_and_found_again(front, channels):
+    client = front("shards = 4\nflushers = 2\n", "--channels", channels)
     lines = [(number * 1000, f'line {number} "ä😀"\n\t\\') for number in range(1, 2001)]
     assert client.push({"app": "web", "none": ""}, *lines) == (204, "")
     assert client.found('{app="web"}') == lines
@@ -98,8 +99,9 @@ def test_wrong_queries_are_refused(front):
     assert client.found('{ a = "x\\ty\\x41\\u00e4" , b!=`\\`}  |= "" != `y`') == []
 
 
-def test_an_end_in_order_and_a_start_after_it(front):
-    client = front("shards = 2\n", "--ingester.flush-on-shutdown")
+@pytest.mark.parametrize("channels", ["1", "3"])
+def test_an_end_in_order_and_a_start_after_it(front, channels):
+    client = front("shards = 2\n", "--ingester.flush-on-shutdown", "--channels", channels)
     assert client.push({"a": "1"}, (1, "x"), (2, "y"), (2, "x")) == (204, "")
     assert client.run.end() == 0
     report = json.loads(client.run.log().partition(" report: ")[2].partition(", status 0")[0])["report"]
@@ -129,8 +131,9 @@ def test_labels_and_series_are_told_after_a_start(front, options):
     assert client.data("/loki/api/v1/series", **{"match[]": '{host="host-03"}'}) == [{"app": "web", "host": "host-03"}]
 
 
-def test_the_end_of_the_program_ends_the_front(front):
-    client = front()
+@pytest.mark.parametrize("channels", ["1", "3"])
+def test_the_end_of_the_program_ends_the_front(front, channels):
+    client = front("", "--channels", channels)
     child = client.run.child()
     os.kill(child, signal.SIGKILL)
     assert client.run.process.wait(10) == 137 and "the program has ended by itself" in client.run.log()
@@ -173,8 +176,9 @@ def test_a_program_that_stands_still_makes_pushes_wait_and_then_503(front):
     assert client.counts()["front_waiting_bytes"] == 0
 
 
-def test_a_folder_that_cannot_be_opened_ends_the_front(front):
-    client = front("shards = 2\n")
+@pytest.mark.parametrize("channels", ["1", "3"])
+def test_a_folder_that_cannot_be_opened_ends_the_front(front, channels):
+    client = front("shards = 2\n", "--channels", channels)
     assert client.run.end() == 0
     (client.run.place / "settings.toml").write_text("shards = 3\n")
     with pytest.raises(RuntimeError, match="ended with 2"):
@@ -201,9 +205,9 @@ def test_logs_that_have_grown_are_checkpointed(front):
     assert len(client.found('{a="0"}')) == 1000
 
 
-@pytest.mark.parametrize("in_flight", ["1", "4"])
-def test_kills_lose_and_double_nothing(tmp_path, in_flight):
+@pytest.mark.parametrize("in_flight, channels", [("1", "1"), ("4", "1"), ("4", "4")])
+def test_kills_lose_and_double_nothing(tmp_path, in_flight, channels):
     words = [BENCH / "agents.py", os.environ["FRONT"], os.environ["PROGRAM"], "--lines", "20000", "--kills", "3"]
-    words += ["--in-flight", in_flight, "--parent", tmp_path]
+    words += ["--in-flight", in_flight, "--channels", channels, "--parent", tmp_path]
     run = subprocess.run([sys.executable, *words], capture_output=True, text=True)
     assert run.returncode == 0, run.stdout + run.stderr

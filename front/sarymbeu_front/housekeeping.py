@@ -1,4 +1,5 @@
-"""What is done by the clock: sweeps, flushes and checkpoints. The program does none of them by itself."""
+"""What is done by the clock: sweeps, flushes and checkpoints. The program itself does none, but with channels and a
+`flush_check_period` in its settings; then both do."""
 import asyncio
 import logging
 import os
@@ -6,6 +7,7 @@ import time
 from pathlib import Path
 
 from .child import Child
+from .faults import Fault
 from .metrics import Metrics
 from .stamps import SECOND
 
@@ -40,16 +42,22 @@ class Housekeeping:
         least = log_bytes(self.settings.folder)
         while True:
             await asyncio.sleep(min(LOOK, period, between))
-            if time.monotonic() - swept >= period:
-                swept = time.monotonic()
-                await self.child.ask({"cmd": "sweep", "now": str(time.time_ns())})
-                await self.flush(forced=False)
-            grown = log_bytes(self.settings.folder) - least
-            if time.monotonic() - checkpointed >= between or grown >= self.settings.checkpoint_log_bytes:
-                checkpointed = time.monotonic()
-                await self.checkpoint()
-                # What stands in a checkpoint stays in the log: only what comes behind it counts.
-                least = log_bytes(self.settings.folder)
+            try:
+                if time.monotonic() - swept >= period:
+                    swept = time.monotonic()
+                    await self.child.ask({"cmd": "sweep", "now": str(time.time_ns())})
+                    await self.flush(forced=False)
+                grown = log_bytes(self.settings.folder) - least
+                if time.monotonic() - checkpointed >= between or grown >= self.settings.checkpoint_log_bytes:
+                    checkpointed = time.monotonic()
+                    await self.checkpoint()
+                    # What stands in a checkpoint stays in the log: only what comes behind it counts.
+                    least = log_bytes(self.settings.folder)
+            except Fault as fault:
+                if self.child.ended.is_set():
+                    raise
+                # The channel alone has ended: the next turn is another one's.
+                log.warning("housekeeping was broken off: %s", fault.text.rstrip())
 
     async def flush(self, forced: bool) -> dict:
         """A flush, and its reply. Uploads that failed are counted. Raises Fault where the program has ended."""

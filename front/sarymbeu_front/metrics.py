@@ -49,6 +49,7 @@ class Metrics:
         self.remembered = self._counter("answers_remembered", "Pushes that were sent again, and answered without a push.")
         self.flushes_failed = self._counter("flushes_failed", "Uploads of chunks that failed.")
         self.checkpoints_failed = self._counter("checkpoints_failed", "Shards of which a checkpoint was not written.")
+        self.channels_broken = self._counter("channels_broken", "Channels of the program that have ended by themselves.")
         self.forgotten = self._counter("streams_forgotten", "Streams that are no longer known for labels and series.")
         self.waiting_bytes = Gauge("front_waiting_bytes", "Bytes of pushes that wait.", registry=self.registry)
         self.reply_seconds = Histogram(

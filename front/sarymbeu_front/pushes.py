@@ -99,8 +99,10 @@ class Pushes:
             streams = [(place, stream) for place, stream in enumerate(body.streams) if before is None or place in before.again]
             outcome = await self._send_what_is_new(tenant, streams)
         # Counted by the body, so that the sum of what came of lines can be held against it.
-        self.metrics.lines.inc(entries_of(streams))
+        self.metrics.lines.inc(entries_of(streams) - outcome.unanswered)
         self._count(outcome)
+        if outcome.fault is not None:
+            raise outcome.fault
         if before is None:
             self.metrics.mended.inc(body.mended)
             self.metrics.metadata.inc(body.metadata)
@@ -108,7 +110,7 @@ class Pushes:
         return answer_of(outcome, before)
 
     async def _send_what_is_new(self, tenant: str, streams: list[tuple[int, Stream]]) -> verdicts.Outcome:
-        """What comes of these streams, without what stands from before this start. Raises Fault."""
+        """What comes of these streams, without what stands from before this start. Raises Fault where nothing was sent."""
         if not self.resent.may_stand(tenant, streams):
             return await self._send(tenant, streams)
         async with self.resent.lock:
@@ -118,21 +120,41 @@ class Pushes:
         return outcome
 
     async def _send(self, tenant: str, streams: list[tuple[int, Stream]]) -> verdicts.Outcome:
-        """What the program says to these streams. Raises Fault."""
+        """What the program says to these streams. Raises Fault where nothing was sent."""
         limits = self.limits.of(tenant)
         parts = verdicts.parts_of(streams, limits.max_entries_per_push)
         if not parts:
             return verdicts.Outcome()
-        members = [{"stream": part.content.labels, "values": part.content.values} for part in parts]
-        command = {"cmd": "push", "tenant": tenant, "now": str(time.time_ns()), "streams": members}
-        reply = await self.child.ask(command)
-        if "error" in reply:
-            raise Fault(400 if reply["number"] in SENDER_FAULTS else 500, f"the program refuses the push: {reply}\n")
-        outcome = verdicts.judge(parts, reply["push"], limits, tenant)
-        for part, member in zip(parts, reply["push"], strict=True):
-            if any(verdict == "duplicate" or "accepted" in verdict for verdict in member.get("verdicts", [])):
+        members, fault, in_doubt = await self._ask(tenant, parts)
+        if in_doubt:
+            self.resent.doubt(tenant, streams)
+        outcome = verdicts.judge(parts, members, limits, tenant)
+        outcome.fault = fault
+        for part, member in zip(parts, members):
+            if any(verdict == "duplicate" or "accepted" in verdict for verdict in (member or {}).get("verdicts", [])):
                 self.streams.note(tenant, member["stream"], part.content.labels)
         return outcome
+
+    async def _ask(self, tenant: str, parts: list[verdicts.Part]) -> tuple[list[dict | None], Fault | None, bool]:
+        """The member of a reply for each part, or None; why one is None; and whether some parts may have been taken nevertheless.
+
+        The parts of one home are one command, which is refused in whole or not. Raises Fault where nothing was sent.
+        """
+        homes: dict[int, list[int]] = {}
+        for place, part in enumerate(parts):
+            homes.setdefault(self.child.home_of(tenant, part.content.labels), []).append(place)
+        head = {"cmd": "push", "tenant": tenant, "now": str(time.time_ns())}
+        replies = await self.child.push({home: head | {"streams": members_of(parts, homes[home])} for home in homes})
+        members: list[dict | None] = [None] * len(parts)
+        faults = []
+        for places, reply in zip(homes.values(), replies, strict=True):
+            if isinstance(reply, Fault) or "error" in reply:
+                faults.append(fault_of(reply))
+                continue
+            for place, member in zip(places, reply["push"], strict=True):
+                members[place] = member
+        in_doubt = bool(faults) and (len(replies) > 1 or isinstance(replies[0], Fault))
+        return members, faults[0] if faults else None, in_doubt
 
     def _count(self, outcome: verdicts.Outcome) -> None:
         self.metrics.already_there.inc(outcome.already_there)
@@ -141,6 +163,18 @@ class Pushes:
         self.metrics.not_durable.inc(outcome.not_durable)
         for reason, count in outcome.refused.items():
             self.metrics.refused.labels(reason).inc(count)
+
+
+def members_of(parts: list[verdicts.Part], places: list[int]) -> list[dict]:
+    """The members of a push for the parts at these places."""
+    return [{"stream": parts[place].content.labels, "values": parts[place].content.values} for place in places]
+
+
+def fault_of(reply: dict | Fault) -> Fault:
+    """The answer where a push has no reply, or is refused."""
+    if isinstance(reply, Fault):
+        return reply
+    return Fault(400 if reply["number"] in SENDER_FAULTS else 500, f"the program refuses the push: {reply}\n")
 
 
 def entries_of(streams: list[tuple[int, Stream]]) -> int:

@@ -1,4 +1,4 @@
-"""What an agent sends again after a start, because the run before ended without an answer to it.
+"""What an agent sends again after a start, because the run before, or a channel, ended without an answer to it.
 
 A push that was not answered may have been taken. Before this start a stream had some greatest stamp; an entry above it is new.
 One that is not is asked for, by stream, stamp and line, and left out where it stands. So what is left out is there, and what
@@ -6,6 +6,7 @@ is not there is pushed: whichever push of the run before is sent again, whenever
 whose stamp and line its stream has already, from before the start, is not stored a second time; Loki has no second one either.
 """
 import asyncio
+from collections.abc import Awaitable, Callable
 from dataclasses import dataclass, field
 
 from . import pages
@@ -22,14 +23,30 @@ BAD_SELECTOR, TOO_WIDE = 8, 9
 class Resent:
     """Leaves out what stands. `fresh`: nothing stood before this start, so nothing needs to be asked for.
 
-    Who holds `lock` looks and pushes, one after another: two pushes of the same entries do not both find them absent.
+    Who holds `lock` looks and pushes, one after another: two pushes of the same entries do not both find them absent. `doubts`
+    counts pushes that may have been taken in part, of which `settled` are in a log, as far as they were.
     """
 
     ask: pages.Ask
+    checkpoint: Callable[[], Awaitable[None]]
     streams: Streams
     metrics: Metrics
     fresh: bool = False
+    doubts: int = 0
+    settled: int = 0
     lock: asyncio.Lock = field(default_factory=asyncio.Lock)
+
+    def doubt(self, tenant: str, streams: list[tuple[int, Stream]]) -> None:
+        """Notes that entries of these may have been taken without an answer: they are looked for as after a start.
+
+        That is to be called when nothing of them is under way any more.
+        """
+        self.doubts += 1
+        self.fresh = False
+        for _, stream in streams:
+            known = self.streams.find(tenant, canonical_name(stream.labels))
+            if known is not None:
+                known.before = None
 
     def may_stand(self, tenant: str, streams: list[tuple[int, Stream]]) -> bool:
         """Whether an entry of these may have been pushed before this start."""
@@ -46,6 +63,11 @@ class Resent:
 
         Raises Fault 503 where that cannot be told.
         """
+        doubts = self.doubts
+        if self.settled < doubts:
+            # What a channel took and did not answer stands, but may not be in a log yet.
+            await self.checkpoint()
+            self.settled = doubts
         return [(place, await self._without_standing(tenant, stream)) for place, stream in streams]
 
     async def _without_standing(self, tenant: str, stream: Stream) -> Stream:
@@ -72,11 +94,13 @@ class Resent:
         known = self.streams.find(tenant, name)
         if known is not None and known.before is not None:
             return known.before
+        doubts = self.doubts
         reply = await self.ask(pages.Range(tenant, name, backward=True).command(1))
         if reply.get("number") in (BAD_SELECTOR, TOO_WIDE):
             return -1  # No stream has such labels: the push will be refused.
         if "error" in reply:
             raise unavailable(f"whether these entries stand already cannot be told: {reply}\n")
         before = max((int(entry["stamp"]) for entry in reply["query"]["entries"]), default=-1)
-        self.streams.note(tenant, name, stream.labels, before)
+        # Where something has come into doubt meanwhile, this may be too little for what is sent again.
+        self.streams.note(tenant, name, stream.labels, before if doubts == self.doubts else None)
         return before

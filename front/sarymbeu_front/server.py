@@ -36,12 +36,13 @@ class Front:
     def __init__(self, settings: Settings, limits: AllLimits):
         self.settings = settings
         self.metrics = Metrics(lambda: self.child.pid)
-        self.child = Child([settings.program, settings.settings_file, settings.folder], self.metrics)
+        self.child = Child([settings.program, settings.settings_file, settings.folder], self.metrics, settings.channels)
         self.streams = Streams(settings.known_streams, self.metrics)
-        self.resent = Resent(self.child.ask, self.streams, self.metrics)
+        self.housekeeping = Housekeeping(self.child, self.metrics, settings)
+        self.resent = Resent(self.child.ask, self.housekeeping.checkpoint, self.streams, self.metrics)
         self.pushes = Pushes(self.child, limits, self.streams, self.resent, self.metrics, settings)
         self.queries = Queries(self.child.ask, self.streams, settings)
-        self.housekeeping = Housekeeping(self.child, self.metrics, settings)
+        self.counting = asyncio.Lock()
         self.ready = False
         self.stopping = False
         self.active = 0
@@ -106,7 +107,9 @@ class Front:
 
     async def _metrics(self, _: web.Request) -> web.Response:
         if self.ready and not self.child.ended.is_set():
-            reply = await self.child.ask({"cmd": "board"})
+            # One at a time: of two channels the later reply could have the earlier counts, and these never fall.
+            async with self.counting:
+                reply = await self.child.ask({"cmd": "board"})
             self.metrics.board.shards = reply.get("board", [])
         return web.Response(body=self.metrics.page(), headers={"Content-Type": "text/plain; version=0.0.4; charset=utf-8"})
 
@@ -131,7 +134,7 @@ class Front:
         began = time.monotonic()
         # Beside recovery: before and behind it the logs name the same streams.
         named = asyncio.create_task(asyncio.to_thread(streams_of, self.settings.folder))
-        reply = await self.child.ask({"cmd": "board"})
+        reply = await self.child.begin()
         for (tenant, name), labels in (await named).items():
             self.streams.note(tenant, name, labels)
         # Where no shard has an entry, nothing that is sent can have been taken before.
@@ -149,6 +152,21 @@ class Front:
         if self.active:
             log.warning("%d requests were not answered in time", self.active)
 
+    async def flush_at_the_end(self) -> None:
+        """A forced flush, of which the log tells."""
+        try:
+            log.info("flush at the end: %s", json.dumps(await self.housekeeping.flush(forced=True)))
+        except Fault as fault:
+            log.error("no flush at the end: %s", fault.text.rstrip())
+
+
+def stopper() -> asyncio.Event:
+    """What SIGTERM and SIGINT set from now on."""
+    stop = asyncio.Event()
+    for number in (signal.SIGTERM, signal.SIGINT):
+        asyncio.get_running_loop().add_signal_handler(number, stop.set)
+    return stop
+
 
 async def serve(settings: Settings) -> int:
     """Runs the front until a signal or the end of the program, and gives the status to end with."""
@@ -156,13 +174,11 @@ async def serve(settings: Settings) -> int:
         limits = read_limits(settings.settings_file)
         handle = lock_folder(settings.folder, LOCK_WAIT)
         front = Front(settings, limits)
+        stop = stopper()
         await front.child.start((handle,))
     except (OSError, ValueError) as fault:
         log.error("no start: %s", fault)
         return BAD_SETTINGS
-    stop = asyncio.Event()
-    for number in (signal.SIGTERM, signal.SIGINT):
-        asyncio.get_running_loop().add_signal_handler(number, stop.set)
     # The front unpacks bodies itself, so that none grows beyond its bound.
     runner = web.AppRunner(front.application(), access_log=log if settings.access_log else None, auto_decompress=False)
     await runner.setup()
@@ -190,7 +206,7 @@ async def _until_the_end(front: Front, site: web.TCPSite, stop: asyncio.Event) -
         await front.drain()
         work.cancel()
         if front.settings.flush_on_shutdown and front.ready:
-            log.info("flush at the end: %s", json.dumps(await front.housekeeping.flush(forced=True)))
+            await front.flush_at_the_end()
     else:
         log.error("the program has ended by itself")
     status = await front.child.end()

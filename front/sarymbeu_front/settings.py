@@ -6,6 +6,8 @@ from dataclasses import dataclass
 from .stamps import duration
 
 SETTINGS_FILE, FOLDER = "settings_file", "folder"
+# As many as a program has shards at most: more would wait for each other.
+MAX_CHANNELS = 64
 
 
 @dataclass(frozen=True)
@@ -15,6 +17,7 @@ class Settings:
     settings_file: str
     folder: str
     program: str
+    channels: int
     listen_address: str
     listen_port: int
     shutdown_timeout: int
@@ -53,6 +56,12 @@ def _above_zero(text: str) -> int:
     return int(text)
 
 
+def _channels(text: str) -> int:
+    if _above_zero(text) > MAX_CHANNELS:
+        raise argparse.ArgumentTypeError(f"at most {MAX_CHANNELS} are wanted")
+    return int(text)
+
+
 def _parser() -> argparse.ArgumentParser:
     parser = argparse.ArgumentParser(prog="sarymbeu-front", description="Loki's HTTP API in front of ingestd.")
     parser.add_argument(SETTINGS_FILE, metavar="SETTINGS", help="the program's settings file; /dev/null gives its defaults")
@@ -86,6 +95,8 @@ def _parser() -> argparse.ArgumentParser:
             parser.add_argument(f"--{name}", dest=member, type=kind, default=default, help=f"{text} (%(default)s)")
     for name, (member, text) in flags.items():
         parser.add_argument(f"--{name}", dest=member, action="store_true", help=text)
+    channels = "channels to the program; of several the first has sweeps, flushes and checkpoints alone (%(default)s)"
+    parser.add_argument("--channels", type=_channels, default=1, help=channels)
     metadata = "what is done with entries that have structured metadata: refused, or dropped and counted (%(default)s)"
     parser.add_argument("--structured-metadata", choices=("refuse", "drop"), default="refuse", help=metadata)
     return parser

@@ -4,6 +4,7 @@ from collections.abc import Iterator
 from dataclasses import dataclass, field
 
 from .bodies import Stream
+from .faults import Fault
 from .labels import canonical_name
 from .limits import Limits
 from .stamps import rfc3339
@@ -33,7 +34,10 @@ class Part:
 
 @dataclass
 class Outcome:
-    """What came of the streams of a push, in entries. `again` are streams of the body that were too many."""
+    """What came of the streams of a push, in entries. `again` are streams of the body that were too many.
+
+    Of `unanswered` entries it is not known, since `fault` came in the place of a reply.
+    """
 
     accepted: int = 0
     duplicate: int = 0
@@ -43,6 +47,8 @@ class Outcome:
     reason: str = ""
     too_many: str = ""
     again: set[int] = field(default_factory=set)
+    unanswered: int = 0
+    fault: Fault | None = None
 
     def refuse(self, name: str, text: str, count: int = 1) -> None:
         """Counts entries that are refused for good."""
@@ -70,10 +76,13 @@ def _parts(place: int, stream: Stream, most: int) -> Iterator[Part]:
         yield Part(place, first, Stream(stream.labels, stream.values[first : first + most]))
 
 
-def judge(parts: list[Part], replies: list[dict], limits: Limits, tenant: str) -> Outcome:
-    """What came of `parts`, by the member of the reply for each."""
+def judge(parts: list[Part], replies: list[dict | None], limits: Limits, tenant: str) -> Outcome:
+    """What came of `parts`, by the member of the reply for each, or None where there is none."""
     outcome = Outcome()
     for part, reply in zip(parts, replies, strict=True):
+        if reply is None:
+            outcome.unanswered += len(part.content.values)
+            continue
         if "error" in reply:
             name = STREAM_REFUSALS.get(reply["number"], reply["error"])
             outcome.refuse(name, stream_reason(part.content, reply, limits), len(part.content.values))

@@ -3,13 +3,20 @@
 
 FRONT_STAND_IN says what else it does: with `mute` it answers nothing, with `dies` it ends at the first push, with `sleepy` pushes
 and queries take 0.3 seconds, with `fails` flushes and checkpoints fail; with `keeps` its entries are kept in
-FOLDER/stand-in.json, so that a second run has those of the first.
+FOLDER/stand-in.json, so that a second run has those of the first; with `refuses` it ends at once.
+
+Of channels: with `uneven` each takes a time of its own for a reply, with `held` queries wait until a flush is done, 3 seconds
+at most, with `late` they are opened after 0.4 seconds, with `unserved` the last one when the others have ended. A push with the
+line `break` is taken, and then the channel ends without a reply, a flush with `keeper` likewise; the line `half` is not taken,
+and of the reply a half is written.
 """
 import json
 import os
 import pathlib
+import random
 import re
 import sys
+import threading
 import time
 
 MODE = os.environ.get("FRONT_STAND_IN", "")
@@ -67,14 +74,12 @@ def query(command):
     return {"query": {"entries": entries, "fronts": [0]}}
 
 
-def reply(command):
+def reply(command, channel):
     count = sum(len(entries) for entries in streams.values())
-    if MODE == "sleepy" and command["cmd"] in ("push", "query"):
-        time.sleep(0.3)
     match command["cmd"]:
         case "push":
             if MODE == "dies":
-                sys.exit(3)
+                os._exit(3)
             answer = {"push": [push_stream(command["tenant"], stream) for stream in command["streams"]]}
             if MODE == "keeps":
                 PLACE.write_text(json.dumps(list(streams.items())))
@@ -86,12 +91,71 @@ def reply(command):
         case "sweep":
             return {"sweep": {"queued": 0, "sealed": 0}}
         case "flush":
-            return {"flush": {"failed": int(MODE == "fails"), "sealed": 1, "stored": 1}}
+            return {"flush": {"failed": int(MODE == "fails"), "sealed": 1, "stored": 1, "channel": channel}}
         case "checkpoint":
             return {"checkpoint": [MODE != "fails"]}
 
 
-for line in sys.stdin:
+class Broken(Exception):
+    """That a channel ends before its input does."""
+
+
+def lines_of(command):
+    return [line for stream in command.get("streams", []) for _, line in stream["values"]]
+
+
+def answer(line, channel, told):
+    """Obeys one command, as all channels do one after another, and writes the reply."""
+    command = json.loads(line)
+    if MODE == "sleepy" and command["cmd"] in ("push", "query"):
+        time.sleep(0.3)
+    if MODE == "held" and command["cmd"] == "query":
+        flushed.wait(3)
+    if "half" in lines_of(command):
+        print("{", end="", file=told, flush=True)
+        raise Broken
+    with turn:
+        text = json.dumps(reply(command, channel), separators=(",", ":"), ensure_ascii=False)
+    if command["cmd"] == "flush":
+        flushed.set()
+    if MODE == "uneven":
+        time.sleep(random.random() * 0.01)
+    if "break" in lines_of(command) or MODE == "keeper" and command["cmd"] == "flush" and channel == 0:
+        raise Broken
     if MODE != "mute":
-        print(json.dumps(reply(json.loads(line)), separators=(",", ":"), ensure_ascii=False), flush=True)
-print(json.dumps({"report": [{"accepted": sum(map(len, streams.values())), "kept": 0, "recovered": 0, "stored": 0}]}), flush=True)
+        print(text, file=told, flush=True)
+
+
+def serve(channel, given, told):
+    """Opens a channel, and serves it to its end; one that breaks is counted."""
+    try:
+        with open(given) as given, open(told, "w") as told:
+            for line in given:
+                answer(line, channel, told)
+    except (Broken, OSError):
+        broken.append(channel)
+
+
+def serve_channels(paths):
+    """Serves all channels, each in a thread."""
+    time.sleep(0.4 * (MODE == "late"))
+    threads = [threading.Thread(target=serve, args=(at // 2, *paths[at : at + 2])) for at in range(0, len(paths), 2)]
+    last = threads.pop() if MODE == "unserved" else None
+    for thread in threads:
+        thread.start()
+    for thread in threads:
+        thread.join()
+    if last is not None:
+        last.run()
+
+
+turn, flushed, broken = threading.Lock(), threading.Event(), []
+if MODE == "refuses":
+    sys.exit("ingestd: OtherSettings")
+if sys.argv[3:]:
+    serve_channels(sys.argv[3:])
+else:
+    for line in sys.stdin:
+        answer(line, 0, sys.stdout)
+report = {"report": [{"accepted": sum(map(len, streams.values())), "kept": 0, "recovered": 0, "stored": 0}]}
+print(json.dumps({"broken": len(broken)} | report if sys.argv[3:] else report), flush=True)
