@@ -28,7 +28,7 @@ help:
 	@echo 'make stress   10,000 lives of an ingester by lot, each of several threads'
 	@echo 'make kills    200 runs over a folder by lot, most of them killed, then 200 with files that may not grow, then each call for a file failed (by strace); KILLS=N, SEED=N'
 	@echo 'make channels 200 runs by lot with one to eight channels, of which some break, and some are killed, and fixed scenes; then what was told is altered in each of some ways, and every time it has to show; CHANNELS=N, SEED=N'
-	@echo 'make crashes  10,000 images that a power cut may leave of a folder, each started over, and as many behind a call that failed; then a program without one sync has to be caught, for each of four, and one that tells durable what failed; IMAGES=N, SEED=N'
+	@echo 'make crashes  10,000 images that a power cut may leave of a folder, each started over, and as many behind a call that failed; then a program without one sync has to be caught, for each of four, and one that tells durable what failed; then the same over channels, with a fifth of the images; IMAGES=N, SEED=N'
 	@echo 'make forged   1,000,000 chunk objects, index rows and logs by lot, most of them forged: each is read as a reader written from docs/FORMATS.md alone reads it, or refused alike; TEXTS=N, SEED=N'
 	@echo 'make inputs   10,000 inputs by lot, of one to five shards and one to four flushers, in memory and over a folder with new starts between: each reply is, byte for byte, that of a slow model written from docs/COMMANDS.md and docs/FORMATS.md; INPUTS=N, SEED=N'
 	@echo 'make memory   runs small inputs with each growth of memory refused in turn, one alone, by programs that are built for that, unproved; BODY=WORD'
@@ -136,11 +136,17 @@ channels: $(program)
 	@python3 channels/channels.py $(program) $(if $(CHANNELS),--rounds $(CHANNELS)) $(if $(SEED),--seed $(SEED))
 	@python3 channels/channels.py $(program) --plant each $(if $(SEED),--seed $(SEED))
 
+crashes: of_channels = $$((($(or $(IMAGES),10000) + 4) / 5))
 crashes: $(program) $(ctl)
 	@python3 crashes/crashes.py $(program) --ctl $(ctl) $(if $(IMAGES),--images $(IMAGES)) $(if $(SEED),--seed $(SEED))
 	@python3 crashes/crashes.py $(program) --ctl $(ctl) --fail $(if $(IMAGES),--images $(IMAGES)) $(if $(SEED),--seed $(SEED))
 	@for which in append beside folder begun told; do \
 	  python3 crashes/crashes.py $(program) --ctl $(ctl) $(if $(SEED),--seed $(SEED)) --without $$which || exit 1; \
+	done
+	@python3 crashes/crashes.py $(program) --ctl $(ctl) --channels 4 --images $(of_channels) $(if $(SEED),--seed $(SEED))
+	@python3 crashes/crashes.py $(program) --ctl $(ctl) --channels 4 --fail --images $(of_channels) $(if $(SEED),--seed $(SEED))
+	@for which in append beside folder begun told; do \
+	  python3 crashes/crashes.py $(program) --ctl $(ctl) --channels 3 $(if $(SEED),--seed $(SEED)) --without $$which || exit 1; \
 	done
 
 forged: $(program) $(ctl)

@@ -1,7 +1,8 @@
 #!/usr/bin/env python3
 """Cuts the power of ingestd over a folder, at drawn moments and in drawn ways, and looks whether what it had answered is there.
 
-    python3 crashes/crashes.py PROGRAM [--images N] [--seed N] [--jobs N] [--ctl PROGRAM] [--fail] [--without WHICH] [--history N]
+    python3 crashes/crashes.py PROGRAM [--channels N] [--images N] [--seed N] [--jobs N] [--ctl PROGRAM]
+        [--fail] [--without WHICH] [--history N]
     python3 crashes/crashes.py --check
 
 A run of `PROGRAM SETTINGS FOLDER` gets drawn commands, and `strace` records its calls for files and its replies, in one order. A
@@ -21,6 +22,12 @@ killed, with what was not synced then; or as an image of it. What a run begins w
 Besides, the order itself is looked at, in the record alone. Before a reply tells that something is durable or stored, these are
 synced: the logs, what leads to them, `lock`, and the names of the objects that the logs list. Before a rename the bytes of the
 renamed file are.
+
+With --channels a run is `PROGRAM SETTINGS FOLDER IN OUT ..`, with two to N channels, settings that only these have, as a clock,
+and commands for streams that are each channel's own (talks.py). Some have all at hand in a file, others wait for replies.
+What began to be written to an OUT was told there: what any channel was told durable has to be there, and of what each said behind
+that some may be, in its order. At a reply another thread may just be about to sync what has no push of this channel (order.py).
+Over an image the program is started with two words, as ever. Where a call fails a channel may break.
 
 With --fail a call fails in each run: a drawn one that writes, syncs, cuts, makes, renames or removes a file of the folder, with
 EIO or ENOSPC (by `strace`; the run is played beforehand, over a copy, to see which calls there are). It does nothing, and what
@@ -42,7 +49,6 @@ something, and at a wrong order, it says what, keeps the image, and ends with st
 """
 import argparse
 import collections
-import contextlib
 import copy
 import functools
 import itertools
@@ -51,44 +57,48 @@ import multiprocessing
 import os
 import pathlib
 import random
-import re
 import shutil
-import signal
 import subprocess
 import sys
 import tempfile
 from dataclasses import dataclass, field
 
 from disk import CALLS, KEPT, WAYS, Disk, check_disk, left_of, read_trace
+from order import check_rename, check_reply, leaves_out
+from talks import PATIENCE, Expected, Listener, Started, Talk, speak, speak_on_channels
 
-sys.path.insert(0, str(pathlib.Path(__file__).resolve().parent.parent / "kills"))
-from kills import SETTINGS, Fields, Folder, Model, calls_in, draw_commands, draw_queries, entries_of, run_traced  # noqa: E402
+# Its folder is among those of talks.py.
+from kills import CALLS as CALLS_OF_FILES
+from kills import SETTINGS, Fields, Folder, Model, calls_in, draw_queries, run_traced
 
 EACH = 100  # images of one history
 OF_A_KIND = 2  # images of one kind that are built in a run
 OF_A_RUN = 50  # images of a run
 OF_A_FAILING_RUN = 10
+MOST = 40  # commands of a run
+OF_CHANNELS = {"flush_check_period": ["0s", "0s", "1ms", "30ms"], "checkpoint_log_size": [0, 1, 3000], "diaries": [False, True]}
 ABOVE = ["", "above", "above/more"]  # folders that the program has to make, too
 WHICH = ["append", "beside", "folder", "begun", "told"]
 FAILING = ["openat", "write", "pwrite64", "fsync", "fdatasync", "ftruncate", "rename", "unlink", "mkdir"]
 ERRORS = ["EIO", "ENOSPC"]
-BEFORE, BEHIND = "before the first reply", "behind a reply"
+BEFORE, BEHIND, AMID = "before the first reply", "behind a reply", "several threads at work"
 STARTED, ANEW, MENDED = "started", "began anew", "started when mended"
 
 
 @dataclass
 class Image:
-    """What a power cut may leave: files by path, None for a folder. Its kind says how entries and bytes were left."""
+    """What a power cut may leave: files by path, None for a folder. Its kind says how entries and bytes were left, and `told` how
+    many replies each talk has."""
     kind: tuple
     moment: int
-    told: int
+    told: tuple
     files: dict
 
 
 @dataclass
 class Kill:
     """What a kill at a moment leaves: the model of files, which knows what is not synced."""
-    told: int
+    told: tuple
     disk: Disk
 
 
@@ -134,9 +144,11 @@ def offer_images(disk, lot, moment, told, failed):
     nodes, draw = disk.nodes(), lot.draw
     entries = [call for node in nodes if node.is_folder() for call in node.calls]
     has_bytes = any(node.calls for node in nodes if not node.is_folder())
+    threads = {call.thread for node in nodes for call in node.calls} - {None}
+    stage = BEFORE if not any(told) else BEHIND if len(threads) < 2 else AMID
     for name, kept in ways_of_entries(entries, draw):
         for way in [*WAYS, "drawn"] if has_bytes else ["none"]:
-            kind = (BEFORE if told == 0 else BEHIND, f"entries: {name if entries else 'none'}", f"bytes: {way}", *failed)
+            kind = (stage, f"entries: {name if entries else 'none'}", f"bytes: {way}", *failed)
 
             def build():
                 def text_of(node):
@@ -155,53 +167,9 @@ def offer_kill(disk, lot, told):
     lot.offer((frozenset(entries), has_bytes), lambda: Kill(told, copy.deepcopy(disk)))
 
 
-def leaves_out(which, opened):
-    """Whether a sync is the one that is left out."""
-    name = opened.path.rsplit("/", 1)[1]
-    has_renamed = opened.node.is_folder() and any(call.kind == "rename" for call in opened.node.calls)
-    return {
-        "append": re.fullmatch(r"wal-\d+", name),
-        "beside": name.endswith(".new"),
-        "folder": has_renamed,
-        "begun": name == "lock" or opened.node.is_folder() and not has_renamed,
-        "told": False,
-        None: False,
-    }[which]
-
-
 def makes_or_changes(name, line):
     """Whether a call is one that may be made to fail."""
     return name in FAILING and (name != "openat" or "O_CREAT" in line)
-
-
-def check_reply(disk, place, command, reply):
-    """The order at a reply: where it tells that something lasts, the calls before have made it last."""
-    kind = command["cmd"]
-    told = reply.get(kind)
-    if kind == "push":
-        lasting = [part["durable"] for part in told]
-    else:
-        lasting = told if kind == "checkpoint" else [kind == "flush" and told["stored"] > 0]
-    if not any(lasting):
-        return
-    path = place.path()
-    logs = [path / f"wal-{number}" for number in range(place.settings["shards"])]
-    for at in [*logs, path / "lock", path, *path.parents]:
-        node = disk.find(at)
-        assert not node or node.last == node.now(), f"a {kind} was answered before {at.name} was synced"
-    texts = [disk.find(log).now() for log in logs]
-    for name in [name for call in disk.find(path / "objects").calls for name in call.meant]:
-        # What a killed run left may stay as it is until a log lists it.
-        key = re.search("-([0-9a-f]{64})$", name)
-        is_listed = key and any(bytes.fromhex(key[1]) in text for text in texts)
-        assert not is_listed, f"a {kind} was answered before the entry {name} was synced"
-
-
-def check_rename(disk, called):
-    """The order at a rename: the bytes are synced."""
-    path = called.texts()[0].decode()
-    if node := disk.find(path):
-        assert not node.calls, f"{pathlib.Path(path).name} was renamed before it was synced"
 
 
 def write_files(top, files):
@@ -237,7 +205,7 @@ def make_place(parent, settings, above):
 def start(options, place, commands):
     """Runs the program over a folder to the end of these commands: its status, replies, and what it says."""
     lines = "".join(json.dumps(command) + "\n" for command in commands).encode()
-    ran = subprocess.run(place.words(options.program), input=lines, capture_output=True, timeout=60)
+    ran = subprocess.run(place.words(options.program), input=lines, capture_output=True, timeout=PATIENCE)
     return ran.returncode, [json.loads(line) for line in ran.stdout.splitlines()], ran.stderr.decode()
 
 
@@ -261,7 +229,7 @@ def mend(options, place):
         for path, text in logs.items():
             path.write_bytes(text)
         words = [options.ctl, "mend", place.path(), place.settings_file(), "--cut"]
-        ran = subprocess.run(words, capture_output=True, timeout=60)
+        ran = subprocess.run(words, capture_output=True, timeout=PATIENCE)
         assert ran.returncode == 0, f"mend ended with {ran.returncode}: {ran.stderr.decode()}"
         assert place.read() == found, "behind mend the logs have other chunks than their whole records"
         lost = [path.name for path, text in logs.items() if text not in files_below(place.path()).values()]
@@ -297,6 +265,10 @@ class History:
         self.options, self.draw = options, random.Random(f"{options.seed} {number}")
         settings = {name: self.draw.choice(values) for name, values in SETTINGS.items()}
         above, self.copy, self.failing = self.draw.choice(ABOVE), parent / f"copy-{number}", None
+        self.numbers, self.channels = [None], parent / f"channels-{number}"
+        if options.channels:
+            settings |= {name: self.draw.choice(values) for name, values in OF_CHANNELS.items()}
+            self.numbers = range(self.draw.randint(min(2, options.channels), options.channels))
         self.place = make_place(parent / f"history-{number}", settings, above)
         self.image_place = make_place(parent / f"image-{number}", settings, above)
         self.disk, self.found, self.before = Disk(self.place.top), {}, None
@@ -305,56 +277,61 @@ class History:
     def play(self):
         """Plays runs until there are images enough."""
         for run in itertools.count():
-            commands = self.draw_run(run)
-            self.failing = self.draw_failing(commands) if self.options.fail else None
-            self.record(run, commands)
-            images, kill, replies = self.read_record(commands)
-            started = self.check(run, images, commands, replies)
+            talks = self.draw_talks(run)
+            self.failing = self.draw_failing(talks) if self.options.fail else None
+            self.record(run, talks)
+            images, kill = self.read_record(talks)
+            started = self.check(run, images, talks)
             if sum(self.counts.values()) >= EACH or self.loss:
                 break
-            self.go_on(started, kill, commands, replies)
+            self.go_on(started, kill, talks)
+        shutil.rmtree(self.channels, ignore_errors=True)
         for place in [self.place] if self.loss else [self.place, self.image_place]:
             shutil.rmtree(place.top.parent)
 
-    def draw_run(self, run):
-        """The commands of a run. A later one begins with one that adds nothing, the reply to which tells that it goes on."""
-        kept, clock = {stream: entries_of(chunks) for stream, chunks in self.found.items()}, (10**9 + 7 * run) * 10**9
-        first = [{"cmd": "checkpoint"}, {"cmd": "flush"}, {"cmd": "flush", "forced": False}, {"cmd": "sweep", "now": str(clock)}]
-        return ([self.draw.choice(first)] if run else []) + draw_commands(self.draw, kept, clock)
+    def silent(self):
+        """Talks in which nothing is said."""
+        return [Talk(number) for number in self.numbers]
 
-    def draw_failing(self, commands):
+    def draw_talks(self, run):
+        """What is said in a run."""
+        talks = self.silent()
+        for talk in talks:
+            talk.draw(self.draw, self.found, (10**9 + 7 * run) * 10**9, run > 0, MOST // len(talks))
+        return talks
+
+    def draw_failing(self, talks):
         """The call that is to fail: what it is, its number in its thread, and the error. Each kind is as likely as another."""
         shutil.copytree(self.place.top.parent, self.copy)
         place = Place(self.copy / self.place.place.relative_to(self.place.top.parent), self.place.settings, self.copy / "top")
-        run_traced(self.options.program, place, Model(place, self.found), commands, self.copy / "trace")
-        calls = calls_in(self.copy / "trace", place.path(), makes_or_changes)
+        trace = self.copy / "trace"
+        if self.options.channels:
+            tracer = ["strace", "-f", "-qq", "-y", "-o", trace, "-e", f"trace={','.join(CALLS_OF_FILES)}"]
+            speak_on_channels(self.options.program, Started(place, tracer), talks, self.channels)
+        else:
+            run_traced(self.options.program, place, Model(place, self.found), talks[0].commands, trace)
+        calls = calls_in(trace, place.path(), makes_or_changes)
         shutil.rmtree(self.copy)
         kind = self.draw.choice(sorted({name for name, _ in calls}))
         return kind, self.draw.choice([number for name, number in calls if name == kind]), self.draw.choice(ERRORS)
 
-    def record(self, run, commands):
+    def record(self, run, talks):
         """Runs the program under strace. Where a call fails, it may end by that."""
         words = ["strace", "-f", "-qq", "-xx", "-s", str(2**24), "-e", "signal=none", "-e", f"trace={','.join(CALLS)}"]
         words += ["-e", "inject={0}:error={2}:when={1}".format(*self.failing)] if self.failing else []
-        words += ["-o", self.place.top.parent / "trace", *self.place.words(self.options.program)]
-        waits = len(commands) if self.draw.random() < 0.7 else min(run, 1)
-        lines, pipe = [json.dumps(command).encode() + b"\n" for command in commands], subprocess.PIPE
-        with subprocess.Popen(words, stdin=pipe, stdout=pipe, stderr=pipe, bufsize=0) as process:
-            signal.signal(signal.SIGALRM, lambda *_: process.kill())
-            signal.alarm(120)  # where nothing goes on
-            for line in lines[:waits]:
-                with contextlib.suppress(BrokenPipeError):
-                    process.stdin.write(line)
-                if not process.stdout.readline():
-                    break
-            _, says = process.communicate(b"".join(lines[waits:]))
-            signal.alarm(0)
-        ended = process.returncode, says
-        assert ended == (0, b"") or self.failing and ended[0] in (1, 2, 127), f"the program ended with {ended[0]}: {says}"
+        started = Started(self.place, [*words, "-o", self.place.top.parent / "trace"])
+        if self.options.channels:
+            status, says, report = speak_on_channels(self.options.program, started, talks, self.channels)
+            assert self.failing or report.startswith(b'{"broken":0,'), f"the program ended with {status}: {says}, {report}"
+        else:
+            waits = len(talks[0].commands) if self.draw.random() < 0.7 else min(run, 1)
+            status, says = speak(started.words(self.options.program), talks[0], waits)
+        is_well = (status, says) == (0, b"") or (self.failing and status in (1, 2, 127))
+        assert is_well, f"the program ended with {status}: {says}"
 
-    def read_record(self, commands):
-        """Tells the model of files what was recorded: images, kills, and the replies."""
-        lot, kills, written, replies = Lot(self.draw, OF_A_KIND), Lot(self.draw, 1), b"", []
+    def read_record(self, talks):
+        """Tells the model of files what was recorded, and the talks their replies: images, and a kill."""
+        lot, kills, listener = Lot(self.draw, OF_A_KIND), Lot(self.draw, 1), Listener(talks)
         failed = ["{0} failed with {2}".format(*self.failing)] if self.failing else []
         may_offer = not failed
         steps = read_trace((self.place.top.parent / "trace").read_text().splitlines())
@@ -362,27 +339,33 @@ class History:
             if called.is_failed:
                 may_offer = True
                 continue
-            if not begins:
-                self.disk.end(called)
+            if begins:
+                self.begin(called, listener)
             else:
-                if called.name in ("write", "writev") and called.number(0) == 1:
-                    written += b"".join(called.texts())[: called.result]
-                    for line in written.split(b"\n")[len(replies) : -1]:
-                        if self.options.without == "told":
-                            line = line.replace(b'"durable":false', b'"durable":true')
-                        replies.append(json.loads(line))
-                        if len(replies) <= len(commands):
-                            self.look(lambda: check_reply(self.disk, self.place, commands[len(replies) - 1], replies[-1]))
-                elif called.name.startswith("rename"):
-                    self.look(lambda: check_rename(self.disk, called))
-                self.disk.begin(called, lambda opened: leaves_out(self.options.without, opened))
-            told = min(len(replies), len(commands))
+                self.disk.end(called)
+                listener.end(called)
             if may_offer:
-                offer_images(self.disk, lot, moment, told, failed)
-                offer_kill(self.disk, kills, told)
+                offer_images(self.disk, lot, moment, listener.told(), failed)
+                offer_kill(self.disk, kills, listener.told())
         assert self.disk.image() == files_below(self.place.top), "the record does not give what lies in the folder"
+        listener.check_heard()
+        assert failed or all(len(talk.replies) == len(talk.commands) for talk in talks), "a command has no reply in the record"
         self.disk.stop()
-        return lot.images(), kills.any() if kills.taken else None, replies[: len(commands)]
+        return lot.images(), kills.any() if kills.taken else None
+
+    def begin(self, called, listener):
+        """Notes that a call begins, and looks at the order there."""
+        talk, places = listener.begin(called, self.alter)
+        for place in places:
+            command, reply = talk.commands[place], talk.replies[place]
+            self.look(lambda: check_reply(self.disk, self.place, talk, called.thread, command, reply))
+        if called.name.startswith("rename"):
+            self.look(lambda: check_rename(self.disk, called))
+        self.disk.begin(called, lambda opened: leaves_out(self.options.without, opened))
+
+    def alter(self, line):
+        """The line of a reply, as it is read."""
+        return line.replace(b'"durable":false', b'"durable":true') if self.options.without == "told" else line
 
     def look(self, check):
         """Looks at the order, and keeps what is first wrong with it."""
@@ -392,51 +375,51 @@ class History:
         except AssertionError as fault:
             self.order = self.order or str(fault)
 
-    def model_of(self, commands, replies):
-        """What may be there, and has to be, behind some replies."""
-        model = Model(self.place, self.found, may_fail=bool(self.failing))
-        for command, reply in itertools.zip_longest(commands, replies):
-            model.note(command, reply)
-        return model
+    def expect(self, talks, told):
+        """What may be there, and has to be, behind so many replies."""
+        return Expected(self.place, self.found, talks, told, may_fail=bool(self.failing))
 
-    def check(self, run, images, commands, replies):
+    def check(self, run, images, talks):
         """Looks at images of a run, up to the first that loses. Those over which the program started, with what was found."""
-        models, started = {0: self.before or self.model_of(commands, [])}, []
-        self.before = models[0]
+        none = (0,) * len(talks)
+        expected, started = {none: self.before or self.expect(talks, none)}, []
+        self.before = expected[none]
         count = OF_A_FAILING_RUN if self.failing else OF_A_RUN
         for image in self.draw.sample(images, min(count, len(images))):
-            if image.told not in models:
-                models[image.told] = self.model_of(commands, replies[: image.told])
+            if image.told not in expected:
+                expected[image.told] = self.expect(talks, image.told)
             write_files(self.image_place.top, image.files)
             try:
-                outcome, found = check_image(self.options, self.image_place, models[image.told])
+                outcome, found = check_image(self.options, self.image_place, expected[image.told])
             except Exception as fault:
                 kind = ", ".join(image.kind[1:])
                 said = f"{type(fault).__name__}: {fault}"[:2000]
-                self.loss = f"run {run}, moment {image.moment}, {image.told} replies, {kind}: {said}"
+                replies = " and ".join(map(str, image.told))
+                self.loss = f"run {run}, moment {image.moment}, {replies} replies, {kind}: {said}"
                 write_files(self.image_place.top, image.files)
                 break
             self.counts[image.kind, outcome] += 1
             started += [(image, found)] if outcome == STARTED else []
         return started
 
-    def go_on(self, started, kill, commands, replies):
+    def go_on(self, started, kill, talks):
         """Makes the next run begin with what the last one left: at its end, where it is killed, or as an image over which the
         program started. Behind a call that failed it is an image, or nothing: what else there is need not last."""
         way, top = self.draw.random(), self.place.top
+        told = tuple(len(talk.replies) for talk in talks)
         if self.failing or (way < 0.4 and started):
             files, self.found = {}, {}
             if started:
                 image, self.found = self.draw.choice(started)
                 files = image.files
             write_files(top, files)
-            self.disk, self.before = Disk(top, files), self.model_of([], [])
+            self.disk, self.before = Disk(top, files), self.expect(self.silent(), (0,) * len(talks))
             return
         if way < 0.8:
-            self.disk, replies = kill.disk, replies[: kill.told]
+            self.disk, told = kill.disk, kill.told
             self.disk.stop()
             write_files(top, self.disk.image())
-        self.before = self.model_of(commands, replies) if replies else self.before
+        self.before = self.expect(talks, told) if any(told) else self.before
         self.found = self.place.read()
 
 
@@ -492,6 +475,7 @@ def main():
     parser.add_argument("program", nargs="?")
     parser.add_argument("--images", type=int, default=10000)
     parser.add_argument("--seed", type=int, default=random.randrange(2**32))
+    parser.add_argument("--channels", type=int, default=0, help="speak on up to so many channels, not at one input")
     parser.add_argument("--jobs", type=int, default=os.cpu_count(), help="how many histories are played side by side")
     parser.add_argument("--ctl", help="ingestctl, which mends")
     parser.add_argument("--fail", action="store_true", help="fail a call in each run")

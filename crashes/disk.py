@@ -24,6 +24,7 @@ class Write:
     at: int
     data: bytes
     has_ended: bool = False
+    thread: str = None
 
     def on(self, text):
         return text[: self.at].ljust(self.at, b"\0") + self.data + text[self.at + len(self.data) :]
@@ -37,6 +38,7 @@ class Truncation:
     """The size that a file is given."""
     size: int
     has_ended: bool = False
+    thread: str = None
 
     def on(self, text):
         return text[: self.size].ljust(self.size, b"\0")
@@ -48,6 +50,7 @@ class Entries:
     kind: str
     meant: dict
     has_ended: bool = False
+    thread: str = None
 
     def on(self, entries):
         return {name: node for name, node in {**entries, **self.meant}.items() if node}
@@ -92,6 +95,7 @@ class Called:
     """A call as it was seen. The result is None where it did not return. One that was made to fail has done nothing."""
     name: str
     words: str
+    thread: str
     result: int = None
     is_failed: bool = False
 
@@ -114,7 +118,7 @@ def read_trace(lines):
         thread, name, rest = match.groups()
         assert "..." not in rest.replace("<unfinished ...>", ""), f"a text is cut off in {line[:200]}"
         if name:
-            called = Called(name, "")
+            called = Called(name, "", thread)
             steps.append((called, True))
         else:
             called = waiting.pop(thread)
@@ -155,6 +159,7 @@ class Disk:
     def change(self, called, node, call):
         """Puts a call behind those of a file or folder."""
         node.calls.append(call)
+        call.thread = called.thread
         self.running.setdefault(id(called), []).append(call)
 
     def begin(self, called, is_left_out=lambda opened: False):
@@ -231,10 +236,10 @@ class Disk:
                 self.opened[called.result] = Opened(node, path, appends="O_APPEND" in called.words)
 
     def stop(self):
-        """Notes that the program has ended: nothing is open, and what it had begun counts as done."""
+        """Notes that the program has ended: nothing is open, and what it had begun counts as done, by no thread."""
         for node in self.nodes():
             for call in node.calls:
-                call.has_ended = True
+                call.has_ended, call.thread = True, None
         self.opened, self.running = {}, {}
 
     def nodes(self):
