@@ -15,11 +15,13 @@ returns-in-Err-clause-differs g c honest =
     let one = c.index-helds-place.result in
     let shards = g.N.NodeName.settings.shards in
     let had = had_there c.args.fronts.now g.N.NodeName.earlier place c.index-fronts-place.result c.requires.fronts (omega (arith, c.loop-place-test.true, c.requires.each)) c.index-fronts-place.is in
-    let F = λ (rows : List Row) (n k : ℕ). NamesOther (rows_since (front_in c.index-fronts-place.result) rows) (notes_at n k c.args.pushers.now) c.in-Err.why in
-    (one, stands_there helds place one c.loop-place-test.true c.index-helds-place.is,
-    subst (λ (f : StreamKey → ℕ). NamesOther (rows_since f one.shard.memory.state.rows) (notes_at shards place c.args.pushers.now) c.in-Err.why) (sym had)
-    (so_there (λ h. h.shard.memory) helds place one c.memory.result.now shards F c.loop-place-test.true c.index-helds-place.is c.memory.ensures c.requires.placed c.requires.all
-    (c.in-Err.ensures.differs honest)))
+    let F = λ (rows : List Row) (n k : ℕ). NamesOther (rows_since (front_in c.index-fronts-place.result) rows) (notes_at n k c.args.pushers.now) c.in-Err.why in (
+      one,
+      stands_there helds place one c.loop-place-test.true c.index-helds-place.is,
+      subst (λ (f : StreamKey → ℕ). NamesOther (rows_since f one.shard.memory.state.rows) (notes_at shards place c.args.pushers.now) c.in-Err.why) (sym had)
+          (so_there (λ h. h.shard.memory) helds place one c.memory.result.now shards F c.loop-place-test.true c.index-helds-place.is c.memory.ensures c.requires.placed c.requires.all
+          (c.in-Err.ensures.differs honest)),
+    )
 
 pub loop-place-preserved : goal.loop-place-preserved
 loop-place-preserved g c =
