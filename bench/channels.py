@@ -7,7 +7,10 @@ Pushes of one entry and of 100 entries of 120 bytes, N together (20,000; of 100 
 come from files through 1, 2, 4 and 8 channels, over 1 and 4 shards; beside them the same lines on standard input. Lines that are at
 hand share a sync. Every entry has to be accepted, or it stops. Then one client pushes a tenth of N, one entry after another through
 pipes, and waits for each reply, while 0, 1, 3 and 7 channels, each of a tenant of its own, push ten times N each from files; where these
-had ended before, the figures say so. Prints two tables; a start and an end are in the figures of the first.
+had ended before, the figures say so. Then N pushes of one entry, and a tenth of that of 100, come through four channels without diaries
+and with them: what the end of the run compares has to be noted until then. Last, clients of one shard push a tenth of N together, and each
+waits for a reply before it pushes again, while every sync takes 5 milliseconds longer (by `strace`, where it is installed). Prints four
+tables; a start and an end are in the figures of all but the second.
 """
 import argparse
 import json
@@ -17,6 +20,7 @@ import statistics
 import subprocess
 import sys
 import tempfile
+import threading
 import time
 
 TOP = pathlib.Path(__file__).resolve().parent.parent
@@ -26,6 +30,7 @@ from kills import Folder  # noqa: E402
 
 START = 10**18
 SHARDS, CHANNELS = [1, 4], [1, 2, 4, 8]
+SLOWER = 5000  # microseconds
 
 
 def push_line(number, entries, tenant="t"):
@@ -47,10 +52,40 @@ class Timed(Client):
         self.process.kill()
 
 
-def new_folder(parent, shards):
-    folder = Folder(parent / "run", {"shards": shards, "max_streams_per_tenant": 100_000})
+class Peak:
+    """The most memory that a process had, in MiB: read until it is gone, so what it took in its last 10 milliseconds may be missing."""
+
+    def __init__(self, process):
+        self.mebibytes, self.process = 0, process
+        threading.Thread(target=self.watch, daemon=True).start()
+
+    def watch(self):
+        while self.process.returncode is None:
+            try:
+                status = pathlib.Path(f"/proc/{self.process.pid}/status").read_text()
+            except OSError:
+                return
+            for line in status.splitlines():
+                if line.startswith("VmHWM:"):
+                    self.mebibytes = int(line.split()[1]) / 1024
+            time.sleep(0.01)
+
+
+def new_folder(parent, shards, **settings):
+    folder = Folder(parent / "run", {"shards": shards, "max_streams_per_tenant": 100_000, **settings})
     folder.make()
     return folder
+
+
+class SlowDisk(Folder):
+    """The program over it is traced: each sync takes longer, and is noted."""
+
+    def words(self, program):
+        traced = ["-e", "trace=fdatasync", "-e", f"inject=fdatasync:delay_exit={SLOWER}", "-o", self.place / "trace"]
+        return ["strace", "-f", "-qq", *traced, *super().words(program)]
+
+    def syncs(self):
+        return (self.place / "trace").read_text().count("fdatasync(")
 
 
 def is_whole(report, count):
@@ -70,14 +105,14 @@ def seconds_of_input(options, parent, shards, lines, count):
     return seconds
 
 
-def seconds_of_channels(options, parent, shards, lines, count, channels):
+def seconds_of_channels(options, parent, shards, lines, count, channels, beside=lambda process: None, **settings):
     """Lines that come through so many channels."""
-    folder = new_folder(parent, shards)
+    folder = new_folder(parent, shards, **settings)
     clients = [Client(parent / "run" / str(number), lines[number::channels], FILES) for number in range(channels)]
     for client in clients:
         client.make()
     begun = time.monotonic()
-    status, output, error = run(options.program, folder, clients, patience=600)
+    status, output, error = run(options.program, folder, clients, beside=beside, patience=600)
     seconds = time.monotonic() - begun
     assert status == 0 and is_whole(json.loads(output)["report"], count), f"the run ended with {status}: {output}{error}"
     shutil.rmtree(folder.place)
@@ -120,6 +155,35 @@ def print_replies(options, parent):
             print(f"| {shards} | {beside}{', of which some had ended' * had_ended} | {p50 * 1000:.2f} | {p99 * 1000:.2f} |", flush=True)
 
 
+def print_diaries(options, parent):
+    print("| entries a push | entries | diaries | seconds | MiB at most |")
+    print("|---" * 5 + "|")
+    for entries, pushes in [(1, options.pushes), (100, options.pushes // 10)]:
+        lines, count = [push_line(number, entries) for number in range(pushes)], entries * pushes
+        for diaries in [False, True]:
+            peaks = []
+            seconds = seconds_of_channels(options, parent, 1, lines, count, 4, lambda process: peaks.append(Peak(process)), diaries=diaries)
+            print(f"| {entries} | {count:,} | {'with' if diaries else 'without'} | {seconds:.2f} | {peaks[0].mebibytes:.0f} |", flush=True)
+
+
+def print_waiting(options, parent):
+    print("| clients that wait | pushes a second | pushes a sync |")
+    print("|---|---|---|")
+    for count in CHANNELS:
+        folder = SlowDisk(parent / "run", {"shards": 1})
+        folder.make()
+        lines = [push_line(number, 1) for number in range(options.pushes // 10)]
+        clients = [Client(parent / "run" / str(number), lines[number::count], WHOLE) for number in range(count)]
+        for client in clients:
+            client.make()
+        begun = time.monotonic()
+        status, output, error = run(options.program, folder, clients, patience=600)
+        seconds = time.monotonic() - begun
+        assert status == 0 and is_whole(json.loads(output)["report"], len(lines)), f"the run ended with {status}: {output}{error}"
+        print(f"| {count} | {len(lines) / seconds:,.0f} | {len(lines) / folder.syncs():.1f} |", flush=True)
+        shutil.rmtree(folder.place)
+
+
 def main():
     parser = argparse.ArgumentParser(description=__doc__.split("\n")[0])
     parser.add_argument("program", type=lambda path: str(pathlib.Path(path).resolve()))
@@ -131,6 +195,13 @@ def main():
     print_rates(options, parent)
     print("\nMilliseconds of a reply to a push of one entry:\n")
     print_replies(options, parent)
+    print("\nSeconds and memory of four channels and one shard:\n")
+    print_diaries(options, parent)
+    if shutil.which("strace"):
+        print("\nClients of one shard that each wait for a reply, over a slower disk:\n")
+        print_waiting(options, parent)
+    else:
+        print("\nNo strace: nothing of clients that each wait for a reply.")
     shutil.rmtree(parent)
 
 

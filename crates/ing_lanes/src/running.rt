@@ -25,6 +25,7 @@ use ing_wal::LogDisk;
 use std::alloc::Global;
 use std::io::{Read, Write};
 use std::sync::Wait;
+use std::sync::atomic::AtomicU64;
 use std::thread::{Threads, for_each_mut};
 
 /// The ends of a store by which no channel reads.
@@ -132,6 +133,7 @@ pub fn run_lanes<
         flushing,
         settings,
         has_logs,
+        pushing: AtomicU64::new(0),
     };
     let Ends {
         flushers,

@@ -19,6 +19,15 @@ use ing_wal::LogDisk;
 use json::Scratch;
 use std::alloc::{AllocError, Global};
 use std::sync::Wait;
+use std::sync::atomic::Ordering;
+use std::{hint, thread};
+
+/// How often a channel that is through with its pushes lets others go first, before it syncs.
+const TURNS: u32 = 16;
+
+/// For how long each time: some ten microseconds, in which one wakes that waited for the lock. On a busy machine the turn of the
+/// processor comes behind them.
+const SPINS: u32 = 256;
 
 /// What came of one stream of a push, before what it wrote is synced.
 #[derive(Drop)]
@@ -51,7 +60,9 @@ impl<'r, N: NodeName, D: LogDisk + Drop, R: Receipt, F: StoreEnd<Receipt = R> + 
         ensures board { self.new.board ≡ self.old.board }
     {
         let mut marks = self.no_marks()?;
+        self.shared.pushing.fetch_add(1, Ordering::Relaxed);
         let drafts = self.draft_streams(push, &mut marks);
+        self.shared.pushing.fetch_sub(1, Ordering::Relaxed);
         // Also where memory ran out.
         self.sync(&mut marks);
         Ok(Reply::Push(told(self.alloc, drafts?, &marks)?))
@@ -73,7 +84,9 @@ impl<'r, N: NodeName, D: LogDisk + Drop, R: Receipt, F: StoreEnd<Receipt = R> + 
         ensures board { self.new.board ≡ self.old.board }
     {
         let mut marks = self.no_marks()?;
+        self.shared.pushing.fetch_add(1, Ordering::Relaxed);
         let drafts = self.draft_lines(first, lines, scratch, &mut marks);
+        self.shared.pushing.fetch_sub(1, Ordering::Relaxed);
         // Also where memory ran out.
         self.sync(&mut marks);
         told_each(self.alloc, drafts?, &marks)
@@ -98,10 +111,27 @@ impl<'r, N: NodeName, D: LogDisk + Drop, R: Receipt, F: StoreEnd<Receipt = R> + 
         requires { vec_len marks.old ≤ N.settings.shards }
         ensures { vec_len marks.new ≡ vec_len marks.old }
     {
+        if marks.len() > 0 {
+            self.let_others_push();
+        }
         for shard in 0..marks.len() {
             if marks[shard] {
                 marks[shard] = self.shared.ingester.sync(self.rt, shard as u32);
             }
+        }
+    }
+
+    /// Lets channels that push at this moment get through, so that one sync serves them too: else who has just had the lock often has it
+    /// again, for its sync, before those wake that wait for it. Where they take longer they are waited for no more.
+    fn let_others_push(&self) {
+        for _ in 0..TURNS {
+            if self.shared.pushing.load(Ordering::Relaxed) == 0 {
+                return;
+            }
+            for _ in 0..SPINS {
+                hint::spin_loop();
+            }
+            thread::yield_now();
         }
     }
 

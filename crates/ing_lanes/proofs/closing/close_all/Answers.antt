@@ -1,8 +1,6 @@
-use Rattle.std.proofs.Common.{◌≡◌, ◌∙◌, ℕ, Some, List, ap, length, slice_get, subst, sym, vec_len}
+use Rattle.std.proofs.Common.{◌≡◌, ◌∙◌, List, length, subst, sym}
 use Rattle.std.proofs.lemmas.List.Elements.{All-weaker}
 use Rattle.ing_tally.specs.Books.{ShareState}
-use Rattle.ing_tally.specs.declared.report.ShardReport.{ShardReport}
-use Rattle.ing_node.specs.declared.report.Report.{Report}
 use Rattle.ing_node.specs.Names.{IsTallyOf}
 use Rattle.ing_lanes.specs.Served.{HasReason}
 use Rattle.ing_lanes.proofs.CountLaws.{stored_beside}
