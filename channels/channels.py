@@ -120,10 +120,11 @@ def draw_killer(draw, most):
 def served(program, folder, before, clients, killer):
     """What is seen of a run, and what was found behind it."""
     status, output, error = run(program, folder, clients, killer)
-    is_killed = status == -9 and (killer.replies or killer.seconds) and not output
+    is_killed = status == -9 and (killer.replies or killer.seconds)
     assert is_killed or (status == 0 and not error), f"the program ended with {status}: {error}"
     after = folder.read()
-    if is_killed:
+    # A kill may come behind the report, too, while memory is given back.
+    if is_killed and not output:
         return Seen(folder, before, after, clients), after
     assert not folder.unfinished(), f"there lie {folder.unfinished()}"
     told = json.loads(output)
