@@ -27,10 +27,10 @@ TOP = pathlib.Path(__file__).resolve().parent.parent
 sys.path += [str(TOP / "channels"), str(TOP / "kills")]
 from clients import FILES, WHOLE, Client, run  # noqa: E402
 from kills import Folder  # noqa: E402
+from scenes import SlowDisk  # noqa: E402
 
 START = 10**18
 SHARDS, CHANNELS = [1, 4], [1, 2, 4, 8]
-SLOWER = 5000  # microseconds
 
 
 def push_line(number, entries, tenant="t"):
@@ -75,17 +75,6 @@ def new_folder(parent, shards, **settings):
     folder = Folder(parent / "run", {"shards": shards, "max_streams_per_tenant": 100_000, **settings})
     folder.make()
     return folder
-
-
-class SlowDisk(Folder):
-    """The program over it is traced: each sync takes longer, and is noted."""
-
-    def words(self, program):
-        traced = ["-e", "trace=fdatasync", "-e", f"inject=fdatasync:delay_exit={SLOWER}", "-o", self.place / "trace"]
-        return ["strace", "-f", "-qq", *traced, *super().words(program)]
-
-    def syncs(self):
-        return (self.place / "trace").read_text().count("fdatasync(")
 
 
 def is_whole(report, count):

@@ -196,6 +196,42 @@ def the_clock_stores(program, parent):
     assert sum(shard["stored"] for shard in report) == 200, f"the report is {report}"
 
 
+class SlowDisk(Folder):
+    """The program over it is traced: each sync of a log takes 5 milliseconds longer, and is noted."""
+
+    def words(self, program):
+        traced = ["-e", "trace=fdatasync", "-e", "inject=fdatasync:delay_exit=5000", "-o", self.place / "trace"]
+        return ["strace", "-f", "-qq", *traced, *super().words(program)]
+
+    def syncs(self):
+        return (self.place / "trace").read_text().count("fdatasync(")
+
+
+def syncs_of(program, parent, kind, each):
+    """How many syncs eight clients of a kind need, that push so many lines each to one shard."""
+    folder = SlowDisk(parent / "scene", SETTINGS | {"shards": 1})
+    folder.make()
+    clients = [Client(parent / f"{kind} {n}", [push_line(f"p{n}.0", at, [f"{n}.{at}"]) for at in range(each)], kind) for n in range(8)]
+    for client in clients:
+        client.make()
+    status, output, error = run(program, folder, clients, patience=PATIENCE)
+    assert (status, error) == (0, b""), f"the program ended with {status}: {error}"
+    assert json.loads(output)["report"][0]["accepted"] == 8 * each, f"the report is {output}"
+    syncs = folder.syncs()
+    shutil.rmtree(folder.place)
+    return syncs
+
+
+def pushes_share_syncs(program, parent):
+    """Pushes that are at hand together, and those of clients that each wait for their reply, take fewer syncs than there are pushes."""
+    if not shutil.which("strace"):
+        print("no strace: nobody looks whether pushes share syncs", flush=True)
+        return
+    at_hand, waiting = syncs_of(program, parent, FILES, 100), syncs_of(program, parent, WHOLE, 25)
+    assert at_hand < 800 / 20, f"800 pushes at hand took {at_hand} syncs"
+    assert waiting < 200 / 1.25, f"200 pushes of clients that wait took {waiting} syncs"
+
+
 class Spoils(Client):
     """Gives its lines, asks while a byte of each stored chunk is another, and once more when it is put back. `objects` is their folder."""
 
@@ -264,7 +300,7 @@ def streams_are_closed(program, parent):
         assert again == {"report": [{"accepted": 0, "kept": 1, "recovered": 1, "stored": 0}]}, f"behind stream {stream} closed: {again}"
 
 
-SCENES = [the_clock_stores, an_object_is_changed, one_reads_nothing, one_opens_late, one_has_no_input, all_break, nothing_is_said, words_do_not_fit, folder_is_in_use, streams_are_closed]
+SCENES = [the_clock_stores, pushes_share_syncs, an_object_is_changed, one_reads_nothing, one_opens_late, one_has_no_input, all_break, nothing_is_said, words_do_not_fit, folder_is_in_use, streams_are_closed]
 
 
 def play_scenes(program, parent, lines, counts):
