@@ -1,5 +1,5 @@
 //! All channels, side by side, from shards to a report.
-ghost use Rattle.std.specs.Prelude.{◌≡◌, ℕ, All, IfErr, IfOk, List, false, reverse, sum_by, true, vec_len};
+ghost use Rattle.std.specs.Prelude.{◌≡◌, All, IfErr, IfOk, List, false, reverse, true, vec_len};
 ghost use Rattle.std.specs.List.{AllByRecursion, AllZip};
 ghost use Rattle.ing_node.specs.Begun.{HasTornLog};
 ghost use Rattle.ing_lanes.specs.ByLane.{nothing_held};
@@ -16,8 +16,8 @@ use crate::closing::{Parted, close_all, part_all};
 use crate::fault::LanesFault;
 use crate::line::{Line, Opens};
 use crate::opening::channels_of;
-use crate::shared::Shared;
-use ing_node::{Closed, ClosedShard, Flushing, Ingester, NodeName, Shards, Sweeper};
+use crate::shared::{Opened, Shared};
+use ing_node::{Closed, ClosedShard, NodeName, Shards, Sweeper};
 use ing_refusals::Refusal;
 use ing_store::{Receipt, StoreEnd};
 use ing_tally::ShardReport;
@@ -25,7 +25,6 @@ use ing_wal::LogDisk;
 use std::alloc::Global;
 use std::io::{Read, Write};
 use std::sync::Wait;
-use std::sync::atomic::AtomicU64;
 use std::thread::{Threads, for_each_mut};
 
 /// The ends of a store by which no channel reads.
@@ -113,28 +112,14 @@ pub fn run_lanes<
         CountRows (λ shard. shard.state.rows) ended.shards.items ended.reports.items) }
     ensures refused { IfErr result (IsLanesFault N.settings) }
 {
-    let Ok(settings) = shards.settings().try_clone() else {
-        shards.abandon();
+    let Ok(opened) = Shared::<N, D, R>::open(alloc, shards, has_logs) else {
         return Err(LanesFault::NotOpened(Refusal::NoMemory));
     };
-    let (ingester, earlier) = match Ingester::<N, D, R>::open(alloc, shards) {
-        Ok(opened) => opened,
-        Err(shards) => {
-            shards.abandon();
-            return Err(LanesFault::NotOpened(Refusal::NoMemory));
-        }
-    };
-    let Ok((flushing, mut sweeper)) = Flushing::open(alloc, &settings) else {
-        earlier.strand();
-        return Err(LanesFault::NotOpened(Refusal::NoMemory));
-    };
-    let shared = Shared {
-        ingester,
-        flushing,
-        settings,
-        has_logs,
-        pushing: AtomicU64::new(0),
-    };
+    let Opened {
+        shared,
+        earlier,
+        mut sweeper,
+    } = opened;
     let Ends {
         flushers,
         mut reader,

@@ -1,10 +1,12 @@
 -- How a run of several channels ends, and what is reported of it.
-use Rattle.std.proofs.Common.{◌≡◌, ◌≢◌, ◌+◌, ◌-◌, ◌*◌, ◌≤◌, ℕ, Bool, not, List, [], ◌∷◌, arith, drop, inl, inr, length, length-drop, length-take-le, refl, subst, take}
-use Rattle.std.specs.Prelude.{IsTrue, filter}
+use Rattle.std.proofs.Common.{◌≡◌, ◌≢◌, ◌+◌, ◌-◌, ◌*◌, ◌≤◌, ◌∙◌, ℕ, Bool, not, List, [], ◌∷◌, None, Err, ap, arith, drop, inl, inr, length, length-drop, length-take-le, refl, subst, sym, take}
+use Rattle.std.specs.Prelude.{IfErr, IfSome, IsTrue, Result, filter}
 use Rattle.std.proofs.lemmas.List.Filters.{length-filter_both}
+use Rattle.ing_limits.specs.Settings.{Refusal}
 use Rattle.ing_lanes.specs.RecoverFault.{RecoverFault}
-use Rattle.ing_lanes.specs.Endings.{ending_of_recover, is_of_run}
-use Rattle.ing_lanes.specs.Ending.TheVariants.{BadArguments}
+use Rattle.ing_lanes.specs.Endings.{ending_of_recover, is_of_run, refusal_of}
+use Rattle.ing_lanes.specs.Ending.{Ending}
+use Rattle.ing_lanes.specs.Ending.TheVariants.{NoMemory, NotToml, UnknownSetting, BadSetting, InputFault, OutputFault, BadArguments, NoSettings, NoFolder, NoObjects, FolderInUse, MissingLog, NotRecovered, NotServed, Differs}
 use Rattle.ing_lanes.proofs.EndingsLaws.{recover_ending}
 use Rattle.ing_lanes.specs.Served.{Account, AreServed}
 
@@ -14,6 +16,34 @@ not_of_words fault bad = elim (recover_ending fault) [
   | inl run ↦ absurd (cc (subst (λ e. IsTrue (is_of_run e)) bad run))
   | inr other ↦ absurd (cc (other.1, bad))
 ]
+
+-- and it is nothing that a settings file is refused for
+none_of_run : (e : Ending) → IsTrue (is_of_run e) → refusal_of e ≡ None
+none_of_run NoMemory run = refl
+none_of_run InputFault run = refl
+none_of_run OutputFault run = refl
+none_of_run NotToml run = absurd cc
+none_of_run (UnknownSetting name) run = absurd cc
+none_of_run (BadSetting name) run = absurd cc
+none_of_run BadArguments run = absurd cc
+none_of_run NoSettings run = refl
+none_of_run NoFolder run = refl
+none_of_run NoObjects run = refl
+none_of_run FolderInUse run = refl
+none_of_run MissingLog run = refl
+none_of_run (NotRecovered fault) run = refl
+none_of_run (NotServed refusal) run = refl
+none_of_run (Differs place) run = refl
+
+pub none_refused : (fault : RecoverFault) → refusal_of (ending_of_recover fault) ≡ None
+none_refused fault = elim (recover_ending fault) [ inl run ↦ none_of_run (ending_of_recover fault) run | inr other ↦ ap refusal_of other.1 ]
+
+-- what is refused for nothing of the settings is not refused for something else
+pub refused_by_none : (P : Refusal → Type 0) (e : Ending) → refusal_of e ≡ None → IfSome (refusal_of e) P
+refused_by_none P e none = subst (λ o. IfSome o P) (sym none) tt
+
+pub none_passed : {T : Type 0} (P : Refusal → Type 0) (ended : Result T Ending) (e told : Ending) → ended ≡ Err e → e ≡ told → refusal_of told ≡ None → IfErr ended (λ x. IfSome (refusal_of x) P)
+none_passed P ended e told is passed none = subst (λ r. IfErr r (λ x. IfSome (refusal_of x) P)) (sym is) (refused_by_none P e (ap refusal_of passed ∙ none))
 
 -- two words stand before the paths
 pub behind_two : {X : Type 0} (xs : List X) → 2 ≤ length xs → length xs ≡ 2 + length (take (length xs - 2) (drop 2 xs))

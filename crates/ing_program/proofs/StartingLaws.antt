@@ -1,6 +1,6 @@
 -- What the bytes of a settings file come to.
-use Rattle.std.proofs.Common.{◌≡◌, ◌+◌, ◌<◌, ◌≤◌, ℕ, List, [], ◌∷◌, None, Some, Ok, Err, ap, arith, length, sym, subst, ◌∙◌}
-use Rattle.std.specs.Prelude.{if◌then◌else◌, Option, Result, IfSome, IfErr, string_bytes}
+use Rattle.std.proofs.Common.{◌≡◌, ◌≢◌, ◌⊎◌, ◌+◌, ◌<◌, ◌≤◌, ℕ, List, [], ◌∷◌, None, Ok, Err, ap, arith, inl, inr, length, refl, sym, subst, ◌∙◌}
+use Rattle.std.specs.Prelude.{if◌then◌else◌, Result, IfSome, IfErr, string_bytes}
 use Rattle.std.specs.Result.{IsErrAnd}
 use Rattle.std.specs.Str.{is_utf8, IsUtf8}
 use Rattle.std.proofs.lemmas.Bool.{false_from_ne_true}
@@ -13,7 +13,10 @@ use Rattle.ing_service.specs.Ends.{up_to_last}
 use Rattle.ing_lanes.specs.Manners.{Manner}
 use Rattle.ing_lanes.specs.Ending.{Ending}
 use Rattle.ing_lanes.specs.Endings.{ending_of_settings, refusal_of}
-use Rattle.ing_program.specs.Starting.{BeginSettings, GiveSettings, InManner, IsOverFolder, NamesFile, manner_of, started_by}
+use Rattle.ing_lanes.specs.Ending.TheVariants as endings
+use Rattle.ing_lanes.specs.Runs.{IsUnbegun}
+use Rattle.ing_lanes.proofs.RunsLaws.{unbegun}
+use Rattle.ing_program.specs.Starting.{GiveSettings, InManner, IsOfFolder, IsOverFolder, NamesFile, manner_of, started_by}
 
 -- bytes that are no UTF-8 are no TOML
 pub started_unread : (file : List ℕ) → (IsUtf8 file → ⊥) → started_by file ≡ Err not_toml
@@ -75,16 +78,34 @@ module _ (honest : Type 0) (words : List (List ℕ)) (file bytes : List ℕ) (na
       → ((x : StoreSettings) × (started_by bytes ≡ Ok x) × IsOverFolder honest (λ m failed. P m x failed)) → GiveSettings honest words P
   give_over P some (x, is, p) = (file, named, x, subst (λ b. started_by b ≡ Ok x) same is, over_manner x (λ m failed. P m x failed) some p)
 
-  pub give_begun : ((x : StoreSettings) × (started_by bytes ≡ Ok x)) → BeginSettings words
-  give_begun (x, is) = (file, named, x, subst (λ b. started_by b ≡ Ok x) same is)
+-- ---- what ends a run before it begins
 
-  -- where the input is known
-  pub known_memory : (P : List ℕ → Manner → StoreSettings → ℕ → Type 0) → length words ≤ 1 → (known : Option (List ℕ))
-      → IfSome known (λ input. (x : StoreSettings) × (started_by bytes ≡ Ok x) × P input (manner_of x) x 0) → IfSome known (λ input. GiveSettings honest words (P input))
-  known_memory P few None said = tt
-  known_memory P few (Some input) said = give_memory (P input) few said
+-- memory ran out, or the settings are refused
+pub of_file : {T W : Type 0} (writer : W) (ended : Result T Ending) (e told : Ending) → ended ≡ Err e → e ≡ told → (refusal_of told ≡ None → told ≡ endings.NoMemory) → IsUnbegun writer writer ended
+of_file writer ended e told is passed memory = unbegun writer writer ended e is (λ read. no_reading (sym passed ∙ read)) (λ written. no_writing (sym passed ∙ written)) refl where
+  no_reading : told ≢ endings.InputFault
+  no_reading read = let here = memory (ap refusal_of read) in absurd (cc (here, read))
 
-  pub known_over : (P : List ℕ → Manner → StoreSettings → ℕ → Type 0) → 1 < length words → (known : Option (List ℕ))
-      → IfSome known (λ input. (x : StoreSettings) × (started_by bytes ≡ Ok x) × IsOverFolder honest (λ m failed. P input m x failed)) → IfSome known (λ input. GiveSettings honest words (P input))
-  known_over P some None said = tt
-  known_over P some (Some input) said = give_over (P input) some said
+  no_writing : told ≢ endings.OutputFault
+  no_writing written = let here = memory (ap refusal_of written) in absurd (cc (here, written))
+
+-- memory ran out, or a folder is not as it was begun
+neither : (told : Ending) → (told ≡ endings.NoMemory) ⊎ IsOfFolder told → (told ≢ endings.InputFault) × (told ≢ endings.OutputFault)
+neither told (inl is) = (λ read. cc, λ written. cc)
+neither told (inr (inl is)) = (λ read. cc, λ written. cc)
+neither told (inr (inr (inl is))) = (λ read. cc, λ written. cc)
+neither told (inr (inr (inr (inl is)))) = (λ read. cc, λ written. cc)
+neither told (inr (inr (inr (inr (inl is))))) = (λ read. cc, λ written. cc)
+neither told (inr (inr (inr (inr (inr (fault, is)))))) = (λ read. cc, λ written. cc)
+
+pub of_folder : {T W : Type 0} (writer : W) (ended : Result T Ending) (e told : Ending) → ended ≡ Err e → e ≡ told → (told ≡ endings.NoMemory) ⊎ IsOfFolder told → IsUnbegun writer writer ended
+of_folder writer ended e told is passed why = unbegun writer writer ended e is (λ read. (neither told why).0 (sym passed ∙ read)) (λ written. (neither told why).1 (sym passed ∙ written)) refl
+
+-- memory ran out, or the words name no file that can be read
+pub of_words : {T W : Type 0} (writer : W) (ended : Result T Ending) (e told : Ending) → ended ≡ Err e → e ≡ told
+    → (told ≡ endings.NoMemory) ⊎ ((told ≡ endings.NoSettings) ⊎ (told ≡ endings.BadArguments)) → IsUnbegun writer writer ended
+of_words writer ended e told is passed why = unbegun writer writer ended e is (λ read. (none why).0 (sym passed ∙ read)) (λ written. (none why).1 (sym passed ∙ written)) refl where
+  none : (told ≡ endings.NoMemory) ⊎ ((told ≡ endings.NoSettings) ⊎ (told ≡ endings.BadArguments)) → (told ≢ endings.InputFault) × (told ≢ endings.OutputFault)
+  none (inl is) = (λ read. cc, λ written. cc)
+  none (inr (inl is)) = (λ read. cc, λ written. cc)
+  none (inr (inr is)) = (λ read. cc, λ written. cc)

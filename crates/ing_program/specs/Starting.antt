@@ -47,10 +47,6 @@ abbrev pub GiveSettings : Type 0 → List (List ℕ) → (Manner → StoreSettin
 GiveSettings honest words P =
     (file : List ℕ) × NamesFile words file × (settings : StoreSettings) × (started_by file ≡ Ok settings) × InManner honest words settings (λ m failed. P m settings failed)
 
--- they begin so, whatever the run comes to
-abbrev pub BeginSettings : List (List ℕ) → Type 0
-BeginSettings words = (file : List ℕ) × NamesFile words file × (settings : StoreSettings) × (started_by file ≡ Ok settings)
-
 -- the folder was not opened, is in use, or lacks a log, or a shard was not made again from its log
 abbrev pub IsOfFolder : Ending → Type 0
 IsOfFolder ending =

@@ -1,10 +1,11 @@
 //! A run of several channels over the logs and the store in a folder.
-ghost use Rattle.std.specs.Prelude.{◌≡◌, ◌≢◌, ◌≤◌, ◌⊎◌, ◌↔◌, ◌+◌, ◌*◌, ◌%◌, IfErr, IfOk, IsErrOf, List, ℕ, Ok, OnOk, length, map, nat_lt, reverse, true, vec_len};
+ghost use Rattle.std.specs.Prelude.{◌≡◌, ◌≢◌, ◌≤◌, ◌⊎◌, ◌↔◌, ◌+◌, ◌*◌, ◌%◌, IfErr, IfOk, IfSome, IsErrOf, List, ℕ, None, Err, Ok, OnOk, length, map, nat_lt, reverse, true, vec_len};
 ghost use Rattle.std.specs.Io.KnownBytes.{Appends};
 ghost use Rattle.std.specs.String.{string_bytes};
 ghost use Rattle.ing_lanes.specs.Served.{broken_in};
 ghost use Rattle.ing_limits.specs.Settings.{StoreSettings};
 ghost use Rattle.ing_lanes.specs.Earlier.{earlier_of};
+ghost use Rattle.ing_lanes.specs.Endings.{refusal_of};
 ghost use Rattle.ing_lanes.specs.Names.{AreNamed};
 ghost use Rattle.ing_lanes.specs.Replies.{channels_data, line_text};
 ghost use Rattle.ing_program.specs.Ended.{IsEndingOf, IsEndingOfClose, IsEndingOfEntries, place_text};
@@ -63,6 +64,9 @@ pub fn start_channels<
         × (paths : ℕ) × (length words.now ≡ 2 + paths)
         × ReportsPaths settings paths (W.contents writer.old) (W.contents writer.new)) }
     ensures words { IsErrOf result Ending.BadArguments ↔ AreNoChannels (map string_bytes words.now) }
+    // The settings are refused as the bytes of a file are; those of which, no contract knows.
+    ensures refused { IfErr result (λ e. IfSome (refusal_of e) (λ refusal.
+        (file : List ℕ) × (started_by file ≡ Err refusal))) }
     ensures silent { IfErr result (λ e. e ≢ Ending.OutputFault → writer.new ≡ writer.old) }
 {
     let [path, folder, paths @ ..] = words else {
@@ -113,6 +117,7 @@ fn serve_paths<
     requires pairs { length paths.now % 2 ≡ 0 }
     ensures output { OnOk result ((settings : StoreSettings) × (started_by file.now ≡ Ok settings)
         × ReportsPaths settings (length paths.now) (W.contents writer.old) (W.contents writer.new)) }
+    ensures refused { IfErr result (λ e. IfSome (refusal_of e) (λ refusal. started_by file.now ≡ Err refusal)) }
     ensures words { IfErr result (λ e. e ≢ Ending.BadArguments) }
     ensures silent { IfErr result (λ e. e ≢ Ending.OutputFault → writer.new ≡ writer.old) }
 {
@@ -169,6 +174,7 @@ fn run_paths<
     requires logs { N.has_logs ≡ true }
     requires flushers { vec_len ends.flushers ≡ vec_len lines }
     ensures output { OnOk result (ReportsChannels N.settings (vec_len lines) (W.contents writer.old) (W.contents writer.new)) }
+    ensures refused { IfErr result (λ e. refusal_of e ≡ None) }
     ensures words { IfErr result (λ e. e ≢ Ending.BadArguments) }
     ensures silent { IfErr result (λ e. e ≢ Ending.OutputFault → writer.new ≡ writer.old) }
 {
@@ -182,6 +188,7 @@ fn run_paths<
 /// How a run of channels ends without its report. `NoMemory` may stand in place of `Differs`.
 fn ending_of(alloc: Global, fault: LanesFault) -> Ending
     ensures told { IsEndingOf fault result }
+    ensures refused { refusal_of result ≡ None }
     ensures words { result ≢ Ending.BadArguments }
 {
     match fault {
@@ -194,6 +201,7 @@ fn ending_of(alloc: Global, fault: LanesFault) -> Ending
 /// The same where the ingester was not closed.
 fn ending_of_close(alloc: Global, why: CloseRefusal) -> Ending
     ensures told { IsEndingOfClose why result }
+    ensures refused { refusal_of result ≡ None }
     ensures words { result ≢ Ending.BadArguments }
 {
     match why {
@@ -207,6 +215,7 @@ fn ending_of_close(alloc: Global, why: CloseRefusal) -> Ending
 /// The same where the entries of a shard are not those that were noted, or could not be read back.
 fn ending_of_entries(alloc: Global, shard: u32, why: Unsettled) -> Ending
     ensures told { IsEndingOfEntries shard why result }
+    ensures refused { refusal_of result ≡ None }
     ensures words { result ≢ Ending.BadArguments }
 {
     match why {

@@ -1,9 +1,9 @@
 //! A run over the logs and the store in a folder.
-ghost use Rattle.std.specs.Prelude.{◌≡◌, ◌≢◌, ◌⊎◌, ◌<◌, IfErr, IfSome, IsErrOf, IsTrue, Err, Ok, OnOk, vec_len};
+ghost use Rattle.std.specs.Prelude.{◌≡◌, ◌≢◌, ◌⊎◌, IfErr, IfSome, Err, Ok};
 ghost use Rattle.ing_limits.specs.Settings.{StoreSettings};
-ghost use Rattle.ing_program.specs.Starting.{IsOfFolder, IsOverFolder, started_by};
-ghost use Rattle.ing_lanes.specs.Endings.{ending_status, refusal_of};
-ghost use Rattle.ing_lanes.specs.Runs.{AnswersAll, AnswersFirstLines, AnswersFront, AnswersWhatWasRead};
+ghost use Rattle.ing_program.specs.Starting.{IsOverFolder, started_by};
+ghost use Rattle.ing_lanes.specs.Endings.{refusal_of};
+ghost use Rattle.ing_lanes.specs.Runs.{HasWritten, IsUnbegun};
 
 use crate::folders::{Folders, begin, conclude_folder, end_in, ends_in, hold_of, logs_in};
 use crate::own::run_over;
@@ -40,31 +40,19 @@ pub fn start_over<
     reader: &mut R,
     writer: &mut W,
 ) -> Result<(), Ending>
-    ensures output { OnOk result (IfSome (R.remaining reader.old) (λ input.
-        (settings : StoreSettings) × (started_by file.now ≡ Ok settings)
-        × IsOverFolder E.is_honest (λ manner failed. AnswersAll manner settings input 0 failed
-        (W.contents writer.old) (W.contents writer.new)))) }
+    // Either nothing was begun, or what is written is, over what lies in the folder, as `run` says.
+    ensures written { IsUnbegun writer.old writer.new result ⊎ ((settings : StoreSettings)
+        × (started_by file.now ≡ Ok settings) × IsOverFolder E.is_honest (λ manner failed. HasWritten manner settings record {
+          input = R.remaining reader.old;
+          rest = R.remaining reader.new;
+          before = 0;
+          after = failed;
+          old = W.contents writer.old;
+          new = W.contents writer.new;
+        } result)) }
     ensures refused { IfErr result (λ e. IfSome (refusal_of e) (λ refusal.
         started_by file.now ≡ Err refusal)) }
-    ensures input_fault { IsErrOf result Ending.InputFault → IfSome (R.remaining reader.old) (λ input.
-        (settings : StoreSettings) × (started_by file.now ≡ Ok settings)
-        × IsOverFolder E.is_honest (λ manner failed. AnswersWhatWasRead manner settings input (R.remaining reader.new) 0 failed
-        (W.contents writer.old) (W.contents writer.new))) }
-    ensures no_memory { IsErrOf result Ending.NoMemory → (writer.new ≡ writer.old)
-        ⊎ IfSome (R.remaining reader.old) (λ input.
-        (settings : StoreSettings) × (started_by file.now ≡ Ok settings)
-        × IsOverFolder E.is_honest (λ manner failed. AnswersFirstLines manner settings input 0 failed
-        (W.contents writer.old) (W.contents writer.new))) }
-    ensures output_fault { IsErrOf result Ending.OutputFault →
-        IfSome (R.remaining reader.old) (λ input.
-        (settings : StoreSettings) × (started_by file.now ≡ Ok settings)
-        × IsOverFolder E.is_honest (λ manner failed. AnswersFront manner settings input 0 failed
-        (W.contents writer.old) (W.contents writer.new))) }
-    ensures begun { IsErrOf result Ending.OutputFault →
-        (settings : StoreSettings) × (started_by file.now ≡ Ok settings) }
     ensures file_read { IfErr result (λ e. (e ≢ Ending.BadArguments) × (e ≢ Ending.NoSettings)) }
-    ensures silent { IfErr result (λ e. ending_status e ≡ 1 → writer.new ≡ writer.old) }
-    ensures not_opened { IfErr result (λ e. IsOfFolder e → writer.new ≡ writer.old) }
 {
     let alloc = rt.alloc();
     let settings = settings_of_file(alloc, file)?;

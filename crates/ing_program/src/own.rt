@@ -1,7 +1,5 @@
 //! Runs over shards that nobody shares, as their logs say.
-ghost use Rattle.std.specs.Prelude.{◌≡◌, ◌+◌, ◌≤◌, ◌⊎◌, All, IfErr, IfOk, IfSome, IsErrOf, IsTrue, List, OnOk, map, reverse, true, vec_capacity, vec_len};
-ghost use Rattle.ing_lanes.specs.Kept.{whose};
-ghost use Rattle.ing_lanes.specs.Begun.{AreBegunFrom};
+ghost use Rattle.std.specs.Prelude.{◌≡◌, ◌≤◌, ◌⊎◌, All, IfErr, IsErrOf, IsTrue, List, OnOk, map, reverse, true, vec_capacity, vec_len};
 ghost use Rattle.ing_lanes.specs.RecoverFault.{RecoverFault};
 ghost use Rattle.ing_lanes.specs.Recovering.{AreOwnLogs, IsLowestRefused};
 ghost use Rattle.ing_service.specs.ByShards.{by_shards};
@@ -10,7 +8,7 @@ ghost use Rattle.ing_service.specs.Held as held;
 ghost use Rattle.ing_service.specs.Held.{BeginsOver, shard_held};
 ghost use Rattle.ing_lanes.specs.Causes.{GoesOn};
 ghost use Rattle.ing_lanes.specs.Endings.{IsNotRecovered, is_of_run};
-ghost use Rattle.ing_lanes.specs.Runs.{AnswersAll, AnswersFirstLines, AnswersFront, AnswersWhatWasRead};
+ghost use Rattle.ing_lanes.specs.Runs.{HasWritten, IsUnbegun};
 
 use ing_lanes::{Begun, Ending, Shards};
 use ing_limits::Settings;
@@ -46,26 +44,18 @@ pub fn run_over<
 ) -> Result<(), Ending>
     requires logs { vec_len logs ≡ settings.shards }
     requires finders { vec_len finders ≡ settings.shards }
-    ensures output { OnOk result (IfSome (I.remaining reader.old) (λ input. (begun : held.Begun)
+    // Either nothing was begun, or what is written is, over what the logs replay to, as `run` says.
+    ensures written { IsUnbegun writer.old writer.new result ⊎ ((begun : held.Begun)
         × BeginsOver D.is_honest (map (λ log. (D.seen log).now.bytes) logs.items) begun
-        × AnswersAll (by_shards S.is_honest begun) settings input (failures_in S.failure_count ends.old) (failures_in S.failure_count ends.new)
-        (W.contents writer.old) (W.contents writer.new))) }
-    ensures input_fault { IsErrOf result Ending.InputFault → IfSome (I.remaining reader.old) (λ input. (begun : held.Begun)
-        × BeginsOver D.is_honest (map (λ log. (D.seen log).now.bytes) logs.items) begun
-        × AnswersWhatWasRead (by_shards S.is_honest begun) settings input (I.remaining reader.new)
-        (failures_in S.failure_count ends.old) (failures_in S.failure_count ends.new)
-        (W.contents writer.old) (W.contents writer.new)) }
-    ensures no_memory { IsErrOf result Ending.NoMemory → (writer.new ≡ writer.old)
-        ⊎ IfSome (I.remaining reader.old) (λ input. (begun : held.Begun)
-        × BeginsOver D.is_honest (map (λ log. (D.seen log).now.bytes) logs.items) begun
-        × AnswersFirstLines (by_shards S.is_honest begun) settings input (failures_in S.failure_count ends.old) (failures_in S.failure_count ends.new)
-        (W.contents writer.old) (W.contents writer.new)) }
-    ensures output_fault { IsErrOf result Ending.OutputFault → IfSome (I.remaining reader.old) (λ input. (begun : held.Begun)
-        × BeginsOver D.is_honest (map (λ log. (D.seen log).now.bytes) logs.items) begun
-        × AnswersFront (by_shards S.is_honest begun) settings input (failures_in S.failure_count ends.old) (failures_in S.failure_count ends.new)
-        (W.contents writer.old) (W.contents writer.new)) }
+        × HasWritten (by_shards S.is_honest begun) settings record {
+          input = I.remaining reader.old;
+          rest = I.remaining reader.new;
+          before = failures_in S.failure_count ends.old;
+          after = failures_in S.failure_count ends.new;
+          old = W.contents writer.old;
+          new = W.contents writer.new;
+        } result) }
     ensures end { GoesOn (NeverFail S.never_fails) (failures_in S.failure_count) ends.old ends.new }
-    ensures not_recovered { IfErr result (λ e. IsNotRecovered e → writer.new ≡ writer.old) }
     ensures ending { IfErr result (λ e. IsTrue (is_of_run e) ⊎ IsNotRecovered e) }
     // Each log is that of its shard, and each of its records fits those before it; or the lowest shard that is refused says why.
     ensures fits { OnOk result (AreOwnLogs D.is_honest D.seen settings logs.items) }
@@ -99,22 +89,15 @@ fn run_begun<
 ) -> Result<(), Ending>
     requires logged { N.begun.logged ≡ true }
     requires held { N.begun.shards ≡ map (λ begun. shard_held begun.shard) (reverse shards.last_first.items) }
-    ensures output { OnOk result (IfSome (I.remaining reader.old) (λ input.
-        AnswersAll (by_shards S.is_honest N.begun) shards.settings input (failures_in S.failure_count ends.old) (failures_in S.failure_count ends.new)
-        (W.contents writer.old) (W.contents writer.new))) }
-    ensures input_fault { IsErrOf result Ending.InputFault → IfSome (I.remaining reader.old) (λ input.
-        AnswersWhatWasRead (by_shards S.is_honest N.begun) shards.settings input (I.remaining reader.new)
-        (failures_in S.failure_count ends.old) (failures_in S.failure_count ends.new)
-        (W.contents writer.old) (W.contents writer.new)) }
-    ensures no_memory { IsErrOf result Ending.NoMemory → (writer.new ≡ writer.old)
-        ⊎ IfSome (I.remaining reader.old) (λ input.
-        AnswersFirstLines (by_shards S.is_honest N.begun) shards.settings input (failures_in S.failure_count ends.old) (failures_in S.failure_count ends.new)
-        (W.contents writer.old) (W.contents writer.new)) }
-    ensures output_fault { IsErrOf result Ending.OutputFault → IfSome (I.remaining reader.old) (λ input.
-        AnswersFront (by_shards S.is_honest N.begun) shards.settings input (failures_in S.failure_count ends.old) (failures_in S.failure_count ends.new)
-        (W.contents writer.old) (W.contents writer.new)) }
+    ensures written { HasWritten (by_shards S.is_honest N.begun) shards.settings record {
+      input = I.remaining reader.old;
+      rest = I.remaining reader.new;
+      before = failures_in S.failure_count ends.old;
+      after = failures_in S.failure_count ends.new;
+      old = W.contents writer.old;
+      new = W.contents writer.new;
+    } result }
     ensures end { GoesOn (NeverFail S.never_fails) (failures_in S.failure_count) ends.old ends.new }
-    ensures ending { IfErr result (λ e. IsTrue (is_of_run e)) }
 {
     let Ok(room) = Vec::with_capacity(alloc, shards.settings().shards() as usize) else {
         shards.abandon();

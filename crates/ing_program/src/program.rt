@@ -1,12 +1,12 @@
 //! From argument words and a settings file to a run.
-ghost use Rattle.std.specs.Prelude.{◌≡◌, ◌≢◌, ◌↔◌, ◌<◌, ◌≤◌, ◌⊎◌, All, List, sum_by, ℕ, IfOk, IfErr, OnOk, OnErr, IsErrOf, IfSome, Ok, Err, None, map, length, vec_len, true, ⊤};
+ghost use Rattle.std.specs.Prelude.{◌≡◌, ◌≢◌, ◌↔◌, ◌<◌, ◌≤◌, ◌⊎◌, All, List, sum_by, ℕ, IfOk, IfErr, OnOk, IsErrOf, IfSome, Ok, Err, None, map, length};
 ghost use Rattle.std.specs.String.{string_bytes};
 ghost use Rattle.ing_limits.specs.Settings.{StoreSettings};
 ghost use Rattle.ing_store.specs.declared.memory_end.Fuse.{Fuse};
 ghost use Rattle.ing_store.specs.declared.memory_end.Fuse.TheVariants as fuses;
-ghost use Rattle.ing_lanes.specs.Endings.{ending_status, refusal_of};
-ghost use Rattle.ing_lanes.specs.Runs.{AnswersAll, AnswersWhatWasRead, AnswersFirstLines, AnswersFront};
-ghost use Rattle.ing_program.specs.Starting.{AreBad, BeginSettings, GiveSettings, IsOfFolder, NamesFile, manner_of, started_by};
+ghost use Rattle.ing_lanes.specs.Endings.{refusal_of};
+ghost use Rattle.ing_lanes.specs.Runs.{HasWritten, IsUnbegun};
+ghost use Rattle.ing_program.specs.Starting.{AreBad, GiveSettings, IsOfFolder, NamesFile, manner_of, started_by};
 
 use crate::folders::Folders;
 use crate::over::start_over;
@@ -37,29 +37,21 @@ pub fn start<
     R: Read,
     W: Write,
 >(rt: &H, folders: &X, words: &[String], reader: &mut R, writer: &mut W) -> Result<(), Ending>
-    ensures output { OnOk result (IfSome (R.remaining reader.old) (λ input.
-        GiveSettings E.is_honest (map string_bytes words.now) (λ manner settings failed.
-        AnswersAll manner settings input 0 failed (W.contents writer.old) (W.contents writer.new)))) }
-    ensures input_fault { IsErrOf result Ending.InputFault →
-        IfSome (R.remaining reader.old) (λ input.
-        GiveSettings E.is_honest (map string_bytes words.now) (λ manner settings failed.
-        AnswersWhatWasRead manner settings input (R.remaining reader.new) 0 failed
-        (W.contents writer.old) (W.contents writer.new))) }
-    ensures no_memory { IsErrOf result Ending.NoMemory → (writer.new ≡ writer.old)
-        ⊎ IfSome (R.remaining reader.old) (λ input.
-        GiveSettings E.is_honest (map string_bytes words.now) (λ manner settings failed.
-        AnswersFirstLines manner settings input 0 failed (W.contents writer.old) (W.contents writer.new))) }
-    ensures output_fault { IsErrOf result Ending.OutputFault →
-        IfSome (R.remaining reader.old) (λ input.
-        GiveSettings E.is_honest (map string_bytes words.now) (λ manner settings failed.
-        AnswersFront manner settings input 0 failed (W.contents writer.old) (W.contents writer.new))) }
-    ensures begun { IsErrOf result Ending.OutputFault → BeginSettings (map string_bytes words.now) }
+    // Either nothing was begun, or what is written is, by the settings in the file, as `run` says.
+    ensures written { IsUnbegun writer.old writer.new result ⊎ GiveSettings E.is_honest (map string_bytes words.now)
+        (λ manner settings failed. HasWritten manner settings record {
+          input = R.remaining reader.old;
+          rest = R.remaining reader.new;
+          before = 0;
+          after = failed;
+          old = W.contents writer.old;
+          new = W.contents writer.new;
+        } result) }
     ensures refused { IfErr result (λ e. IfSome (refusal_of e) (λ refusal.
         (file : List ℕ) × NamesFile (map string_bytes words.now) file × (started_by file ≡ Err refusal))) }
     ensures words { IsErrOf result Ending.BadArguments ↔ AreBad (map string_bytes words.now) }
     ensures named { IsErrOf result Ending.NoSettings → 0 < length words.now }
-    ensures silent { IfErr result (λ e. ending_status e ≡ 1 → writer.new ≡ writer.old) }
-    ensures not_recovered { IfErr result (λ e. IsOfFolder e → (writer.new ≡ writer.old) × (length words.now ≡ 2)) }
+    ensures folder { IfErr result (λ e. IsOfFolder e → length words.now ≡ 2) }
 {
     let file = settings_file(rt, words)?;
     if words.len() < 2 {
@@ -107,28 +99,20 @@ pub fn start_on<T: AllocGlobal + Threads + Wait + Sync, R: Read, W: Write>(
     reader: &mut R,
     writer: &mut W,
 ) -> Result<(), Ending>
-    ensures output { OnOk result (IfSome (R.remaining reader.old) (λ input.
-        (settings : StoreSettings) × (started_by file.now ≡ Ok settings)
-        × AnswersAll (manner_of settings) settings input 0 0 (W.contents writer.old) (W.contents writer.new))) }
+    // Either nothing was begun, or what is written is, by the settings that the bytes give, as `run` says.
+    ensures written { IsUnbegun writer.old writer.new result ⊎ ((settings : StoreSettings)
+        × (started_by file.now ≡ Ok settings) × HasWritten (manner_of settings) settings record {
+          input = R.remaining reader.old;
+          rest = R.remaining reader.new;
+          before = 0;
+          after = 0;
+          old = W.contents writer.old;
+          new = W.contents writer.new;
+        } result) }
     ensures refused { IfErr result (λ e. IfSome (refusal_of e) (λ refusal.
         started_by file.now ≡ Err refusal)) }
-    ensures input_fault { IsErrOf result Ending.InputFault → IfSome (R.remaining reader.old) (λ input.
-        (settings : StoreSettings) × (started_by file.now ≡ Ok settings)
-        × AnswersWhatWasRead (manner_of settings) settings input (R.remaining reader.new) 0 0
-        (W.contents writer.old) (W.contents writer.new)) }
-    ensures no_memory { IsErrOf result Ending.NoMemory → (writer.new ≡ writer.old)
-        ⊎ IfSome (R.remaining reader.old) (λ input.
-        (settings : StoreSettings) × (started_by file.now ≡ Ok settings)
-        × AnswersFirstLines (manner_of settings) settings input 0 0 (W.contents writer.old) (W.contents writer.new)) }
-    ensures output_fault { IsErrOf result Ending.OutputFault →
-        IfSome (R.remaining reader.old) (λ input.
-        (settings : StoreSettings) × (started_by file.now ≡ Ok settings)
-        × AnswersFront (manner_of settings) settings input 0 0 (W.contents writer.old) (W.contents writer.new)) }
-    ensures begun { IsErrOf result Ending.OutputFault →
-        (settings : StoreSettings) × (started_by file.now ≡ Ok settings) }
     ensures file_read { IfErr result (λ e. (e ≢ Ending.BadArguments) × (e ≢ Ending.NoSettings)) }
     ensures no_folder { IfErr result (λ e. IsOfFolder e → ⊥) }
-    ensures silent { IfErr result (λ e. ending_status e ≡ 1 → writer.new ≡ writer.old) }
 {
     let settings = settings_of_file(rt.alloc(), file)?;
     let store = MemoryStore::new(rt.alloc())?;

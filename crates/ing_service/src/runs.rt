@@ -1,10 +1,9 @@
 //! Runs over shards that nobody shares.
-ghost use Rattle.std.specs.Prelude.{◌≡◌, ◌⊎◌, ⊤, IfErr, IfOk, IfSome, IsErrOf, IsTrue, OnOk, false, map, replicate};
+ghost use Rattle.std.specs.Prelude.{◌≡◌, ⊤, IfOk, false, map, replicate};
 ghost use Rattle.ing_durable.specs.Kept.{whose};
 ghost use Rattle.ing_session.specs.Causes.{GoesOn};
 ghost use Rattle.ing_session.specs.FlushCalls.{ObeysFlush};
-ghost use Rattle.ing_session.specs.Endings.{is_of_run};
-ghost use Rattle.ing_session.specs.Runs.{AnswersAll, AnswersFirstLines, AnswersFront, AnswersWhatWasRead};
+ghost use Rattle.ing_session.specs.Runs.{HasWritten};
 ghost use Rattle.ing_service.specs.ByShards.{by_shards};
 ghost use Rattle.ing_service.specs.Ends.{NeverFail, failures_in};
 ghost use Rattle.ing_service.specs.Held.{AreShardsOf, begun_new, held_in, new_shard, shard_held};
@@ -42,23 +41,15 @@ pub fn run<
 ) -> Result<(), Ending>
     // What is written is, line for line, what the model answers to the lines read, by how the uploads ended; and each that
     // failed has a cause of its own.
-    ensures output { OnOk result (IfSome (I.remaining reader.old) (λ input.
-        AnswersAll (by_shards S.is_honest (begun_new settings.shards)) settings input (failures_in S.failure_count ends.old) (failures_in S.failure_count ends.new)
-        (W.contents writer.old) (W.contents writer.new))) }
-    ensures input_fault { IsErrOf result Ending.InputFault → IfSome (I.remaining reader.old) (λ input.
-        AnswersWhatWasRead (by_shards S.is_honest (begun_new settings.shards)) settings input (I.remaining reader.new)
-        (failures_in S.failure_count ends.old) (failures_in S.failure_count ends.new)
-        (W.contents writer.old) (W.contents writer.new)) }
-    ensures no_memory { IsErrOf result Ending.NoMemory → (writer.new ≡ writer.old)
-        ⊎ IfSome (I.remaining reader.old) (λ input.
-        AnswersFirstLines (by_shards S.is_honest (begun_new settings.shards)) settings input (failures_in S.failure_count ends.old) (failures_in S.failure_count ends.new)
-        (W.contents writer.old) (W.contents writer.new)) }
-    ensures output_fault { IsErrOf result Ending.OutputFault →
-        IfSome (I.remaining reader.old) (λ input.
-        AnswersFront (by_shards S.is_honest (begun_new settings.shards)) settings input (failures_in S.failure_count ends.old) (failures_in S.failure_count ends.new)
-        (W.contents writer.old) (W.contents writer.new)) }
+    ensures written { HasWritten (by_shards S.is_honest (begun_new settings.shards)) settings record {
+      input = I.remaining reader.old;
+      rest = I.remaining reader.new;
+      before = failures_in S.failure_count ends.old;
+      after = failures_in S.failure_count ends.new;
+      old = W.contents writer.old;
+      new = W.contents writer.new;
+    } result }
     ensures end { GoesOn (NeverFail S.never_fails) (failures_in S.failure_count) ends.old ends.new }
-    ensures ending { IfErr result (λ e. IsTrue (is_of_run e)) }
 {
     let seats = new_seats(alloc, &settings)?;
     run_own::<Brand, H, I, W, NoLog, R, S>(rt, alloc, reader, writer, ends, settings, seats, false)
@@ -87,22 +78,15 @@ pub fn run_own<
     requires shards { AreShardsOf settings (map (λ seat. whose seat.shard.memory) seats.items) }
     requires logged { N.begun.logged ≡ is_logged }
     requires held { N.begun.shards ≡ map (λ seat. shard_held seat.shard) seats.items }
-    ensures output { OnOk result (IfSome (I.remaining reader.old) (λ input.
-        AnswersAll (by_shards S.is_honest N.begun) settings input (failures_in S.failure_count ends.old) (failures_in S.failure_count ends.new)
-        (W.contents writer.old) (W.contents writer.new))) }
-    ensures input_fault { IsErrOf result Ending.InputFault → IfSome (I.remaining reader.old) (λ input.
-        AnswersWhatWasRead (by_shards S.is_honest N.begun) settings input (I.remaining reader.new)
-        (failures_in S.failure_count ends.old) (failures_in S.failure_count ends.new)
-        (W.contents writer.old) (W.contents writer.new)) }
-    ensures no_memory { IsErrOf result Ending.NoMemory → (writer.new ≡ writer.old)
-        ⊎ IfSome (I.remaining reader.old) (λ input.
-        AnswersFirstLines (by_shards S.is_honest N.begun) settings input (failures_in S.failure_count ends.old) (failures_in S.failure_count ends.new)
-        (W.contents writer.old) (W.contents writer.new)) }
-    ensures output_fault { IsErrOf result Ending.OutputFault → IfSome (I.remaining reader.old) (λ input.
-        AnswersFront (by_shards S.is_honest N.begun) settings input (failures_in S.failure_count ends.old) (failures_in S.failure_count ends.new)
-        (W.contents writer.old) (W.contents writer.new)) }
+    ensures written { HasWritten (by_shards S.is_honest N.begun) settings record {
+      input = I.remaining reader.old;
+      rest = I.remaining reader.new;
+      before = failures_in S.failure_count ends.old;
+      after = failures_in S.failure_count ends.new;
+      old = W.contents writer.old;
+      new = W.contents writer.new;
+    } result }
     ensures end { GoesOn (NeverFail S.never_fails) (failures_in S.failure_count) ends.old ends.new }
-    ensures ending { IfErr result (λ e. IsTrue (is_of_run e)) }
 {
     let own: OwnShards<N, D, R> = OwnShards::of(alloc, settings, seats, is_logged)?;
     let flush = |own: &mut OwnShards<N, D, R>, ends: &mut Ends<S>, said: Flush|

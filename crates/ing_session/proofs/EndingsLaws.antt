@@ -9,6 +9,7 @@ use Rattle.ing_session.specs.declared.lines.LineError.TheVariants as lines
 use Rattle.ing_session.specs.declared.ending.Ending.{Ending}
 use Rattle.ing_session.specs.declared.ending.Ending.TheVariants.{NoMemory, InputFault, OutputFault, NotRecovered}
 use Rattle.ing_session.specs.Endings.{IsNotRecovered, ending_of_line, ending_of_recover, is_of_run}
+use Rattle.ing_session.specs.Runs.{IsUnbegun}
 
 -- want of memory is no fault of the input
 pub of_no_memory : {T : Type 0} (r : Result T Ending) (fault : LineError) (ending : Ending) → r ≡ Err ending → ending ≡ ending_of_line fault → r ≡ Err InputFault → fault ≢ lines.NoMemory
@@ -71,3 +72,17 @@ not_of_run {X} (Err e) fault run is =
     let here : e ≡ NotRecovered fault = same_ending {X = X} e (NotRecovered fault) is in
     let wrong : false ≡ true = subst (λ x. is_of_run x ≡ true) here run in
     cc
+
+-- a shard that is not made again ends a run before it begins
+pub recover_unbegun : (T : Type 0) {W : Type 0} (writer : W) (ending : Ending) (fault : RecoverFault) → ending ≡ ending_of_recover fault → IsUnbegun {T = T} writer writer (Err ending)
+recover_unbegun T writer ending fault is = subst (λ e. IsUnbegun {T = T} writer writer (Err e)) (sym is) (by_fault fault) where
+  by_fault : (fault : RecoverFault) → IsUnbegun {T = T} writer writer (Err (ending_of_recover fault))
+  by_fault recover.NoMemory = refl
+  by_fault recover.LogFault = refl
+  by_fault (recover.Damaged at) = refl
+  by_fault recover.OtherSettings = refl
+  by_fault (recover.Relist relist.NoMemory) = refl
+  by_fault (recover.Relist (relist.Failed key)) = refl
+  by_fault (recover.Relist (relist.Damaged key)) = refl
+  by_fault (recover.Relist (relist.Missing key)) = refl
+  by_fault (recover.Relist (relist.BadObject key)) = refl

@@ -3,6 +3,7 @@ use Rattle.std.proofs.Common.{◌≡◌, ◌≢◌, ℕ, ◌+◌, ◌<◌, ◌�
 use Rattle.std.specs.Prelude.{Option, Result, IfSome, IfErr, OnOk, OnErr, IsTrue}
 use Rattle.std.specs.List.{AllByRecursion, flat_map}
 use Rattle.std.specs.Io.KnownBytes.{Appends, Keeps, Consumes, IsAtEnd, prepend_known}
+use Rattle.std.proofs.KnownBytes.{Appends-nil}
 use Rattle.std.proofs.lemmas.Grind.{flat_map-append}
 use Rattle.std.proofs.lemmas.List.{length-append, map-append}
 use Rattle.std.proofs.lemmas.List.Concat.{flat_map-cons}
@@ -20,7 +21,7 @@ use Rattle.ing_session.specs.Parts.{HasNoFeed, max_line}
 use Rattle.ing_session.specs.Replies.{line_text}
 use Rattle.ing_session.specs.Manners.{Manner, Turn, turn, MayBeFrom, is_long, line_fault, answers_of, failed_in, held_after, lines_in, output_of}
 use Rattle.ing_session.specs.Causes.{HaveCause}
-use Rattle.ing_session.specs.Runs.{AnswersAll, AnswersWhatWasRead, AnswersFirstLines, AnswersFront, Answers, AnswersAhead, AnswersLines, BreaksOff, Reports, Serves, ServesKnown, with_replies}
+use Rattle.ing_session.specs.Runs.{AnswersAll, AnswersWhatWasRead, AnswersFirstLines, AnswersFront, Answers, AnswersAhead, AnswersLines, BreaksOff, HasWritten, IsUnbegun, Reports, Seen, Serves, ServesKnown, with_replies}
 use Rattle.ing_session.proofs.CausesLaws.{no_failure, causes_on, causes_more}
 use Rattle.ing_session.proofs.FrontsLaws.{all_written, front_held, front_of}
 use Rattle.ing_session.proofs.LinesLaws.{lines_of-ended, lines_of-open_last, lines_of-rest}
@@ -528,3 +529,88 @@ pub breaks_ended : (m : Manner) (settings : StoreSettings) (before after : ℕ) 
 breaks_ended m settings before after first c k r None rest ended grown f other of_run all read memory = tt
 breaks_ended m settings before after first c k r (Some input) rest ended grown f other of_run all read memory =
     breaks_known m settings input before after first c k r grown f rest ended other of_run all read memory
+
+-- ---- by how it ends
+
+-- what each ending says is what the run has written
+pub has_written : {T : Type 0} (m : Manner) (settings : StoreSettings) (seen : Seen) (ended : Result T Ending)
+    → OnOk ended (IfSome seen.input (λ input. AnswersAll m settings input seen.before seen.after seen.old seen.new))
+    → (ended ≡ Err InputFault → IfSome seen.input (λ input. AnswersWhatWasRead m settings input seen.rest seen.before seen.after seen.old seen.new))
+    → (ended ≡ Err NoMemory → IfSome seen.input (λ input. AnswersFirstLines m settings input seen.before seen.after seen.old seen.new))
+    → (ended ≡ Err OutputFault → IfSome seen.input (λ input. AnswersFront m settings input seen.before seen.after seen.old seen.new))
+    → IfErr ended (λ e. IsTrue (is_of_run e)) → HasWritten m settings seen ended
+has_written m settings seen (Ok done) all read first front ending = all
+has_written m settings seen (Err InputFault) all read first front ending = read refl
+has_written m settings seen (Err NoMemory) all read first front ending = first refl
+has_written m settings seen (Err OutputFault) all read first front ending = front refl
+has_written m settings seen (Err NotToml) all read first front ending = absurd cc
+has_written m settings seen (Err (UnknownSetting name)) all read first front ending = absurd cc
+has_written m settings seen (Err (BadSetting name)) all read first front ending = absurd cc
+has_written m settings seen (Err BadArguments) all read first front ending = absurd cc
+has_written m settings seen (Err NoSettings) all read first front ending = absurd cc
+has_written m settings seen (Err NoFolder) all read first front ending = absurd cc
+has_written m settings seen (Err NoObjects) all read first front ending = absurd cc
+has_written m settings seen (Err FolderInUse) all read first front ending = absurd cc
+has_written m settings seen (Err MissingLog) all read first front ending = absurd cc
+has_written m settings seen (Err (NotRecovered fault)) all read first front ending = absurd cc
+has_written m settings seen (Err (NotServed refusal)) all read first front ending = absurd cc
+has_written m settings seen (Err (Differs place)) all read first front ending = absurd cc
+
+-- where memory ran out before anything was read, there are answers to no line
+nothing_answered : (m : Manner) (settings : StoreSettings) (seen : Seen) → seen.after ≡ seen.before → seen.new ≡ seen.old
+    → (known : Option (List ℕ)) → IfSome known (λ input. AnswersFirstLines m settings input seen.before seen.after seen.old seen.new)
+nothing_answered m settings seen calm same None = tt
+nothing_answered m settings seen calm same (Some input) =
+    record {
+      turns = [];
+      others = lines_of input;
+      first = refl;
+      may_be = record { flushes = tt; causes = subst (λ n. HaveCause seen.before n 0) (sym calm) (no_failure seen.before) };
+      answered = subst (λ w. Appends seen.old w []) (sym same) (Appends-nil seen.old);
+    }
+
+pub no_room : {T : Type 0} (m : Manner) (settings : StoreSettings) (seen : Seen) (ended : Result T Ending) (e : Ending) → ended ≡ Err e → e ≡ NoMemory
+    → seen.after ≡ seen.before → seen.new ≡ seen.old → HasWritten m settings seen ended
+no_room m settings seen ended e is memory calm same =
+    subst (HasWritten m settings seen) (sym (is ∙ ap (λ x. Err x) memory)) (nothing_answered m settings seen calm same seen.input)
+
+-- how it ends is one of its endings
+pub ends_of_run : {T : Type 0} (m : Manner) (settings : StoreSettings) (seen : Seen) (ended : Result T Ending) → HasWritten m settings seen ended
+    → IfErr ended (λ e. IsTrue (is_of_run e))
+ends_of_run m settings seen (Ok done) written = tt
+ends_of_run m settings seen (Err InputFault) written = refl
+ends_of_run m settings seen (Err NoMemory) written = refl
+ends_of_run m settings seen (Err OutputFault) written = refl
+ends_of_run m settings seen (Err NotToml) written = absurd written
+ends_of_run m settings seen (Err (UnknownSetting name)) written = absurd written
+ends_of_run m settings seen (Err (BadSetting name)) written = absurd written
+ends_of_run m settings seen (Err BadArguments) written = absurd written
+ends_of_run m settings seen (Err NoSettings) written = absurd written
+ends_of_run m settings seen (Err NoFolder) written = absurd written
+ends_of_run m settings seen (Err NoObjects) written = absurd written
+ends_of_run m settings seen (Err FolderInUse) written = absurd written
+ends_of_run m settings seen (Err MissingLog) written = absurd written
+ends_of_run m settings seen (Err (NotRecovered fault)) written = absurd written
+ends_of_run m settings seen (Err (NotServed refusal)) written = absurd written
+ends_of_run m settings seen (Err (Differs place)) written = absurd written
+
+-- what ends neither reading nor writing ends a run before it begins
+unbegun_by : (T : Type 0) {W : Type 0} (old new : W) (e : Ending) → e ≢ InputFault → e ≢ OutputFault → new ≡ old → IsUnbegun {T = T} old new (Err e)
+unbegun_by T old new InputFault read written same = absurd (read refl)
+unbegun_by T old new OutputFault read written same = absurd (written refl)
+unbegun_by T old new NoMemory read written same = same
+unbegun_by T old new NotToml read written same = same
+unbegun_by T old new (UnknownSetting name) read written same = same
+unbegun_by T old new (BadSetting name) read written same = same
+unbegun_by T old new BadArguments read written same = same
+unbegun_by T old new NoSettings read written same = same
+unbegun_by T old new NoFolder read written same = same
+unbegun_by T old new NoObjects read written same = same
+unbegun_by T old new FolderInUse read written same = same
+unbegun_by T old new MissingLog read written same = same
+unbegun_by T old new (NotRecovered fault) read written same = same
+unbegun_by T old new (NotServed refusal) read written same = same
+unbegun_by T old new (Differs place) read written same = same
+
+pub unbegun : {T W : Type 0} (old new : W) (ended : Result T Ending) (e : Ending) → ended ≡ Err e → e ≢ InputFault → e ≢ OutputFault → new ≡ old → IsUnbegun old new ended
+unbegun {T} old new ended e is read written same = subst (IsUnbegun {T = T} old new) (sym is) (unbegun_by T old new e read written same)

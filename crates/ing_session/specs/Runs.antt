@@ -1,5 +1,5 @@
 -- What a run has written by the time it ends, and while it goes on.
-use Rattle.std.specs.Prelude.{◌≡◌, ◌⊎◌, ℕ, false, true, Bool, List, [], ◌∷◌, ◌++◌, drop, Option, Some, None, Result}
+use Rattle.std.specs.Prelude.{◌≡◌, ◌⊎◌, ℕ, false, true, Bool, List, [], ◌∷◌, ◌++◌, drop, IfSome, Option, Some, None, Result, Ok, Err}
 use Rattle.std.specs.List.{AllByRecursion, flat_map}
 use Rattle.std.specs.Io.KnownBytes.{Appends, Consumes, append_known}
 use Rattle.ing_limits.specs.Settings.{StoreSettings}
@@ -7,6 +7,8 @@ use Rattle.serde_json.specs.Data.{Data}
 use Rattle.ing_commands.specs.declared.fault.LineFault.{LineFault}
 use Rattle.ing_commands.specs.Commands.{Command, Push}
 use Rattle.ing_commands.specs.PushCommands.{PushCommand}
+use Rattle.ing_session.specs.declared.ending.Ending.{Ending}
+use Rattle.ing_session.specs.declared.ending.Ending.TheVariants.{NoMemory, InputFault, OutputFault}
 use Rattle.ing_session.specs.Causes.{HaveCause}
 use Rattle.ing_session.specs.Fronts.{AppendsFront}
 use Rattle.ing_session.specs.Lines.{lines_of, with_feed}
@@ -61,6 +63,32 @@ pub record AnswersFront (m : Manner) (settings : StoreSettings) (input : List �
   pub first : lines_of input ≡ lines_in turns ++ others
   pub may_be : MayBeAnswered m settings before after turns
   pub front : AppendsFront old new (answers_of turns) ⊎ ((others ≡ []) × BeginsReport m turns old new)
+
+-- What is seen of a run from without: the bytes that its reader has to give before and behind it, how often the store has failed by
+-- then, and what its writer holds.
+pub record Seen : Type 0 where
+  pub input : Option (List ℕ)
+  pub rest : Option (List ℕ)
+  pub before : ℕ
+  pub after : ℕ
+  pub old : Option (List ℕ)
+  pub new : Option (List ℕ)
+
+-- What a run that ends so has written, where it is known what there was to read. A run that has begun has no other ending.
+abbrev pub HasWritten : {T : Type 0} → Manner → StoreSettings → Seen → Result T Ending → Type 0
+HasWritten m settings seen (Ok done) = IfSome seen.input (λ input. AnswersAll m settings input seen.before seen.after seen.old seen.new)
+HasWritten m settings seen (Err InputFault) =
+    IfSome seen.input (λ input. AnswersWhatWasRead m settings input seen.rest seen.before seen.after seen.old seen.new)
+HasWritten m settings seen (Err NoMemory) = IfSome seen.input (λ input. AnswersFirstLines m settings input seen.before seen.after seen.old seen.new)
+HasWritten m settings seen (Err OutputFault) = IfSome seen.input (λ input. AnswersFront m settings input seen.before seen.after seen.old seen.new)
+HasWritten m settings seen (Err _) = ⊥
+
+-- A run did not begin: memory ran out, or something was refused that stands in front of it; and the writer is as it was.
+abbrev pub IsUnbegun : {T W : Type 0} → W → W → Result T Ending → Type 0
+IsUnbegun old new (Ok done) = ⊥
+IsUnbegun old new (Err InputFault) = ⊥
+IsUnbegun old new (Err OutputFault) = ⊥
+IsUnbegun old new (Err _) = new ≡ old
 
 -- What is held, or, where memory ran out in a call, at least what the service says of that.
 abbrev pub IsLeft : {C H : Type 0} → (C → H → Type 0) → (C → H → Type 0) → C → H → Type 0

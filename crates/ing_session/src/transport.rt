@@ -10,7 +10,7 @@ ghost use Rattle.ing_session.specs.Lines.{TakesLine};
 ghost use Rattle.ing_session.specs.Parts.{HasNoFeed};
 ghost use Rattle.ing_session.specs.Replies.{line_text};
 ghost use Rattle.ing_session.specs.Views.{reply_data};
-ghost use Rattle.ing_session.specs.Runs.{AnswersAll, AnswersWhatWasRead, AnswersFirstLines, AnswersFront, AnswersLines, BreaksOff, IsLeft, Reports, with_replies, ServesKnown};
+ghost use Rattle.ing_session.specs.Runs.{AnswersAll, AnswersWhatWasRead, AnswersFirstLines, AnswersFront, AnswersLines, BreaksOff, HasWritten, IsLeft, Reports, with_replies, ServesKnown};
 ghost use Rattle.ing_session.specs.Unread.{left, is_ended, progress};
 
 use crate::answer::{AtHand, Scratches, answer, refuse_long};
@@ -53,22 +53,15 @@ pub fn serve_all<
     requires flushes { FlushesSo C.manner C.holds C.leaves C.settings_of C.failures C.never_fails (X.post flush.now) }
     requires nothing { C.holds service C.manner.nothing }
     // What is written is, line for line, what the service may answer to the lines read.
-    ensures output { OnOk result (IfSome (R.remaining reader.old) (λ input.
-        AnswersAll C.manner (C.settings_of service) input (C.failures end.old) (C.failures end.new)
-        (W.contents writer.old) (W.contents writer.new))) }
-    ensures input_fault { IsErrOf result Ending.InputFault → IfSome (R.remaining reader.old) (λ input.
-        AnswersWhatWasRead C.manner (C.settings_of service) input (R.remaining reader.new)
-        (C.failures end.old) (C.failures end.new)
-        (W.contents writer.old) (W.contents writer.new)) }
-    ensures no_memory { IsErrOf result Ending.NoMemory → IfSome (R.remaining reader.old) (λ input.
-        AnswersFirstLines C.manner (C.settings_of service) input (C.failures end.old) (C.failures end.new)
-        (W.contents writer.old) (W.contents writer.new)) }
-    ensures output_fault { IsErrOf result Ending.OutputFault →
-        IfSome (R.remaining reader.old) (λ input.
-        AnswersFront C.manner (C.settings_of service) input (C.failures end.old) (C.failures end.new)
-        (W.contents writer.old) (W.contents writer.new)) }
+    ensures written { HasWritten C.manner (C.settings_of service) record {
+      input = R.remaining reader.old;
+      rest = R.remaining reader.new;
+      before = C.failures end.old;
+      after = C.failures end.new;
+      old = W.contents writer.old;
+      new = W.contents writer.new;
+    } result }
     ensures end { GoesOn C.never_fails C.failures end.old end.new }
-    ensures ending { IfErr result (λ e. IsTrue (is_of_run e)) }
 {
     let mut service = service;
     let ended = serve_lines(alloc, reader, writer, end, &mut service, flush);

@@ -2,8 +2,8 @@ use Rattle.ing_lanes.proofs.ServedLaws.{adds_up, have_told, stand_told}
 use Rattle.ing_lanes.proofs.running.run_lanes.Goals as goal
 
 -- the report counts what all channels came to, and these are the entries
-pub returns-in-Ok-serve_lanes-clause-served : goal.returns-in-Ok-serve_lanes-clause-served
-returns-in-Ok-serve_lanes-clause-served g c =
+pub returns-in_ok-closed-in-Ok-serve_lanes-clause-served : goal.returns-in_ok-closed-in-Ok-serve_lanes-clause-served
+returns-in_ok-closed-in-Ok-serve_lanes-clause-served g c =
     let served = c.in-Ok-serve_lanes.ensures.served in
     let parted = c.in-Ok-serve_lanes.parted in
     let shards = g.N.NodeName.settings.shards in

@@ -1,5 +1,6 @@
-use Rattle.std.proofs.Common.{◌≤◌, ◌∙◌, inl, inr, subst, sym}
-use Rattle.std.proofs.lemmas.Result.{MatchResult-weaker, on_ok_weaker}
+use Rattle.std.proofs.Common.{◌≤◌, ◌∙◌, ap, inl, inr, subst, sym}
+use Rattle.std.proofs.lemmas.Result.{IfErr-weaker, MatchResult-weaker, on_ok_weaker}
+use Rattle.ing_lanes.specs.Endings.{refusal_of}
 use Rattle.ing_lanes.specs.Served.{broken_in, has_broken}
 use Rattle.ing_program.proofs.ChannelsLaws.{each_is_served, no_more_pass}
 use Rattle.ing_program.proofs.channels.run_paths.Goals as goal
@@ -26,3 +27,8 @@ pub returns-in-Ok-clause-words : goal.returns-in-Ok-clause-words
 returns-in-Ok-clause-words g c =
     MatchResult-weaker c.report.result c.report.ensures.ending (λ _ known. known)
     (λ e known bad. elim known [ inl memory ↦ absurd (cc (memory, bad)) | inr output ↦ absurd (cc (output, bad)) ])
+
+-- a report is not refused as settings are
+pub returns-in-Ok-clause-refused : goal.returns-in-Ok-clause-refused
+returns-in-Ok-clause-refused g c =
+    IfErr-weaker c.report.result _ _ (λ e known. elim known [ inl memory ↦ ap refusal_of memory | inr output ↦ ap refusal_of output ]) c.report.ensures.ending

@@ -1,95 +1,58 @@
-use Rattle.std.proofs.Common.{◌≡◌, ◌<◌, ◌≤◌, ◌∙◌, Err, ap, arith, length, map, inl, inr, sym}
+use Rattle.std.proofs.Common.{◌∙◌, ◌<◌, ◌≤◌, ◌≡◌, ℕ, Err, ap, arith, length, map, inl, inr, sym}
 use Rattle.std.proofs.lemmas.List.{length-map}
-use Rattle.std.proofs.lemmas.Result.{IfErr-weaker, on_ok_weaker}
+use Rattle.std.proofs.lemmas.Result.{IfErr-weaker, err_from_is_err_and}
+use Rattle.std.specs.String.{string_bytes}
 use Rattle.ing_lanes.proofs.KnownLaws.{if_some_then}
 use Rattle.ing_lanes.specs.Endings.{refusal_of}
+use Rattle.ing_lanes.specs.Runs.{HasWritten, Seen}
 use Rattle.ing_program.specs.Starting.{started_by}
-use Rattle.std.specs.String.{string_bytes}
-use Rattle.ing_lanes.specs.Runs.{AnswersAll, AnswersWhatWasRead, AnswersFirstLines, AnswersFront}
-use Rattle.ing_program.proofs.StartingLaws.{give_begun, known_memory, known_over}
+use Rattle.ing_program.proofs.StartingLaws.{give_memory, give_over, of_words}
 use Rattle.ing_program.proofs.program.start.Goals as goal
 
-pub returns-clause-output : goal.returns-clause-output
-returns-clause-output g c =
-    let old = g.W.Write.contents c.args.writer.now in
-    let new = g.W.Write.contents c.start_over.new.writer in
+pub returns-clause-written : goal.returns-clause-written
+returns-clause-written g c =
+    let words = map string_bytes c.args.words.now in
+    let ended = c.start_over.new in
     let some : 1 < length c.args.words.now = omega (arith, c.if-words-lt2.false) in
-    let size : 1 < length (map string_bytes c.args.words.now) = omega (arith, length-map c.args.words.now string_bytes, some) in
-    on_ok_weaker c.start_over.result
-    (known_over g.E.StoreEnd.is_honest (map string_bytes c.args.words.now) c.in_ok-file.file.items c.deref-2.result.now c.in_ok-file.ensures.file c.deref-2.ensures.value (λ input m x failed. AnswersAll m x input 0 failed old new) size (g.R.Read.remaining c.args.reader.now))
-    c.start_over.ensures.output
+    let size : 1 < length words = omega (arith, length-map c.args.words.now string_bytes, some) in
+    let seen : ℕ → Seen = λ failed. record {
+      input = g.R.Read.remaining c.args.reader.now;
+      rest = g.R.Read.remaining ended.reader;
+      before = 0;
+      after = failed;
+      old = g.W.Write.contents c.args.writer.now;
+      new = g.W.Write.contents ended.writer;
+    } in
+    elim c.start_over.ensures.written [
+      | inl same ↦ inl same
+      | inr run ↦
+          inr (give_over g.E.StoreEnd.is_honest words c.in_ok-file.file.items c.deref-2.result.now c.in_ok-file.ensures.file c.deref-2.ensures.value (λ m x failed. HasWritten m x (seen failed) c.start_over.result) size run)
+    ]
 
-pub returns-clause-input_fault : goal.returns-clause-input_fault
-returns-clause-input_fault g c = λ is.
-    let old = g.W.Write.contents c.args.writer.now in
-    let new = g.W.Write.contents c.start_over.new.writer in
-    let some : 1 < length c.args.words.now = omega (arith, c.if-words-lt2.false) in
-    let size : 1 < length (map string_bytes c.args.words.now) = omega (arith, length-map c.args.words.now string_bytes, some) in
-    known_over g.E.StoreEnd.is_honest (map string_bytes c.args.words.now) c.in_ok-file.file.items c.deref-2.result.now c.in_ok-file.ensures.file c.deref-2.ensures.value (λ input m x failed. AnswersWhatWasRead m x input (g.R.Read.remaining c.start_over.new.reader) 0 failed old new) size (g.R.Read.remaining c.args.reader.now)
-    (c.start_over.ensures.input_fault is)
-
-pub returns-clause-no_memory : goal.returns-clause-no_memory
-returns-clause-no_memory g c = λ is.
-    let old = g.W.Write.contents c.args.writer.now in
-    let new = g.W.Write.contents c.start_over.new.writer in
-    let some : 1 < length c.args.words.now = omega (arith, c.if-words-lt2.false) in
-    let size : 1 < length (map string_bytes c.args.words.now) = omega (arith, length-map c.args.words.now string_bytes, some) in
-    let said = known_over g.E.StoreEnd.is_honest (map string_bytes c.args.words.now) c.in_ok-file.file.items c.deref-2.result.now c.in_ok-file.ensures.file c.deref-2.ensures.value (λ input m x failed. AnswersFirstLines m x input 0 failed old new) size (g.R.Read.remaining c.args.reader.now) in
-    elim (c.start_over.ensures.no_memory is) [ inl same ↦ inl same | inr run ↦ inr (said run) ]
-
-pub returns-clause-output_fault : goal.returns-clause-output_fault
-returns-clause-output_fault g c = λ is.
-    let old = g.W.Write.contents c.args.writer.now in
-    let new = g.W.Write.contents c.start_over.new.writer in
-    let some : 1 < length c.args.words.now = omega (arith, c.if-words-lt2.false) in
-    let size : 1 < length (map string_bytes c.args.words.now) = omega (arith, length-map c.args.words.now string_bytes, some) in
-    known_over g.E.StoreEnd.is_honest (map string_bytes c.args.words.now) c.in_ok-file.file.items c.deref-2.result.now c.in_ok-file.ensures.file c.deref-2.ensures.value (λ input m x failed. AnswersFront m x input 0 failed old new) size (g.R.Read.remaining c.args.reader.now)
-    (c.start_over.ensures.output_fault is)
-
-pub returns-clause-begun : goal.returns-clause-begun
-returns-clause-begun g c = λ is.
-    give_begun g.E.StoreEnd.is_honest (map string_bytes c.args.words.now) c.in_ok-file.file.items c.deref-2.result.now c.in_ok-file.ensures.file c.deref-2.ensures.value (c.start_over.ensures.begun is)
-
-pub returns-then-words-lt2-clause-output : goal.returns-then-words-lt2-clause-output
-returns-then-words-lt2-clause-output g c =
-    let old = g.W.Write.contents c.args.writer.now in
-    let new = g.W.Write.contents c.start_on.new.writer in
+pub returns-then-words-lt2-clause-written : goal.returns-then-words-lt2-clause-written
+returns-then-words-lt2-clause-written g c =
+    let words = map string_bytes c.args.words.now in
+    let ended = c.start_on.new in
     let few : length c.args.words.now ≤ 1 = omega (arith, c.if-words-lt2.true) in
-    let size : length (map string_bytes c.args.words.now) ≤ 1 = omega (arith, length-map c.args.words.now string_bytes, few) in
-    on_ok_weaker c.start_on.result
-    (known_memory g.E.StoreEnd.is_honest (map string_bytes c.args.words.now) c.in_ok-file.file.items c.deref.result.now c.in_ok-file.ensures.file c.deref.ensures.value (λ input m x failed. AnswersAll m x input 0 failed old new) size (g.R.Read.remaining c.args.reader.now))
-    c.start_on.ensures.output
+    let size : length words ≤ 1 = omega (arith, length-map c.args.words.now string_bytes, few) in
+    let seen : ℕ → Seen = λ failed. record {
+      input = g.R.Read.remaining c.args.reader.now;
+      rest = g.R.Read.remaining ended.reader;
+      before = 0;
+      after = failed;
+      old = g.W.Write.contents c.args.writer.now;
+      new = g.W.Write.contents ended.writer;
+    } in
+    elim c.start_on.ensures.written [
+      | inl same ↦ inl same
+      | inr run ↦
+          inr (give_memory g.E.StoreEnd.is_honest words c.in_ok-file.file.items c.deref.result.now c.in_ok-file.ensures.file c.deref.ensures.value (λ m x failed. HasWritten m x (seen failed) c.start_on.result) size run)
+    ]
 
-pub returns-then-words-lt2-clause-input_fault : goal.returns-then-words-lt2-clause-input_fault
-returns-then-words-lt2-clause-input_fault g c = λ is.
-    let old = g.W.Write.contents c.args.writer.now in
-    let new = g.W.Write.contents c.start_on.new.writer in
-    let few : length c.args.words.now ≤ 1 = omega (arith, c.if-words-lt2.true) in
-    let size : length (map string_bytes c.args.words.now) ≤ 1 = omega (arith, length-map c.args.words.now string_bytes, few) in
-    known_memory g.E.StoreEnd.is_honest (map string_bytes c.args.words.now) c.in_ok-file.file.items c.deref.result.now c.in_ok-file.ensures.file c.deref.ensures.value (λ input m x failed. AnswersWhatWasRead m x input (g.R.Read.remaining c.start_on.new.reader) 0 failed old new) size (g.R.Read.remaining c.args.reader.now)
-    (c.start_on.ensures.input_fault is)
-
-pub returns-then-words-lt2-clause-no_memory : goal.returns-then-words-lt2-clause-no_memory
-returns-then-words-lt2-clause-no_memory g c = λ is.
-    let old = g.W.Write.contents c.args.writer.now in
-    let new = g.W.Write.contents c.start_on.new.writer in
-    let few : length c.args.words.now ≤ 1 = omega (arith, c.if-words-lt2.true) in
-    let size : length (map string_bytes c.args.words.now) ≤ 1 = omega (arith, length-map c.args.words.now string_bytes, few) in
-    let said = known_memory g.E.StoreEnd.is_honest (map string_bytes c.args.words.now) c.in_ok-file.file.items c.deref.result.now c.in_ok-file.ensures.file c.deref.ensures.value (λ input m x failed. AnswersFirstLines m x input 0 failed old new) size (g.R.Read.remaining c.args.reader.now) in
-    elim (c.start_on.ensures.no_memory is) [ inl same ↦ inl same | inr run ↦ inr (said run) ]
-
-pub returns-then-words-lt2-clause-output_fault : goal.returns-then-words-lt2-clause-output_fault
-returns-then-words-lt2-clause-output_fault g c = λ is.
-    let old = g.W.Write.contents c.args.writer.now in
-    let new = g.W.Write.contents c.start_on.new.writer in
-    let few : length c.args.words.now ≤ 1 = omega (arith, c.if-words-lt2.true) in
-    let size : length (map string_bytes c.args.words.now) ≤ 1 = omega (arith, length-map c.args.words.now string_bytes, few) in
-    known_memory g.E.StoreEnd.is_honest (map string_bytes c.args.words.now) c.in_ok-file.file.items c.deref.result.now c.in_ok-file.ensures.file c.deref.ensures.value (λ input m x failed. AnswersFront m x input 0 failed old new) size (g.R.Read.remaining c.args.reader.now)
-    (c.start_on.ensures.output_fault is)
-
-pub returns-then-words-lt2-clause-begun : goal.returns-then-words-lt2-clause-begun
-returns-then-words-lt2-clause-begun g c = λ is.
-    give_begun g.E.StoreEnd.is_honest (map string_bytes c.args.words.now) c.in_ok-file.file.items c.deref.result.now c.in_ok-file.ensures.file c.deref.ensures.value (c.start_on.ensures.begun is)
+pub returns-in_err-file-clause-written : goal.returns-in_err-file-clause-written
+returns-in_err-file-clause-written g c =
+    let p = err_from_is_err_and c.from_residual.result c.from_residual.ensures.1 in
+    inl (of_words c.args.writer.now _ p.0 _ p.1 p.2 c.in_err-file.ensures.ending)
 
 pub returns-clause-refused : goal.returns-clause-refused
 returns-clause-refused g c =

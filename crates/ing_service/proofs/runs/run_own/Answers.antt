@@ -1,0 +1,10 @@
+use Rattle.std.proofs.Common.{refl}
+use Rattle.std.proofs.lemmas.Result.{err_from_is_err_and}
+use Rattle.ing_session.proofs.RunsLaws.{no_room}
+use Rattle.ing_service.proofs.runs.run_own.Goals as goal
+
+-- there was no room for what the run keeps
+pub returns-in_err-own-clause-written : goal.returns-in_err-own-clause-written
+returns-in_err-own-clause-written g c =
+    let p = err_from_is_err_and c.from_residual.result c.from_residual.ensures.1 in
+    no_room _ _ _ c.from_residual.result p.0 p.1 p.2 refl refl
