@@ -27,7 +27,7 @@ TOP = pathlib.Path(__file__).resolve().parent.parent
 sys.path += [str(TOP / "channels"), str(TOP / "kills")]
 from clients import FILES, WHOLE, Client, run  # noqa: E402
 from kills import Folder  # noqa: E402
-from scenes import SlowDisk  # noqa: E402
+from scenes import play_slowly  # noqa: E402
 
 START = 10**18
 SHARDS, CHANNELS = [1, 4], [1, 2, 4, 8]
@@ -159,18 +159,10 @@ def print_waiting(options, parent):
     print("| clients that wait | pushes a second | pushes a sync |")
     print("|---|---|---|")
     for count in CHANNELS:
-        folder = SlowDisk(parent / "run", {"shards": 1})
-        folder.make()
         lines = [push_line(number, 1) for number in range(options.pushes // 10)]
-        clients = [Client(parent / "run" / str(number), lines[number::count], WHOLE) for number in range(count)]
-        for client in clients:
-            client.make()
-        begun = time.monotonic()
-        status, output, error = run(options.program, folder, clients, patience=600)
-        seconds = time.monotonic() - begun
-        assert status == 0 and is_whole(json.loads(output)["report"], len(lines)), f"the run ended with {status}: {output}{error}"
-        print(f"| {count} | {len(lines) / seconds:,.0f} | {len(lines) / folder.syncs():.1f} |", flush=True)
-        shutil.rmtree(folder.place)
+        clients = [Client(parent / f"waits-{count}-{number}", lines[number::count], WHOLE) for number in range(count)]
+        syncs, seconds = play_slowly(options.program, parent, clients, len(lines))
+        print(f"| {count} | {len(lines) / seconds:,.0f} | {len(lines) / syncs:.1f} |", flush=True)
 
 
 def main():

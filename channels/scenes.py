@@ -207,19 +207,26 @@ class SlowDisk(Folder):
         return (self.place / "trace").read_text().count("fdatasync(")
 
 
-def syncs_of(program, parent, kind, each):
-    """How many syncs eight clients of a kind need, that push so many lines each to one shard."""
-    folder = SlowDisk(parent / "scene", SETTINGS | {"shards": 1})
+def play_slowly(program, parent, clients, count):
+    """Serves clients of one shard over a slower disk; so many entries have to be accepted. How many syncs it took, and how many seconds."""
+    folder = SlowDisk(parent / "slow", SETTINGS | {"shards": 1})
     folder.make()
-    clients = [Client(parent / f"{kind} {n}", [push_line(f"p{n}.0", at, [f"{n}.{at}"]) for at in range(each)], kind) for n in range(8)]
     for client in clients:
         client.make()
+    begun = time.monotonic()
     status, output, error = run(program, folder, clients, patience=PATIENCE)
+    seconds = time.monotonic() - begun
     assert (status, error) == (0, b""), f"the program ended with {status}: {error}"
-    assert json.loads(output)["report"][0]["accepted"] == 8 * each, f"the report is {output}"
+    assert json.loads(output)["report"][0]["accepted"] == count, f"the report is {output}"
     syncs = folder.syncs()
     shutil.rmtree(folder.place)
-    return syncs
+    return syncs, seconds
+
+
+def syncs_of(program, parent, kind, each):
+    """How many syncs eight clients of a kind need, that push so many lines each."""
+    clients = [Client(parent / f"{kind} {n}", [push_line(f"p{n}.0", at, [f"{n}.{at}"]) for at in range(each)], kind) for n in range(8)]
+    return play_slowly(program, parent, clients, 8 * each)[0]
 
 
 def pushes_share_syncs(program, parent):

@@ -11,7 +11,6 @@ last, and one of another checkout is counted, too. Prints a table at the end, an
 import collections
 import os
 import pathlib
-import re
 import subprocess
 import sys
 import threading
@@ -41,7 +40,7 @@ class Minutes:
         # Behind the command's name in brackets, which may have blanks.
         fields = (place / "stat").read_text().rpartition(")")[2].split()
         crate = words[words.index("--crate-name") + 1]
-        is_wrong = re.search(r"/rt-edit", os.readlink(place / "cwd")) is not None
+        is_wrong = "/rt-edit" in os.readlink(place / "cwd")
         self.seen[place.name, fields[19]] = crate, is_wrong, int(fields[11]) + int(fields[12])
 
     def by_crate(self):
