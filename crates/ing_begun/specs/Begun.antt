@@ -4,7 +4,7 @@ use Rattle.std.specs.Coded.{Coded, code_by, coded×}
 use Rattle.ing_limits.specs.Settings.{StoreSettings}
 use Rattle.ing_tally.specs.Books.{ShareState}
 use Rattle.ing_durable.specs.Contents.{stored_count}
-use Rattle.ing_durable.specs.Kept.{DurableContents, Replays}
+use Rattle.ing_durable.specs.Kept.{DurableContents, Replays, whose}
 
 -- What contracts see of a shard, and of the shares of what it begins with.
 pub record BegunState (D : Type 0) : Type 0 where
@@ -36,7 +36,9 @@ pub record IsFresh {D : Type 0} (begun : BegunState D) : Type 0 where
 
 -- what it has is what the log at the place of its number replays to
 abbrev pub HasReplayed : {D : Type 0} → (D → List ℕ) → List D → BegunState D → Type 0
-HasReplayed {D = D} text logs begun = (log : D) → slice_get logs begun.shard.memory.number ≡ Some log → Replays (text log) begun.shard.memory.state
+HasReplayed {D = D} text logs begun =
+    let memory = begun.shard.memory in
+    (log : D) → slice_get logs memory.number ≡ Some log → Replays (whose memory) (text log) memory.state
 
 -- Its shares are of its entries, and of those of them that are stored.
 pub record HasCounted {D : Type 0} (begun : BegunState D) : Type 0 where

@@ -1,6 +1,6 @@
 //! One shard as it begins, with shares of what it begins with.
 ghost use Rattle.std.specs.Prelude.{◌≡◌, ◌<◌, IfErr, IfOk, OnOk, length};
-ghost use Rattle.ing_durable.specs.Kept.{Replays};
+ghost use Rattle.ing_durable.specs.Kept.{Replays, shard_at};
 ghost use Rattle.ing_durable.specs.Recovering.{FitsInTurn};
 ghost use Rattle.ing_durable.specs.Refusing.{IsOwnText};
 ghost use Rattle.ing_begun.specs.Begun.{IsBegunAs, IsFresh};
@@ -90,11 +90,11 @@ impl<D: LogDisk, R: Receipt> Begun<D, R> {
         ensures stored { IfOk result (λ begun.
             begun.stored.amount ≡ stored_count begun.shard.memory.state.rows) }
         ensures replays { D.is_honest → IfOk result (λ begun.
-            Replays (D.seen log).now.bytes begun.shard.memory.state) }
+            Replays (shard_at settings.now number) (D.seen log).now.bytes begun.shard.memory.state) }
         ensures own { D.is_honest → OnOk result (IsOwnText settings.now number (D.seen log).now.bytes) }
         ensures fits { D.is_honest → OnOk result (FitsInTurn settings.now number (D.seen log).now.bytes) }
         ensures leaves { D.is_honest → IfOk result (λ begun.
-            LeavesOrReplays D.seen D.moment D.left_since log begun.shard.log begun.shard.memory.state) }
+            LeavesOrReplays (shard_at settings.now number) D.seen D.moment D.left_since log begun.shard.log begun.shard.memory.state) }
         ensures safe { IfOk result (HasSafeLog D.is_honest D.seen) }
         ensures refused { IfErr result (λ e. IsRefused D.is_honest D.seen D.failure_count settings.now number log e.0 e.1) }
     {

@@ -6,8 +6,8 @@ use Rattle.std.specs.List.{AllByRecursion}
 use Rattle.std.specs.Prelude.{All}
 use Rattle.std.proofs.lemmas.List.Elements.{All-cons, All-head, All-nil, All-tail}
 use Rattle.ing_limits.specs.Settings.{StoreSettings}
-use Rattle.ing_lanes.specs.Kept.{Replays, whose}
-use Rattle.ing_lanes.specs.Begun.{AreBegunFrom, BegunState, HasReplayed}
+use Rattle.ing_lanes.specs.Kept.{Replays, shard_at, whose}
+use Rattle.ing_lanes.specs.Begun.{AreBegunFrom, BegunState, HasReplayed, IsBegunAs}
 use Rattle.ing_service.specs.Held.{AreShardsOf, Begun, BeginsOver, ShardHeld, shard_held, whose_from}
 
 -- what stands at a place of a list that is made of another
@@ -72,9 +72,13 @@ taken_more f h before new s bs rest b all more is same so_far =
     ap (λ l. map f l ++ map h (reverse rest)) more ∙ ap (λ l. l ++ map h (reverse rest)) (map-append f before (s ∷ [])) ∙ append_assoc (map f before) (f s ∷ []) (map h (reverse rest))
     ∙ ap (λ x. map f before ++ x ∷ map h (reverse rest)) same ∙ sym (ap (λ l. map f before ++ map h l) (ap reverse is ∙ reverse-append rest (b ∷ []))) ∙ so_far
 
+-- which shard one is that was begun at a place
+numbered : {D : Type 0} (settings : StoreSettings) (place : ℕ) (b : BegunState D) → IsBegunAs settings (0 + place) b → whose b.shard.memory ≡ shard_at settings place
+numbered settings place b begun = let number : b.shard.memory.number ≡ place = begun.1 ∙ omega arith in λ i. record { settings = begun.0 i; number = number i }
+
 -- what each holds is what its log replays to
 pub begins_over : {D : Type 0} (honest : Type 0) (settings : StoreSettings) (text : D → List ℕ) (logs : List D) (last_first : List (BegunState D)) → length last_first ≡ length logs
-    → AreBegunFrom settings 0 (reverse last_first) → (honest → AllByRecursion (HasReplayed text logs) (reverse last_first)) → BeginsOver honest (map text logs) (begun_with (reverse last_first))
+    → AreBegunFrom settings 0 (reverse last_first) → (honest → AllByRecursion (HasReplayed text logs) (reverse last_first)) → BeginsOver honest settings (map text logs) (begun_with (reverse last_first))
 begins_over {D = D} honest settings text logs last_first long placed replayed =
     let bs = reverse last_first in
     record {
@@ -86,5 +90,7 @@ begins_over {D = D} honest settings text logs last_first long placed replayed =
           let number = (placed i b.0 b.1).1 in
           let here : b.0.shard.memory.number ≡ i = omega (arith, number) in
           let said = all_at (HasReplayed text logs) bs i b.0 (replayed is) b.1 log.0 (ap (slice_get logs) here ∙ log.1) in
-          subst (λ u. Replays u shard.state) log.2 (subst (λ (h : ShardHeld). Replays (text log.0) h.state) b.2 said);
+          subst (λ u. Replays (shard_at settings i) u shard.state) log.2
+          (subst (λ (h : ShardHeld). Replays (shard_at settings i) (text log.0) h.state) b.2
+          (subst (λ w. Replays w (text log.0) b.0.shard.memory.state) (numbered settings i b.0 (placed i b.0 b.1)) said));
     }

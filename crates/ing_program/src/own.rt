@@ -46,7 +46,7 @@ pub fn run_over<
     requires finders { vec_len finders ≡ settings.shards }
     // Either nothing was begun, or what is written is, over what the logs replay to, as `run` says.
     ensures written { IsUnbegun writer.old writer.new result ⊎ ((begun : held.Begun)
-        × BeginsOver D.is_honest (map (λ log. (D.seen log).now.bytes) logs.items) begun
+        × BeginsOver D.is_honest settings (map (λ log. (D.seen log).now.bytes) logs.items) begun
         × HasWritten (by_shards S.is_honest begun) settings record {
           input = I.remaining reader.old;
           rest = I.remaining reader.new;

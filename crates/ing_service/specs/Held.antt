@@ -3,7 +3,7 @@ use Rattle.std.specs.Prelude.{◌≡◌, ⊤, ℕ, ◌+◌, ◌<◌, zero, suc, 
 use Rattle.ing_rows.specs.Rows.{StreamKey, State, empty_state}
 use Rattle.ing_limits.specs.Settings.{StoreSettings}
 use Rattle.ing_durable.specs.Op.{Op}
-use Rattle.ing_durable.specs.Kept.{DurableContents, Replays, Whose}
+use Rattle.ing_durable.specs.Kept.{DurableContents, Replays, Whose, shard_at}
 
 -- of one shard: its streams in the order of their numbers, its rows and marks, and whether its log is torn: it takes no record then
 pub record ShardHeld : Type 0 where
@@ -32,12 +32,13 @@ new_shard = record { listed = []; state = empty_state; torn = true }
 abbrev pub begun_new : ℕ → Begun
 begun_new shards = record { shards = replicate shards new_shard; logged = false }
 
--- With logs that had these texts, by the numbers of the shards: where logs are honest, what each shard holds is what its text replays to.
-pub record BeginsOver (honest : Type 0) (texts : List (List ℕ)) (begun : Begun) : Type 0 where
+-- With logs that had these texts, by the numbers of the shards under these settings: where logs are honest, what each shard holds is what
+-- its text replays to.
+pub record BeginsOver (honest : Type 0) (settings : StoreSettings) (texts : List (List ℕ)) (begun : Begun) : Type 0 where
   pub logged : begun.logged ≡ true
   pub all : length begun.shards ≡ length texts
   pub replays : honest → (number : ℕ) (text : List ℕ) (shard : ShardHeld) →
-      slice_get texts number ≡ Some text → slice_get begun.shards number ≡ Some shard → Replays text shard.state
+      slice_get texts number ≡ Some text → slice_get begun.shards number ≡ Some shard → Replays (shard_at settings number) text shard.state
 
 -- a torn log stays torn; a whole one may tear
 abbrev pub MayTear : Bool → Bool → Type 0

@@ -1,4 +1,5 @@
 mod Alike
+pub mod Apart
 mod BegunLaws
 mod BookLaws
 mod ChangeLaws
