@@ -1,5 +1,5 @@
 use Rattle.std.proofs.Common.{◌∙◌, ap, subst, sym, inl, inr, reverse}
-use Rattle.std.specs.Prelude.{◌⊎◌, IsTrue}
+use Rattle.std.specs.Prelude.{◌⊎◌, IsTrue, map}
 use Rattle.std.proofs.lemmas.Result.{IfErr-weaker}
 use Rattle.ing_lanes.specs.Recovering.{IsLowestRefused}
 use Rattle.ing_lanes.specs.Runs.{HasWritten, Seen}
@@ -9,6 +9,7 @@ use Rattle.ing_lanes.proofs.EndingsLaws.{not_of_run, not_recovered, recover_endi
 use Rattle.ing_lanes.proofs.RunsLaws.{ends_of_run}
 use Rattle.ing_service.specs.ByShards.{by_shards}
 use Rattle.ing_service.specs.Ends.{failures_in}
+use Rattle.ing_service.specs.Held.{BeginsOver}
 use Rattle.ing_program.proofs.OwnLaws.{begins_over, begun_with}
 use Rattle.ing_program.proofs.own.run_over.Goals as goal
 
@@ -20,8 +21,10 @@ returns-in-Ok-clause-written g c =
     let ended = c.run_begun.new in
     let shards = c.in-Ok.shards in
     let begun = begun_with (reverse shards.last_first.items) in
-    let begins = begins_over g.D.LogDisk.is_honest shards.settings (λ log. (g.D.LogDisk.seen log).now.bytes) c.args.logs.items shards.last_first.items
-    (sym shards.last_first.ok.0 ∙ shards.all ∙ ap (λ s. s.shards) c.in-Ok.ensures.settings ∙ sym c.requires.logs ∙ c.args.logs.ok.0) shards.placed c.in-Ok.ensures.replays in
+    let texts = map (λ log. (g.D.LogDisk.seen log).now.bytes) c.args.logs.items in
+    let begins = subst (λ s. BeginsOver g.D.LogDisk.is_honest s texts begun) c.in-Ok.ensures.settings
+    (begins_over g.D.LogDisk.is_honest shards.settings (λ log. (g.D.LogDisk.seen log).now.bytes) c.args.logs.items shards.last_first.items
+    (sym shards.last_first.ok.0 ∙ shards.all ∙ ap (λ s. s.shards) c.in-Ok.ensures.settings ∙ sym c.requires.logs ∙ c.args.logs.ok.0) shards.placed c.in-Ok.ensures.replays) in
     let seen : Seen = record {
       input = remaining c.args.reader.now;
       rest = remaining ended.reader;
