@@ -3,6 +3,7 @@ pub mod Recovering
 -- what its clauses, and those of its callers, speak of in the crates below
 pub use Rattle.ing_durable.specs.Books
 pub use Rattle.ing_durable.specs.Calls
+pub use Rattle.ing_durable.specs.Catalog
 pub use Rattle.ing_durable.specs.Closed
 pub use Rattle.ing_durable.specs.Coded
 pub use Rattle.ing_durable.specs.Contents

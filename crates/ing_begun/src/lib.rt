@@ -15,7 +15,7 @@ pub use told::{Told, strand_told};
 
 // What its callers meet of the crates below.
 pub use ing_durable::{
-    ClosedShard, Due, DurableShard, FinishFault, Finished, Flushed, Gathered, Missing, NodeFault,
-    Op, PushFault, Pushed, RecoverFault, RecoveredDurable, Shard, Stranger, Stray, StreamNo,
-    Ticket, Unsynced, streams_are_picked,
+    Asked, ClosedShard, Due, DurableShard, FinishFault, Finished, Flushed, Gathered, Missing,
+    NodeFault, Op, PushFault, Pushed, RecoverFault, RecoveredDurable, Shard, Stranger, Stray,
+    StreamNo, Texts, Ticket, Unsynced, streams_are_picked,
 };

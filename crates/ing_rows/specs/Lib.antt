@@ -1,6 +1,7 @@
 pub mod Claims
 pub mod Defaults
 pub mod Events
+pub mod Facets
 pub mod Facts
 pub mod Faults
 pub mod Flushes

@@ -2,6 +2,7 @@
 #![tactic(auto)]
 
 mod entry;
+mod facet;
 mod fault;
 mod gauges;
 mod laws;
@@ -13,6 +14,7 @@ mod tenant;
 mod verdict;
 
 pub use entry::{Entry, Line, Stamp, value_of_digits, window_limit};
+pub use facet::Facet;
 pub use fault::RowFault;
 pub use gauges::{Gauge, Gauges};
 pub use laws::{

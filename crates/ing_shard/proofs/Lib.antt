@@ -2,6 +2,7 @@ mod Alike
 pub mod Apart
 mod BegunLaws
 mod BookLaws
+pub mod CatalogLaws
 mod ChangeLaws
 mod CheckpointLaws
 mod ClaimableLaws
@@ -40,6 +41,7 @@ mod StayLaws
 mod StreamLaws
 mod SumLaws
 mod TakeLaws
+mod TellLaws
 mod TenantLaws
 mod ToldLaws
 mod WaitLaws

@@ -75,7 +75,7 @@ in_turn rows (st ∷ sts) h = λ i. All-head (OwnIn rows) st sts h i ++ in_turn 
 pub all_listed : (sts : List Stream) → AreDistinct sts → flat_map (λ s. rows_of s (whole sts).rows) (map key_of sts) ≡ (whole sts).rows
 all_listed sts distinct = in_turn (whole sts).rows sts (each_own sts distinct)
 
-at_number : (P : Stream → Type 0) (sts : List Stream) (i : ℕ) (st : Stream) → All P sts → slice_get sts i ≡ Some st → P st
+pub at_number : (P : Stream → Type 0) (sts : List Stream) (i : ℕ) (st : Stream) → All P sts → slice_get sts i ≡ Some st → P st
 at_number P [] i st h is = absurd (cc)
 at_number P (x ∷ sts) zero st h is = subst P (same_Some x st is) (All-head P x sts h)
 at_number P (x ∷ sts) (suc i) st h is = at_number P sts i st (All-tail P x sts h) is

@@ -16,6 +16,7 @@ pub mod Snapshots
 pub mod Sealing
 pub mod Writable
 pub mod Calls
+pub mod Catalog
 pub mod Checkpointed
 pub mod Closed
 pub mod OneRecovery

@@ -2,6 +2,7 @@
 #![tactic(auto)]
 
 mod books;
+mod catalog;
 mod checkpoints;
 mod claimed;
 mod closed;
@@ -23,10 +24,11 @@ mod streams;
 mod tenants;
 
 pub use books::{Gathered, Missing};
+pub use catalog::{Asked, Texts};
 pub use claimed::{ClaimedChunk, FinishFault, Finished, Stranger, Stray, Ticket};
 pub use closed::ClosedShard;
 pub use judge::JudgedPush;
-pub use laws::{an_only_shard_has_all, streams_are_picked};
+pub use laws::{an_only_shard_has_all, streams_are_picked, streams_tell};
 pub use listed::{Listed, StreamFront};
 pub use node_fault::NodeFault;
 pub use recovery::{RecoveredShard, Recovery};
