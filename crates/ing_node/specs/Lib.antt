@@ -20,6 +20,7 @@ pub use Rattle.ing_diary.specs.Question
 pub use Rattle.ing_diary.specs.declared.fault.Mismatch
 pub use Rattle.ing_diary.specs.declared.fault.Unsettled
 pub use Rattle.ing_begun.specs.Begun
+pub use Rattle.ing_begun.specs.Catalog
 pub use Rattle.ing_begun.specs.Closed
 pub use Rattle.ing_begun.specs.Contents
 pub use Rattle.ing_begun.specs.Kept

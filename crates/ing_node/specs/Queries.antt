@@ -1,5 +1,5 @@
 -- What a query through the locks gives (Loki documentation: HTTP API, query range; own).
-use Rattle.std.specs.Prelude.{◌≡◌, ◌<◌, ◌≤◌, ℕ, Bool, true, List, All, Some, filter, length, map, slice_get}
+use Rattle.std.specs.Prelude.{◌≡◌, ◌<◌, ◌≤◌, ℕ, Bool, true, List, [], All, Some, filter, length, map, slice_get}
 use Rattle.std.specs.List.{flat_map}
 use Rattle.ing_labels.specs.Selectors.{Match}
 use Rattle.ing_diary.specs.Found.{Found}
@@ -11,6 +11,7 @@ use Rattle.ing_rows.specs.Gauges.{gauges_of}
 use Rattle.ing_rows.specs.Placement.{shard_of}
 use Rattle.ing_rows.specs.Rows.{Row, StreamKey}
 use Rattle.ing_rows.specs.declared.gauges.Gauges.{Gauges}
+use Rattle.ing_begun.specs.Catalog.{AddsCatalog, Asked, IsCatalog}
 use Rattle.ing_begun.specs.Picked.{Picks}
 use Rattle.ing_tally.specs.Books.{ShareState}
 use Rattle.ing_flush.specs.Tallies.{amount_at}
@@ -53,10 +54,29 @@ pub record AreAnswerOf (tenant : List ℕ) (ms : List Match) (q : Question) (fro
 abbrev pub AreBelow : ℕ → List ℕ → ℕ → List Found → Type 0
 AreBelow shards tenant place found = All (λ f. shard_of tenant f.name shards < place) found
 
--- gauges of the tenant's rows in some state
-abbrev pub AreGauges : List ℕ → Gauges → Type 0
-AreGauges tenant gauges = (rows : List Row) × (gauges ≡ gauges_of rows tenant)
-
 -- each shard had at least as many entries as a pusher was told of
 abbrev pub AreNoLess : List ShareState → List ℕ → Type 0
 AreNoLess told fronts = (i : ℕ) (front : ℕ) → slice_get fronts i ≡ Some front → amount_at i told ≤ front
+
+-- A shard had rows when it was looked at, as many as this at least, and what their streams tell came to texts.
+abbrev pub LooksAt : Asked → ℕ → List (List ℕ) → List (List ℕ) → Type 0
+LooksAt asked amount old new = (rows : List Row) × (amount ≤ length rows) × AddsCatalog asked rows old new
+
+-- So many shards, from the first on, had rows when they were looked at, each at least as many as a pusher was told of; the texts are those
+-- that all of them tell.
+pub record AreToldBy (asked : Asked) (told : List ShareState) (count : ℕ) (texts : List (List ℕ)) : Type 0 where
+  pub shards : List (List Row)
+  pub all : length shards ≡ count
+  pub no_less : AreNoLess told (map length shards)
+  pub adds : AddsCatalog asked (flat_map (λ rows. rows) shards) [] texts
+
+-- and they are the catalog of these rows
+pub record AreCatalogOf (asked : Asked) (told : List ShareState) (count : ℕ) (texts : List (List ℕ)) : Type 0 where
+  pub shards : List (List Row)
+  pub all : length shards ≡ count
+  pub no_less : AreNoLess told (map length shards)
+  pub lists : IsCatalog asked (flat_map (λ rows. rows) shards) texts
+
+-- gauges of the tenant's rows in some state
+abbrev pub AreGauges : List ℕ → Gauges → Type 0
+AreGauges tenant gauges = (rows : List Row) × (gauges ≡ gauges_of rows tenant)

@@ -40,6 +40,6 @@ pub use report::{CloseRefusal, Closed, Report};
 pub use swept::Swept;
 
 // What its callers meet of the crates below.
-pub use ing_begun::{Begun, ClosedShard, NodeFault, Op, RecoverFault, Shards};
+pub use ing_begun::{Asked, Begun, ClosedShard, NodeFault, Op, RecoverFault, Shards};
 pub use ing_diary::{Mismatch, Question, Unsettled};
 pub use ing_flush::{FlusherTally, FreeGate, Round, Worker};

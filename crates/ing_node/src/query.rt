@@ -1,19 +1,20 @@
 //! What a query gives through the locks.
-ghost use Rattle.std.specs.Prelude.{◌≡◌, ◌≤◌, All, IfOk, IfErr, length, map, vec_len};
+ghost use Rattle.std.specs.Prelude.{◌≡◌, ◌≤◌, All, IfOk, IfErr, length, map, string_bytes, vec_len};
 ghost use Rattle.std.specs.List.{AllPass};
 ghost use Rattle.std.specs.List.Sorted.{IsSortedBy};
 ghost use Rattle.ing_diary.specs.PartAnswers.{StandApart, precedes};
 ghost use Rattle.ing_diary.specs.Parts.{is_within};
+ghost use Rattle.ing_begun.specs.Catalog.{asked_view};
 ghost use Rattle.ing_diary.specs.Answers.{standing_in};
 ghost use Rattle.ing_node.specs.AnswerFaults.{IsCaused, IsNoBadAnswer, IsPassedOver, answer_refusal_of};
-ghost use Rattle.ing_node.specs.Queries.{AreAnswerOf, AreNoLess, AreSelected, IsAskedOf};
+ghost use Rattle.ing_node.specs.Queries.{AreAnswerOf, AreCatalogOf, AreNoLess, AreSelected, AreToldBy, IsAskedOf};
 ghost use Rattle.ing_node.specs.Refusals.{IsRoundRefusal};
 
 use crate::ingester::Ingester;
 use crate::laws::answers_are_of_snapshots;
 use crate::names::NodeName;
 use crate::pusher::Pusher;
-use ing_begun::NodeFault;
+use ing_begun::{Asked, NodeFault, Texts};
 use ing_diary::{Found, QueryFault, Question, Snapshot, run_query, standing_joins};
 use ing_labels::Selector;
 use ing_refusals::Refusal;
@@ -120,6 +121,51 @@ impl<N: NodeName, D: LogDisk, R: Receipt> Ingester<N, D, R> {
         let (snapshots, fronts) = self.look_after(rt, alloc, pusher, tenant, selector, question)?;
         let entries = run_query(alloc, snapshots, end, question)?;
         Ok(Answer { entries, fronts })
+    }
+
+    /// What the streams of a tenant tell that are asked and have an entry, in byte order, each text once. It looks at one shard after the
+    /// other, each under its lock, and not at one moment; each has then at least as many entries as the pusher was told of, so that who
+    /// pushed finds the streams. (Loki documentation: HTTP API, list series, list labels, list the values of a label; own.)
+    ///
+    /// `Misplaced`, and `NoMemory`.
+    pub fn catalog_after<W: Wait>(
+        &self,
+        rt: &W,
+        alloc: Global,
+        pusher: &mut Pusher<N>,
+        asked: &Asked<'_>,
+    ) -> Result<Vec<String>, NodeFault>
+        // Exactly what is asked for of the rows that each shard had then.
+        ensures lists { IfOk result (λ texts. AreCatalogOf (asked_view asked.now) pusher.old.told
+            N.settings.shards (map string_bytes texts.items)) }
+        ensures refused { IfErr result (IsRoundRefusal N.settings.shards) }
+        ensures same { pusher.new ≡ pusher.old }
+    {
+        let texts = self.texts_after(rt, alloc, pusher, asked)?;
+        Ok(texts.into_vec(alloc)?)
+    }
+
+    /// The same, before they are put into a list.
+    fn texts_after<W: Wait>(
+        &self,
+        rt: &W,
+        alloc: Global,
+        pusher: &mut Pusher<N>,
+        asked: &Asked<'_>,
+    ) -> Result<Texts, NodeFault>
+        ensures told { IfOk result
+            (AreToldBy (asked_view asked.now) pusher.old.told N.settings.shards) }
+        ensures refused { IfErr result (IsRoundRefusal N.settings.shards) }
+        ensures same { pusher.new ≡ pusher.old }
+    {
+        let mut texts = Texts::new(alloc);
+        for place in 0..self.shards.len() {
+            let share = &mut pusher.told[place].share;
+            self.shards[place]
+                .lock(rt)
+                .add_catalog(place as u32, alloc, share, asked, &mut texts)?;
+        }
+        Ok(texts)
     }
 
     /// A snapshot of each shard, and how many entries it had accepted.
