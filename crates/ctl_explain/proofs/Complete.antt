@@ -9,16 +9,17 @@ use Rattle.ing_refusals.specs.Results.{◌>>=◌}
 use Rattle.ing_rows.specs.Texts.{is_tenant, stamp_of}
 use Rattle.ing_commands.specs.declared.fault.LineFault.{LineFault}
 use Rattle.ing_commands.specs.declared.fault.LineFault.TheVariants.{NoMemory, BadCommand, Metadata, BadTenant, BadStamp}
-use Rattle.ing_commands.specs.Commands.{said_by, said_as, pushed, swept, flushed, asked, queried, Command, Board, Checkpoint}
+use Rattle.ing_commands.specs.Commands.{said_by, said_as, pushed, swept, flushed, asked, queried, listed, Command, Board, Checkpoint}
+use Rattle.ing_commands.specs.CatalogCommands.{CatalogCommand, labels_of, series_of}
 use Rattle.ing_commands.specs.FlushCommands.{flush_of}
 use Rattle.ing_commands.specs.GaugesCommands.{gauges_of, GaugesCommand}
 use Rattle.ing_commands.specs.PushCommands.{RawValue, RawStream, RawPush, raw_value, raw_labels, raw_stream, raw_push, has_metadata, is_no_stamp, has_bad_value, push_said_by, checked, push_of}
 use Rattle.ing_commands.specs.QueryCommands.{RawQuery, raw_query, query_of, limit_at, order_of, tenant_of, end_of}
 use Rattle.ing_commands.specs.QueryCommands as queries
-use Rattle.ing_commands.specs.Shapes.{text_of, text_at, text_or, flag_at, array_at, object_at, each}
+use Rattle.ing_commands.specs.Shapes.{text_of, text_at, text_or, maybe_text_at, flag_at, array_at, object_at, each}
 use Rattle.ing_commands.specs.SweepCommands.{sweep_of}
 use Rattle.ctl_explain.specs.declared.member.Field.{Field}
-use Rattle.ctl_explain.specs.declared.member.Field.TheVariants.{Cmd, Tenant, Now, Streams, Query, Start, End, Limit, Direction, Forced}
+use Rattle.ctl_explain.specs.declared.member.Field.TheVariants.{Cmd, Tenant, Now, Streams, Query, Start, End, Limit, Direction, Forced, Selector, Name}
 use Rattle.ctl_explain.specs.declared.member.Part.TheVariants as part
 use Rattle.ctl_explain.specs.declared.member.Member.TheVariants.{Own, OfStream}
 use Rattle.ctl_explain.specs.Members.{Test, test_cmd, test_tenant, test_stamp, test_end, test_direction, test_raw, field_test, part_test, label_test, value_test, label_in}
@@ -407,11 +408,14 @@ gauges_complete fault d e =
 abbrev query_fields : List Field
 query_fields = Tenant ∷ Query ∷ Start ∷ End ∷ Limit ∷ Direction ∷ []
 
--- one of the members of a query fails
-record QueryFails (fault : LineFault) (d : Data) : Type 0 where
+-- one of these members fails
+record OneFails (names : List Field) (fault : LineFault) (d : Data) : Type 0 where
   name : Field
-  one : In name query_fields
+  one : In name names
   bad : field_test name d ≡ Err fault
+
+abbrev QueryFails : LineFault → Data → Type 0
+QueryFails = OneFails query_fields
 
 -- the texts of a query, and what stands in the line for them
 record QueryFacts (d : Data) (raw : RawQuery) : Type 0 where
@@ -489,6 +493,33 @@ query_complete fault d e =
       | inr raw ↦ query_checked fault d raw.0 (query_facts d raw.0 raw.1) raw.2
     ]
 
+-- ---- a question for a catalog
+
+series_complete : (fault : LineFault) (d : Data) → series_of d ≡ Err fault → OneFails (Tenant ∷ Selector ∷ []) fault d
+unfolding series_of
+series_complete fault d e =
+    elim (bind_err (text_at (codes "tenant") d) _ fault e) as (λ _. OneFails (Tenant ∷ Selector ∷ []) fault d) [
+      | inl bad ↦ record { name = Tenant; one = inl refl; bad = fails (text_at (codes "tenant") d) _ fault bad }
+      | inr tenant ↦ elim (bind_err (maybe_text_at (codes "query") d) _ fault tenant.2) as (λ _. OneFails (Tenant ∷ Selector ∷ []) fault d) [
+        | inl bad ↦ record { name = Selector; one = inr (inl refl); bad = fails (maybe_text_at (codes "query") d) _ fault bad }
+        | inr text ↦ record { name = Tenant; one = inl refl; bad = goes_on (text_at (codes "tenant") d) test_tenant tenant.0 (Err fault) tenant.1 (tenant_at {A = CatalogCommand} (is_tenant tenant.0) _ fault text.2) }
+      ]
+    ]
+
+labels_complete : (fault : LineFault) (d : Data) → labels_of d ≡ Err fault → OneFails (Tenant ∷ Selector ∷ Name ∷ []) fault d
+unfolding labels_of
+labels_complete fault d e =
+    elim (bind_err (text_at (codes "tenant") d) _ fault e) as (λ _. OneFails (Tenant ∷ Selector ∷ Name ∷ []) fault d) [
+      | inl bad ↦ record { name = Tenant; one = inl refl; bad = fails (text_at (codes "tenant") d) _ fault bad }
+      | inr tenant ↦ elim (bind_err (maybe_text_at (codes "query") d) _ fault tenant.2) as (λ _. OneFails (Tenant ∷ Selector ∷ Name ∷ []) fault d) [
+        | inl bad ↦ record { name = Selector; one = inr (inl refl); bad = fails (maybe_text_at (codes "query") d) _ fault bad }
+        | inr text ↦ elim (bind_err (maybe_text_at (codes "name") d) _ fault text.2) as (λ _. OneFails (Tenant ∷ Selector ∷ Name ∷ []) fault d) [
+          | inl bad ↦ record { name = Name; one = inr (inr (inl refl)); bad = fails (maybe_text_at (codes "name") d) _ fault bad }
+          | inr name ↦ record { name = Tenant; one = inl refl; bad = goes_on (text_at (codes "tenant") d) test_tenant tenant.0 (Err fault) tenant.1 (tenant_at {A = CatalogCommand} (is_tenant tenant.0) _ fault name.2) }
+        ]
+      ]
+    ]
+
 -- ---- any command
 
 -- the command alone fails, since what is made of it does not
@@ -505,28 +536,36 @@ push_none fault d fields streams =
       stream = λ k s there. no_stream fault 0 (items_at (codes "streams") d) k s streams there;
     }
 
-by_command : (push sweep flush gauges board checkpoint query : Bool) (fault : LineFault) (d : Data)
+by_command : (push sweep flush gauges board checkpoint query series labels : Bool) (fault : LineFault) (d : Data)
     → cond push (push_of d >>= pushed) (cond sweep (sweep_of d >>= swept) (cond flush (flush_of d >>= flushed) (cond gauges (gauges_of d >>= asked) (
-    cond board (Ok Board) (cond checkpoint (Ok Checkpoint) (cond query (query_of d >>= queried) (Err BadCommand))))))) ≡ Err fault
+    cond board (Ok Board) (cond checkpoint (Ok Checkpoint) (cond query (query_of d >>= queried) (
+    cond series (series_of d >>= listed) (cond labels (labels_of d >>= listed) (Err BadCommand))))))))) ≡ Err fault
     → first_field fault (cond push (Tenant ∷ Now ∷ Streams ∷ []) (cond sweep (Now ∷ []) (cond flush (Forced ∷ []) (cond gauges (Tenant ∷ []) (
-    cond board [] (cond checkpoint [] (cond query query_fields (Cmd ∷ [])))))))) d ≡ None
+    cond board [] (cond checkpoint [] (cond query query_fields (
+    cond series (Tenant ∷ Selector ∷ []) (cond labels (Tenant ∷ Selector ∷ Name ∷ []) (Cmd ∷ [])))))))))) d ≡ None
     → cond push (first_of_streams fault 0 (items_at (codes "streams") d)) None ≡ None
-    → field_test Cmd d ≡ cond (push || (sweep || (flush || (gauges || (board || (checkpoint || (query || false))))))) (Ok tt) (Err BadCommand)
+    → field_test Cmd d ≡ cond (push || (sweep || (flush || (gauges || (board || (checkpoint || (query || (series || (labels || false))))))))) (Ok tt) (Err BadCommand)
     → ⊥
-by_command true sweep flush gauges board checkpoint query fault d e fields streams cmd =
+by_command true sweep flush gauges board checkpoint query series labels fault d e fields streams cmd =
     push_complete fault d (push_none fault d fields streams) (command_fails (push_of d) pushed fault (λ x h. absurd (cc h)) e)
-by_command false true flush gauges board checkpoint query fault d e fields streams cmd =
+by_command false true flush gauges board checkpoint query series labels fault d e fields streams cmd =
     no_field fault (Now ∷ []) d Now (inl refl) fields (sweep_complete fault d (command_fails (sweep_of d) swept fault (λ x h. absurd (cc h)) e))
-by_command false false true gauges board checkpoint query fault d e fields streams cmd =
+by_command false false true gauges board checkpoint query series labels fault d e fields streams cmd =
     no_field fault (Forced ∷ []) d Forced (inl refl) fields (flush_complete fault d (command_fails (flush_of d) flushed fault (λ x h. absurd (cc h)) e))
-by_command false false false true board checkpoint query fault d e fields streams cmd =
+by_command false false false true board checkpoint query series labels fault d e fields streams cmd =
     no_field fault (Tenant ∷ []) d Tenant (inl refl) fields (gauges_complete fault d (command_fails (gauges_of d) asked fault (λ x h. absurd (cc h)) e))
-by_command false false false false true checkpoint query fault d e fields streams cmd = absurd (cc e)
-by_command false false false false false true query fault d e fields streams cmd = absurd (cc e)
-by_command false false false false false false true fault d e fields streams cmd =
+by_command false false false false true checkpoint query series labels fault d e fields streams cmd = absurd (cc e)
+by_command false false false false false true query series labels fault d e fields streams cmd = absurd (cc e)
+by_command false false false false false false true series labels fault d e fields streams cmd =
     let bad = query_complete fault d (command_fails (query_of d) queried fault (λ x h. absurd (cc h)) e) in
     no_field fault query_fields d bad.name bad.one fields bad.bad
-by_command false false false false false false false fault d e fields streams cmd =
+by_command false false false false false false false true labels fault d e fields streams cmd =
+    let bad = series_complete fault d (command_fails (series_of d) listed fault (λ x h. absurd (cc h)) e) in
+    no_field fault (Tenant ∷ Selector ∷ []) d bad.name bad.one fields bad.bad
+by_command false false false false false false false false true fault d e fields streams cmd =
+    let bad = labels_complete fault d (command_fails (labels_of d) listed fault (λ x h. absurd (cc h)) e) in
+    no_field fault (Tenant ∷ Selector ∷ Name ∷ []) d bad.name bad.one fields bad.bad
+by_command false false false false false false false false false fault d e fields streams cmd =
     no_field fault (Cmd ∷ []) d Cmd (inl refl) fields (cmd ∙ e_test e) where
       e_test : ◌≡◌ {A = Result Command LineFault} (Err BadCommand) (Err fault) → ◌≡◌ {A = Test} (Err BadCommand) (Err fault)
       e_test h = let same : BadCommand ≡ fault = cc in ap (λ f. Err f) same
@@ -539,7 +578,8 @@ complete_at (Err g) fault d is e none =
 complete_at (Ok cmd) fault d is e none =
     let parts = neither (first_field fault (fields_of cmd) d) (rest_of fault cmd d) none in
     by_command (bytes_eq cmd (codes "push")) (bytes_eq cmd (codes "sweep")) (bytes_eq cmd (codes "flush")) (bytes_eq cmd (codes "gauges"))
-    (bytes_eq cmd (codes "board")) (bytes_eq cmd (codes "checkpoint")) (bytes_eq cmd (codes "query")) fault d e parts.0 parts.1
+    (bytes_eq cmd (codes "board")) (bytes_eq cmd (codes "checkpoint")) (bytes_eq cmd (codes "query")) (bytes_eq cmd (codes "series"))
+    (bytes_eq cmd (codes "labels")) fault d e parts.0 parts.1
     (goes_on (text_at (codes "cmd") d) test_cmd cmd _ is refl)
 
 -- a command that is refused has a member at fault, which the walk finds

@@ -10,7 +10,7 @@ use Rattle.ing_limits.specs.Settings.{StoreSettings}
 use Rattle.ing_limits.specs.Ranges.{rules_for}
 use Rattle.ing_commands.specs.declared.fault.LineFault.{LineFault}
 use Rattle.ing_commands.specs.declared.fault.LineFault.TheVariants.{BadCommand}
-use Rattle.ing_commands.specs.Commands.{Command, Push, Sweep, Flush, Gauges, Board, Checkpoint, Query, data_of}
+use Rattle.ing_commands.specs.Commands.{Command, Push, Sweep, Flush, Gauges, Board, Checkpoint, Query, Catalog, data_of}
 use Rattle.ctl_explain.specs.declared.explained.Cause.{Cause}
 use Rattle.ctl_explain.specs.declared.explained.Cause.TheVariants as cause
 use Rattle.ctl_explain.specs.declared.explained.Explained.{Explained}
@@ -54,6 +54,11 @@ TellsQuery text told.Skipped = ⊥
 TellsQuery text told.Taken = ⊥
 TellsQuery text (told.Push faults) = ⊥
 
+-- a question for a catalog is taken, or its text is refused as that of a query
+abbrev pub TellsCatalog : Option (List ℕ) → Explained → Type 0
+TellsCatalog None x = IsTaken x
+TellsCatalog (Some text) x = TellsQuery text x
+
 -- what a command is told to be
 abbrev pub TellsCommand : StoreSettings → Command → Explained → Type 0
 TellsCommand settings (Push push) x = TellsPush (map (stream_fault_of (rules_for settings push.tenant)) push.streams) x
@@ -63,6 +68,7 @@ TellsCommand settings (Flush flush) x = IsTaken x
 TellsCommand settings (Gauges gauges) x = IsTaken x
 TellsCommand settings Board x = IsTaken x
 TellsCommand settings Checkpoint x = IsTaken x
+TellsCommand settings (Catalog catalog) x = TellsCatalog catalog.text x
 
 -- what a line that says this is told to be
 abbrev pub Tells : StoreSettings → Option (Result Command LineFault) → Explained → Type 0

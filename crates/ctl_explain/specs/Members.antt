@@ -9,7 +9,7 @@ use Rattle.ing_commands.specs.declared.fault.LineFault.{LineFault}
 use Rattle.ing_commands.specs.declared.fault.LineFault.TheVariants.{BadCommand, Metadata, BadTenant, BadStamp}
 use Rattle.ing_commands.specs.PushCommands.{RawValue, raw_texts, raw_elements, raw_value, is_no_stamp}
 use Rattle.ing_commands.specs.QueryCommands.{limit_at, order_of}
-use Rattle.ing_commands.specs.Shapes.{text_of, text_at, text_or, flag_at, array_at, object_at}
+use Rattle.ing_commands.specs.Shapes.{text_of, text_at, text_or, maybe_text_at, flag_at, array_at, object_at}
 use Rattle.ctl_explain.specs.declared.member.Field.{Field}
 use Rattle.ctl_explain.specs.declared.member.Field.TheVariants as field
 use Rattle.ctl_explain.specs.declared.member.Part.{Part}
@@ -24,9 +24,9 @@ Test = Result ⊤ LineFault
 abbrev pub passes : {A : Type 0} → A → Test
 passes x = Ok tt
 
--- the seven commands
+-- the nine commands
 abbrev pub commands : List (List ℕ)
-commands = codes "push" ∷ codes "sweep" ∷ codes "flush" ∷ codes "gauges" ∷ codes "board" ∷ codes "checkpoint" ∷ codes "query" ∷ []
+commands = codes "push" ∷ codes "sweep" ∷ codes "flush" ∷ codes "gauges" ∷ codes "board" ∷ codes "checkpoint" ∷ codes "query" ∷ codes "series" ∷ codes "labels" ∷ []
 
 abbrev pub test_cmd : List ℕ → Test
 test_cmd text = if list_any (bytes_eq text) commands then Ok tt else Err BadCommand
@@ -44,6 +44,10 @@ test_end text = if bytes_eq text (codes "9223372036854775808") then Ok tt else t
 abbrev pub test_direction : List ℕ → Test
 test_direction text = order_of text >>= passes
 
+-- a text, where there is one
+abbrev pub test_text : List ℕ → Data → Test
+test_text name d = maybe_text_at name d >>= passes
+
 -- ---- members of the line's object
 
 abbrev pub field_name : Field → List ℕ
@@ -57,6 +61,8 @@ field_name field.End = codes "end"
 field_name field.Limit = codes "limit"
 field_name field.Direction = codes "direction"
 field_name field.Forced = codes "forced"
+field_name field.Selector = codes "query"
+field_name field.Name = codes "name"
 
 abbrev pub field_test : Field → Data → Test
 field_test field.Cmd d = text_at (codes "cmd") d >>= test_cmd
@@ -69,6 +75,8 @@ field_test field.End d = text_or (codes "end") (codes "9223372036854775808") d >
 field_test field.Limit d = limit_at d >>= passes
 field_test field.Direction d = text_or (codes "direction") (codes "backward") d >>= test_direction
 field_test field.Forced d = flag_at (codes "forced") true d >>= passes
+field_test field.Selector d = test_text (codes "query") d
+field_test field.Name d = test_text (codes "name") d
 
 -- ---- parts of a stream
 

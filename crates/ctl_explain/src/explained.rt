@@ -30,7 +30,7 @@ pub enum Explained {
     Line(LineFault, Cause),
     /// It is a push; for each stream, in order, why it is refused, and `None` where it is not.
     Push(Vec<Option<StreamFault>>),
-    /// It is a query; why its selector is refused, and `None` where it is not.
+    /// It is a query, or a question for a catalog with a selector; why this is refused, and `None` where it is not.
     Query(Option<TextFault>),
     /// It is another command, which is taken.
     Taken,

@@ -2,14 +2,14 @@
 ghost use Rattle.std.specs.Prelude.{◌≡◌, IfOk, Some, Ok, Err};
 ghost use Rattle.serde_json.specs.View.{view};
 ghost use Rattle.ing_commands.specs.Commands.{data_of, said_by};
-ghost use Rattle.ing_commands.specs.Views.{command_view};
+ghost use Rattle.ing_commands.specs.Views.{catalog_view, command_view};
 ghost use Rattle.ctl_explain.specs.Lines as lines;
-ghost use Rattle.ctl_explain.specs.Explanations.{Tells, TellsCommand, TellsText, HasCause, IsCause};
+ghost use Rattle.ctl_explain.specs.Explanations.{Tells, TellsCatalog, TellsCommand, TellsText, HasCause, IsCause};
 
 use crate::explained::{Cause, Explained};
 use crate::stream::push_faults;
 use crate::walk::member_at_fault;
-use ing_commands::{Command, LineFault, command_of, read_value};
+use ing_commands::{Catalog, Command, LineFault, command_of, read_value};
 use ing_labels::{Selector, TextFault};
 use ing_limits::Settings;
 use serde_json::Value;
@@ -19,7 +19,7 @@ use std::alloc::{AllocError, Global};
 const MAX_LINE: usize = 16_777_216;
 
 /// Why `ingestd` with these settings refuses a line: as a whole, by a stream of a push, or by the selector
-/// of a query. It is told exactly where `ingestd` refuses, by the functions by which it reads; verdicts,
+/// of a query or of a question for a catalog. It is told exactly where `ingestd` refuses, by the functions by which it reads; verdicts,
 /// `CounterFull`, `StoreFault` and `BadObject`, which depend on what is held, are not told. It fails only
 /// where memory runs out. (Own.)
 pub fn explain(alloc: Global, settings: &Settings, line: &[u8]) -> Result<Explained, AllocError>
@@ -80,11 +80,22 @@ fn explain_command(
     match command {
         Command::Push(push) => Ok(Explained::Push(push_faults(alloc, settings, push)?)),
         Command::Query(query) => Ok(Explained::Query(text_fault(alloc, query.text)?)),
+        Command::Catalog(catalog) => explain_catalog(alloc, catalog),
         Command::Sweep(_)
         | Command::Flush(_)
         | Command::Gauges(_)
         | Command::Board
         | Command::Checkpoint => Ok(Explained::Taken),
+    }
+}
+
+/// Why a question for a catalog is refused: by its text, where it has one.
+fn explain_catalog(alloc: Global, catalog: &Catalog<'_>) -> Result<Explained, AllocError>
+    ensures { IfOk result (TellsCatalog (catalog_view catalog.now).text) }
+{
+    match catalog.text {
+        Some(text) => Ok(Explained::Query(text_fault(alloc, text)?)),
+        None => Ok(Explained::Taken),
     }
 }
 

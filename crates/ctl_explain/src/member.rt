@@ -25,6 +25,10 @@ pub enum Field {
     Direction,
     /// Whether a flush is forced.
     Forced,
+    /// The selector of a question for a catalog, which may be absent.
+    Selector,
+    /// The label whose values a catalog has, which may be absent.
+    Name,
 }
 
 /// A part of a stream of a push (own).
@@ -68,6 +72,8 @@ impl Field {
             Field::Limit => "limit",
             Field::Direction => "direction",
             Field::Forced => "forced",
+            Field::Selector => "query",
+            Field::Name => "name",
         }
     }
 }

@@ -78,6 +78,16 @@ fn test_forced(value: &Value) -> Result<(), LineFault>
     }
 }
 
+/// The member of a name, which is a text where it is there.
+fn test_text(value: &Value, name: &str) -> Result<(), LineFault>
+    ensures { result ≡ members.test_text name.now (view value.now) }
+{
+    match value.get(name) {
+        Some(text) => text_of(text).map(|_| ()),
+        None => Ok(()),
+    }
+}
+
 /// The member `limit`.
 fn test_limit(value: &Value) -> Result<(), LineFault>
     ensures { result ≡ members.field_test Field.Limit (view value.now) }
@@ -91,12 +101,20 @@ fn test_limit(value: &Value) -> Result<(), LineFault>
     }
 }
 
-/// One of the seven commands.
+/// One of the nine commands.
 fn test_cmd(text: &str) -> Result<(), LineFault>
     ensures { result ≡ members.test_cmd text.now }
 {
     match text {
-        "push" | "sweep" | "flush" | "gauges" | "board" | "checkpoint" | "query" => Ok(()),
+        "push"
+        | "sweep"
+        | "flush"
+        | "gauges"
+        | "board"
+        | "checkpoint"
+        | "query"
+        | "series"
+        | "labels" => Ok(()),
         _ => Err(LineFault::BadCommand),
     }
 }
@@ -157,6 +175,8 @@ pub(crate) fn field_test(field: Field, value: &Value) -> Result<(), LineFault>
         Field::Limit => test_limit(value),
         Field::Direction => test_direction(text_or(value, "direction", "backward")?),
         Field::Forced => test_forced(value),
+        Field::Selector => test_text(value, "query"),
+        Field::Name => test_text(value, "name"),
     }
 }
 

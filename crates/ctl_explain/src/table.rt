@@ -84,13 +84,13 @@ pub(crate) static TABLE: [Page; 43] = [
     Page {
         refusal: Refusal::BadSelector,
         meaning: "The text of a query is no selector.",
-        when: "In the place of a query; `at` tells where its text goes wrong, in bytes.",
+        when: "In the place of the command that has it; `at` tells where its text goes wrong, in bytes.",
         advice: "Write {name=\"value\", other!=\"value\"}; there are no =~, no !~ and no filters.",
     },
     Page {
         refusal: Refusal::TooWide,
         meaning: "No matcher of the selector is `=` with a value.",
-        when: "In the place of a query.",
+        when: "In the place of the command that has it.",
         advice: "Add a matcher that asks for one value, such as job=\"app\".",
     },
     Page {

@@ -115,6 +115,8 @@ pub(crate) fn fields_of(cmd: &str) -> &'static [Field]
             Field::Limit,
             Field::Direction,
         ],
+        "series" => &[Field::Tenant, Field::Selector],
+        "labels" => &[Field::Tenant, Field::Selector, Field::Name],
         _ => &[Field::Cmd],
     }
 }

@@ -7,6 +7,7 @@ use Rattle.serde_json.specs.Read as json
 use Rattle.ing_refusals.specs.Results.{◌>>=◌}
 use Rattle.ing_commands.specs.declared.fault.LineFault.{LineFault}
 use Rattle.ing_commands.specs.declared.fault.LineFault.TheVariants.{BadCommand}
+use Rattle.ing_commands.specs.CatalogCommands.{CatalogCommand, labels_of, series_of}
 use Rattle.ing_commands.specs.FlushCommands.{FlushCommand, flush_of}
 use Rattle.ing_commands.specs.GaugesCommands.{GaugesCommand, gauges_of}
 use Rattle.ing_commands.specs.PushCommands.{PushCommand, push_of}
@@ -22,6 +23,7 @@ pub data Command : Type 0 where
   Board : Command
   Checkpoint : Command
   Query : QueryCommand → Command
+  Catalog : CatalogCommand → Command
 
 abbrev pub pushed : PushCommand → Result Command LineFault
 pushed push = Ok (Push push)
@@ -38,6 +40,9 @@ asked gauges = Ok (Gauges gauges)
 abbrev pub queried : QueryCommand → Result Command LineFault
 queried query = Ok (Query query)
 
+abbrev pub listed : CatalogCommand → Result Command LineFault
+listed catalog = Ok (Catalog catalog)
+
 -- the JSON value of a line, which is UTF-8
 abbrev pub data_of : List ℕ → Result Data LineFault
 data_of line = if is_utf8 line then ok_or (json.read line) BadCommand else Err BadCommand
@@ -52,6 +57,8 @@ said_as cmd d =
     else if bytes_eq cmd (codes "board") then Ok Board
     else if bytes_eq cmd (codes "checkpoint") then Ok Checkpoint
     else if bytes_eq cmd (codes "query") then query_of d >>= queried
+    else if bytes_eq cmd (codes "series") then series_of d >>= listed
+    else if bytes_eq cmd (codes "labels") then labels_of d >>= listed
     else Err BadCommand
 
 -- what a value commands, by its member `cmd`

@@ -1,3 +1,4 @@
+pub mod CatalogCommands
 pub mod Commands
 pub mod Faults
 pub mod FlushCommands

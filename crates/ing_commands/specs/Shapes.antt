@@ -24,6 +24,15 @@ text_of_or absent (Some d) = text_of d
 abbrev pub text_or : List ℕ → List ℕ → Data → Result (List ℕ) LineFault
 text_or name absent d = text_of_or absent (get name d)
 
+-- the text that a value is, where there is one
+abbrev pub maybe_text : Option Data → Result (Option (List ℕ)) LineFault
+maybe_text None = Ok None
+maybe_text (Some d) = text_of d >>= λ text. Ok (Some text)
+
+-- the member of this name, a text, which may be absent and is then none
+abbrev pub maybe_text_at : List ℕ → Data → Result (Option (List ℕ)) LineFault
+maybe_text_at name d = maybe_text (get name d)
+
 -- the same as `text_at`, an array
 abbrev pub array_at : List ℕ → Data → Result Items LineFault
 array_at name d = ok_or (option_and_then as_array (get name d)) BadCommand

@@ -1,11 +1,12 @@
 -- What the code's types hold, without where it lies in memory.
-use Rattle.std.specs.Prelude.{ℕ, List, map}
+use Rattle.std.specs.Prelude.{ℕ, List, map, option_map}
 use Rattle.std.specs.Borrow.{Bor}
 use Rattle.ing_commands.specs.declared.push.Push as push
 use Rattle.ing_commands.specs.declared.push.StreamPush.{StreamPush}
 use Rattle.ing_commands.specs.declared.push.PushTexts.{PushTexts}
 use Rattle.ing_commands.specs.declared.push.stream.StreamTexts.{StreamTexts}
 use Rattle.ing_commands.specs.declared.push.ValueTexts.{ValueTexts}
+use Rattle.ing_commands.specs.declared.catalog.Catalog as catalog
 use Rattle.ing_commands.specs.declared.flush.Flush as flush
 use Rattle.ing_commands.specs.declared.gauges.GaugesOf.{GaugesOf}
 use Rattle.ing_commands.specs.declared.query.Query as query
@@ -20,7 +21,9 @@ use Rattle.ing_commands.specs.SweepCommands.{SweepCommand}
 use Rattle.ing_commands.specs.FlushCommands.{FlushCommand}
 use Rattle.ing_commands.specs.GaugesCommands.{GaugesCommand}
 use Rattle.ing_commands.specs.QueryCommands.{RawQuery, QueryCommand}
-use Rattle.ing_commands.specs.Commands.{Command, Push, Sweep, Flush, Gauges, Board, Checkpoint, Query}
+use Rattle.ing_commands.specs.CatalogCommands.{CatalogCommand}
+use Rattle.ing_rows.specs.Facets.{facet_view}
+use Rattle.ing_commands.specs.Commands.{Command, Push, Sweep, Flush, Gauges, Board, Checkpoint, Query, Catalog}
 
 -- the bytes of a label and its value
 abbrev pub label_view : Bor (List ℕ) × Bor (List ℕ) → List ℕ × List ℕ
@@ -66,6 +69,10 @@ query_texts q = record { tenant = q.tenant.now; text = q.text.now; start = q.sta
 abbrev pub query_view : query.Query → QueryCommand
 query_view q = record { tenant = q.tenant; text = q.text.now; start = q.start; end = q.end; limit = q.limit; order = q.order }
 
+-- a question for a catalog
+abbrev pub catalog_view : catalog.Catalog → CatalogCommand
+catalog_view c = record { tenant = c.tenant; text = option_map (λ text. text.now) c.text; facet = facet_view c.facet }
+
 -- a command
 abbrev pub command_view : code.Command → Command
 command_view (variants.Push p) = Push (push_view p)
@@ -75,3 +82,4 @@ command_view (variants.Gauges g) = Gauges (gauges_view g)
 command_view variants.Board = Board
 command_view variants.Checkpoint = Checkpoint
 command_view (variants.Query q) = Query (query_view q)
+command_view (variants.Catalog c) = Catalog (catalog_view c)

@@ -1,6 +1,7 @@
 //! What lines of input command: a line is read as JSON, and a command is made of it or a fault is told.
 #![tactic(auto)]
 
+mod catalog;
 mod command;
 mod fault;
 mod flush;
@@ -10,6 +11,7 @@ mod query;
 mod shape;
 mod sweep;
 
+pub use catalog::Catalog;
 pub use command::{Command, command_of, read_value};
 pub use fault::LineFault;
 pub use flush::Flush;

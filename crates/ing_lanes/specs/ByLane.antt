@@ -2,10 +2,11 @@
 -- knows, so this says what is known outside: what a line says, the form of its reply, how many entries were told accepted on this
 -- channel, by the number of their shard, which ones, where the settings want diaries, and how many chunks were told stored on it.
 use Rattle.std.specs.Prelude.{◌≡◌, ◌≢◌, ◌⊎◌, ℕ, ◌+◌, ◌≤◌, All, Bool, false, true, List, [], ◌∷◌, None, Some, Result, Ok, Err, length, slice_get, sum_by}
-use Rattle.std.specs.List.{AllPass}
+use Rattle.std.specs.List.{AllPass, flat_map}
 use Rattle.std.specs.List.Sorted.{IsSortedBy}
 use Rattle.serde_json.specs.Data.{Data}
 use Rattle.ing_labels.specs.Labels.{LabelMap, labels_of}
+use Rattle.ing_labels.specs.Selectors.{Match}
 use Rattle.ing_labels.specs.Canonical.{canonical_of}
 use Rattle.ing_labels.specs.TextFaults.{IsSelectorFault, text_fault_place, text_refusal_of}
 use Rattle.ing_labels.specs.declared.fault.LabelFault.{LabelFault}
@@ -14,6 +15,7 @@ use Rattle.ing_rows.specs.declared.entry.Entry.{Entry}
 use Rattle.ing_rows.specs.declared.gauges.Gauges.{Gauges}
 use Rattle.ing_rows.specs.declared.verdict.Verdict.{Verdict}
 use Rattle.ing_rows.specs.Placement.{shard_of}
+use Rattle.ing_rows.specs.Rows.{Row}
 use Rattle.ing_rows.specs.Turns.{accepted_among}
 use Rattle.ing_limits.specs.Settings.{StoreSettings}
 use Rattle.ing_limits.specs.Ranges.{rules_for}
@@ -31,11 +33,14 @@ use Rattle.ing_node.specs.declared.query.AnswerFault.TheVariants.{Node, Query}
 use Rattle.ing_node.specs.AnswerFaults.{IsNoBadAnswer, IsPassedOver, answer_refusal_of}
 use Rattle.ing_node.specs.NodeFaults.{refusal_of}
 use Rattle.ing_node.specs.Boards.{IsNoLess, no_counts}
+use Rattle.ing_node.specs.Catalog.{Asked, IsCatalog}
 use Rattle.ing_node.specs.Pushes.{AreJudged, IsPushRefusal}
 use Rattle.ing_node.specs.Queries.{AreAnswerOf, AreSelected}
 use Rattle.ing_node.specs.Question.{Question}
+use Rattle.ing_node.specs.Refusals.{IsRoundRefusal}
 use Rattle.ing_node.specs.Diaries.{PusherState, notes_kept}
 use Rattle.ing_node.specs.Notes.{Note, noted}
+use Rattle.ing_commands.specs.CatalogCommands.{CatalogCommand}
 use Rattle.ing_commands.specs.Commands as commands
 use Rattle.ing_commands.specs.Commands.{Command}
 use Rattle.ing_commands.specs.PushCommands.{PushCommand, StreamEntries}
@@ -43,8 +48,8 @@ use Rattle.ing_commands.specs.QueryCommands.{QueryCommand}
 use Rattle.ing_session.specs.Faults.{label_fault, limits_of}
 use Rattle.ing_session.specs.Causes.{HaveCause}
 use Rattle.ing_session.specs.Manners.{Manner}
-use Rattle.ing_session.specs.Selecting.{Reads}
-use Rattle.ing_session.specs.Replies.{fault_data, judged_data, push_data, sweep_data, flush_data, gauges_data, board_data, checkpoint_data, query_data}
+use Rattle.ing_session.specs.Selecting.{AsksBy, IsTextRefused, Reads}
+use Rattle.ing_session.specs.Replies.{catalog_data, fault_data, judged_data, push_data, sweep_data, flush_data, gauges_data, board_data, checkpoint_data, query_data}
 
 -- How what was told accepted is measured: by how many entries they are of a shard, by its number; or by what all of them weigh, each by
 -- its stream, its number, its stamp and its line. With a weight of 1 for one entry and of 0 for any other that is how often it was told.
@@ -276,6 +281,50 @@ pub record ObeysQuery (honest : Type 0) (settings : StoreSettings) (query : Quer
   pub left : Stays old new
   pub failures : failed ≡ failed_of answer
 
+-- ---- a question for a catalog
+
+-- its text is refused; these texts are listed; or a lock was not passed
+pub data Listing : Type 0 where
+  NoSelector : TextFault → Listing
+  Listed : List (List ℕ) → Listing
+  NotListed : NodeFault → Listing
+
+-- what is asked by these matchers
+abbrev pub asked_by : CatalogCommand → List Match → Asked
+asked_by catalog ms = record { tenant = catalog.tenant; ms = ms; facet = catalog.facet }
+
+-- These texts are exactly what is asked for of the rows that the shards had when they were looked at. Each had accepted at least as many
+-- entries as were told of it.
+pub record IsListed (settings : StoreSettings) (catalog : CatalogCommand) (known : Told) (texts : List (List ℕ)) : Type 0 where
+  pub ms : List Match
+  pub asks : AsksBy catalog.text ms
+  pub shards : List (List Row)
+  pub all : length shards ≡ settings.shards
+  pub no_less : (i : ℕ) (rows : List Row) → slice_get shards i ≡ Some rows → known (Entries i) ≤ length rows
+  pub lists : IsCatalog (asked_by catalog ms) (flat_map (λ rows. rows) shards) texts
+
+abbrev pub CatalogMayBe : StoreSettings → CatalogCommand → Told → Listing → Type 0
+CatalogMayBe settings catalog told (NoSelector fault) = IsTextRefused catalog.text fault
+CatalogMayBe settings catalog told (Listed texts) = IsListed settings catalog told texts
+CatalogMayBe settings catalog told (NotListed fault) = IsRoundRefusal settings.shards fault
+
+abbrev pub listing_reply : CatalogCommand → Listing → Data
+listing_reply catalog (NoSelector fault) = fault_data (text_refusal_of fault) (text_fault_place fault)
+listing_reply catalog (Listed texts) = catalog_data catalog.facet texts
+listing_reply catalog (NotListed fault) = fault_data (refusal_of fault) None
+
+-- it came to this reply
+pub record ListsSo (settings : StoreSettings) (catalog : CatalogCommand) (known : Told) (reply : Data) : Type 0 where
+  pub listing : Listing
+  pub may_be : CatalogMayBe settings catalog known listing
+  pub told : reply ≡ listing_reply catalog listing
+
+-- it is answered, and nothing more is told accepted
+pub record ObeysCatalog (settings : StoreSettings) (catalog : CatalogCommand) (old new : Told) (failed : ℕ) (reply : Data) : Type 0 where
+  pub came : ListsSo settings catalog old reply
+  pub left : Stays old new
+  pub failures : failed ≡ 0
+
 -- ---- one command
 
 -- From old, a command may be obeyed, with this reply and so many failed queries, and leave new.
@@ -293,6 +342,8 @@ ObeysCommand honest logs settings old new failed reply commands.Checkpoint =
     ObeysBy (IsCheckpointReply logs settings) old.told new.told failed reply × KeepsElse old new
 ObeysCommand honest logs settings old new failed reply (commands.Query query) =
     ObeysQuery honest settings query old.told new.told failed reply × KeepsElse old new
+ObeysCommand honest logs settings old new failed reply (commands.Catalog catalog) =
+    ObeysCatalog settings catalog old.told new.told failed reply × KeepsElse old new
 
 -- ---- one channel
 

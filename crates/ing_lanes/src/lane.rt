@@ -5,6 +5,7 @@ ghost use Rattle.ing_lanes.specs.ByLane as lanes;
 ghost use Rattle.ing_lanes.specs.Counted.{ReadsBoard, counted_by, told_in};
 ghost use Rattle.ing_session.specs.Views.{reply_data};
 
+mod catalogs;
 mod faults;
 mod flushes;
 mod pushes;
@@ -73,6 +74,7 @@ impl<
             Command::Board => self.board(),
             Command::Checkpoint => self.checkpoint(),
             Command::Query(query) => self.query(end, &query),
+            Command::Catalog(catalog) => self.catalog(&catalog),
         }
     }
 

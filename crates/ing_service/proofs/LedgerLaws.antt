@@ -23,6 +23,7 @@ use Rattle.ing_rows.specs.declared.place.SealReason.{SealReason}
 use Rattle.ing_rows.specs.declared.rules.Rules.{Rules}
 use Rattle.ing_rows.specs.declared.verdict.Verdict.{Verdict}
 use Rattle.ing_rows.specs.declared.verdict.Verdict.TheVariants.{Accepted, Duplicate, LineTooLong, TooFarBehind, TooManyStreams}
+use Rattle.ing_rows.specs.Facets.{Facet, Series, Labels, Values}
 use Rattle.ing_rows.specs.Rows.{StreamKey, Row, Mark, State, IsSame, count_of, is_stored}
 use Rattle.ing_rows.specs.Steps.{accepted, accepted_as, added_as, after_entry, chunk_at, cut, in_head, moved, sealed, sealed_by, Pushes, verdicts_of}
 use Rattle.ing_rows.specs.Verdicts.{accepted_number}
@@ -34,6 +35,7 @@ use Rattle.ing_limits.specs.Settings.{StoreSettings}
 use Rattle.ing_limits.specs.Ranges.{rules_for}
 use Rattle.ing_commands.specs.Commands as commands
 use Rattle.ing_commands.specs.Commands.{Command, command_of}
+use Rattle.ing_commands.specs.CatalogCommands.{CatalogCommand}
 use Rattle.ing_commands.specs.PushCommands.{StreamEntries}
 use Rattle.ing_commands.specs.FlushCommands.{FlushCommand}
 use Rattle.ing_commands.specs.declared.fault.LineFault.{LineFault}
@@ -43,10 +45,11 @@ use Rattle.ing_durable.specs.Op.{Op}
 use Rattle.ing_tally.specs.declared.report.ShardReport.{ShardReport}
 use Rattle.ing_session.specs.Faults.{limits_of}
 use Rattle.ing_session.specs.Manners.{IsAnswered, IsSkipped, MayBeFrom, Obeys, Turn, answers_of, held_after, said_in}
-use Rattle.ing_session.specs.Replies.{fault_data, judged_data, line_text, verdict_data}
+use Rattle.ing_session.specs.Replies.{catalog_data, fault_data, judged_data, line_text, verdict_data}
 use Rattle.ing_session.specs.Runs.{AnswersAll}
 use Rattle.ing_service.specs.ByShards.{BeginsFlush, JudgesStream, ObeysCommand, ObeysFlush, Publishes, PushesIn, PushesLabelled, PushesStream, PushesStreams, RefusesStream, SealEach, Seals, SealsAll, are_too_many, by_shards, fronts_of, reports_of, shard_report}
 use Rattle.ing_service.specs.ByShards as by
+use Rattle.ing_service.specs.Catalogs.{Listed, Listing, NoSelector, listing_reply}
 use Rattle.ing_service.specs.Each.{Each, GoesAt}
 use Rattle.ing_service.specs.Flushes.{ClaimEach, Claims, ClaimsIn, IsSaved, Settled, SettleEach, Settles, SettlesIn, WorksOff}
 use Rattle.ing_service.specs.Held.{Begun, Held, ShardHeld, first_held}
@@ -287,6 +290,15 @@ answer_is_no_push (Given found) shards = refl
 answer_is_no_push Failed shards = refl
 answer_is_no_push Damaged shards = refl
 
+catalog_is_no_push : (facet : Facet) (texts : List (List ℕ)) → accepted_in (catalog_data facet texts) ≡ 0
+catalog_is_no_push Series texts = refl
+catalog_is_no_push Labels texts = refl
+catalog_is_no_push (Values name) texts = refl
+
+listing_is_no_push : (catalog : CatalogCommand) (listing : Listing) → accepted_in (listing_reply catalog listing) ≡ 0
+listing_is_no_push catalog (NoSelector fault) = fault_is_no_push (text_refusal_of fault) (text_fault_place fault)
+listing_is_no_push catalog (Listed texts) = catalog_is_no_push catalog.facet texts
+
 module _ (honest : Type 0) (logged : Bool) (settings : StoreSettings) (old new : Held) (failed : ℕ) (reply : Data) where
   unchanged : accepted_in reply ≡ 0 → new ≡ old → Grow (accepted_in reply) old.shards new.shards
   unchanged none left = quiet old.shards new.shards reply none (equal_stay old.shards new.shards (ap (λ (h : Held). h.shards) left))
@@ -309,6 +321,7 @@ module _ (honest : Type 0) (logged : Bool) (settings : StoreSettings) (old new :
   obeyed commands.Checkpoint (by.Checkpoints it) =
       quiet old.shards new.shards reply (ap accepted_in it.told) (each_stays (Publishes logged) it.published old.shards new.shards (published_stay logged) it.each)
   obeyed (commands.Query query) (by.Queries it) = unchanged (ap accepted_in it.told ∙ answer_is_no_push it.answer old.shards) it.left
+  obeyed (commands.Catalog catalog) (by.Lists it) = unchanged (ap accepted_in it.told ∙ listing_is_no_push catalog it.listing) it.left
 
 -- ---- all lines
 

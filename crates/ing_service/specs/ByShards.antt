@@ -23,7 +23,8 @@ use Rattle.ing_tally.specs.declared.counts.Counts.{Counts}
 use Rattle.ing_tally.specs.declared.report.ShardReport.{ShardReport}
 use Rattle.ing_session.specs.Refusal.TheVariants.{TooManyEntries, CounterFull}
 use Rattle.ing_session.specs.Refusal.TheVariants as refusals
-use Rattle.ing_commands.specs.Commands.{Command, Push, Sweep, Flush, Gauges, Board, Checkpoint, Query}
+use Rattle.ing_commands.specs.Commands.{Command, Push, Sweep, Flush, Gauges, Board, Checkpoint, Query, Catalog}
+use Rattle.ing_commands.specs.CatalogCommands.{CatalogCommand}
 use Rattle.ing_commands.specs.FlushCommands.{FlushCommand}
 use Rattle.ing_commands.specs.GaugesCommands.{GaugesCommand}
 use Rattle.ing_commands.specs.PushCommands.{PushCommand, StreamEntries}
@@ -34,6 +35,7 @@ use Rattle.ing_session.specs.Manners.{Manner}
 use Rattle.ing_session.specs.Replies.{fault_data, judged_data, push_data, sweep_data, flush_data, gauges_data, board_data, checkpoint_data, query_data, report_data}
 use Rattle.ing_service.specs.declared.seat.ToSeal.{ToSeal}
 use Rattle.ing_service.specs.declared.seat.ToSeal.TheVariants.{Due, All}
+use Rattle.ing_service.specs.Catalogs.{CatalogMayBe, Listing, listing_reply}
 use Rattle.ing_service.specs.Each.{Each, GoesAt}
 use Rattle.ing_service.specs.Flushes.{Settled, WorksOff, failed_among, stored_among}
 use Rattle.ing_service.specs.Held.{Begun, Held, MayTear, ShardHeld, first_held}
@@ -231,6 +233,16 @@ pub record ObeysQuery (honest : Type 0) (query : QueryCommand) (old new : Held) 
   pub left : new ≡ old
   pub failures : failed ≡ failed_of answer
 
+-- ---- a question for a catalog
+
+-- it is answered, of the rows of all shards, and changes nothing
+pub record ObeysCatalog (catalog : CatalogCommand) (old new : Held) (failed : ℕ) (reply : Data) : Type 0 where
+  pub listing : Listing
+  pub may_be : CatalogMayBe catalog (rows_of old.shards) listing
+  pub told : reply ≡ listing_reply catalog listing
+  pub left : new ≡ old
+  pub failures : failed ≡ 0
+
 -- ---- one command, by the rules of the tenant that it names
 
 -- From old, a command may be obeyed, over an end of the store that is honest or not, with logs or without, with this reply and so many
@@ -243,6 +255,7 @@ pub data ObeysCommand (honest : Type 0) (logged : Bool) (settings : StoreSetting
   AsksBoard : ObeysBoard old new failed reply → ObeysCommand honest logged settings old new failed reply Board
   Checkpoints : ObeysCheckpoint logged old new failed reply → ObeysCommand honest logged settings old new failed reply Checkpoint
   Queries : {query : QueryCommand} → ObeysQuery honest query old new failed reply → ObeysCommand honest logged settings old new failed reply (Query query)
+  Lists : {catalog : CatalogCommand} → ObeysCatalog catalog old new failed reply → ObeysCommand honest logged settings old new failed reply (Catalog catalog)
 
 -- ---- the report
 

@@ -6,5 +6,6 @@ pub mod Flying
 pub mod Snapshots
 pub mod Queries
 pub mod ByShards
+pub mod Catalogs
 pub mod Drafts
 pub mod Ledger

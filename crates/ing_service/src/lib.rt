@@ -5,6 +5,7 @@
 #![tactic(auto)]
 
 mod beginning;
+mod catalogs;
 mod ends;
 mod flights;
 mod flushes;

@@ -1,9 +1,10 @@
 //! Shards that nobody shares, one after another.
-ghost use Rattle.std.specs.Prelude.{◌≡◌, ◌<◌, All, IfOk, List, Bool, false, is_some, length, map, OnOk};
+ghost use Rattle.std.specs.Prelude.{◌≡◌, ◌<◌, [], All, IfOk, List, Bool, false, is_some, length, map, OnOk};
 ghost use Rattle.ing_limits.specs.Settings.{StoreSettings};
 ghost use Rattle.ing_rows.specs.Gauges.{gauges_of};
+ghost use Rattle.ing_durable.specs.Catalog.{AddsCatalog, asked_view};
 ghost use Rattle.ing_durable.specs.Kept.{whose};
-ghost use Rattle.ing_service.specs.ByShards.{Publishes, SealEach, counts_of, event_of, reports_of};
+ghost use Rattle.ing_service.specs.ByShards.{Publishes, SealEach, counts_of, event_of, reports_of, rows_of};
 ghost use Rattle.ing_service.specs.Drafts.{IsSynced, IsWaiting, drafted};
 ghost use Rattle.ing_service.specs.Each.{Each};
 ghost use Rattle.ing_service.specs.Flushes.{IsSaved};
@@ -11,7 +12,7 @@ ghost use Rattle.ing_service.specs.Held.{AreShardsOf, IsBelowCount, shard_held};
 ghost use Rattle.ing_service.specs.Snapshots.{AreAsked};
 
 use crate::seat::{Seat, ToSeal};
-use ing_durable::Op;
+use ing_durable::{Asked, Op, Texts};
 use ing_labels::Selector;
 use ing_query::{Question, Snapshot};
 use ing_rows::{Gauges, Tenant};
@@ -179,6 +180,22 @@ pub(crate) fn snapshots_of_each<D: LogDisk + Drop, R: Receipt>(
         snapshots.push(memory.snapshot(alloc, tenant, selector, question)?)?;
     }
     Ok(snapshots)
+}
+
+/// What the streams of all shards tell that are asked.
+pub(crate) fn catalog_of_each<D: LogDisk + Drop, R: Receipt>(
+    alloc: Global,
+    seats: &[Seat<D, R>],
+    asked: &Asked<'_>,
+) -> Result<Texts, AllocError>
+    ensures { IfOk result (λ texts. AddsCatalog (asked_view asked.now)
+        (rows_of (map (λ seat. shard_held seat.shard) seats.now)) [] texts) }
+{
+    let mut texts = Texts::new(alloc);
+    for seat in seats {
+        seat.shard.memory().add_catalog(alloc, asked, &mut texts)?;
+    }
+    Ok(texts)
 }
 
 /// Lets go what is in memory. Takes no memory.

@@ -7,6 +7,7 @@ use Rattle.ing_tally.specs.declared.report.ShardReport.{ShardReport}
 use Rattle.ing_refusals.specs.declared.refusal.Refusal.{Refusal}
 use Rattle.ing_refusals.specs.Refusals.{refusal_number, refusal_name}
 use Rattle.ing_query.specs.Found.{Found}
+use Rattle.ing_rows.specs.Facets.{Facet, Series, Labels, Values}
 use Rattle.ing_rows.specs.declared.gauges.Gauge.{Gauge}
 use Rattle.ing_rows.specs.declared.gauges.Gauges.{Gauges}
 use Rattle.ing_rows.specs.declared.verdict.Verdict.{Verdict}
@@ -104,6 +105,16 @@ query_data found fronts =
     object (member (codes "query") (object (
     member (codes "entries") (array (items_of (map entry_data found))) (
     member (codes "fronts") (array (items_of (map count fronts))) no_members))) no_members)
+
+-- texts, under the name of what they are
+abbrev pub texts_data : List ℕ → List (List ℕ) → Data
+texts_data name texts = object (member name (array (items_of (map string texts))) no_members)
+
+-- of a question for a catalog: names of streams, or names of labels or values of one
+abbrev pub catalog_data : Facet → List (List ℕ) → Data
+catalog_data Series texts = texts_data (codes "series") texts
+catalog_data Labels texts = texts_data (codes "labels") texts
+catalog_data (Values name) texts = texts_data (codes "labels") texts
 
 -- of a shard: entries accepted in this run, kept in memory, recovered from an earlier run, and stored
 abbrev pub shard_data : ShardReport → Data

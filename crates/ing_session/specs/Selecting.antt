@@ -1,9 +1,22 @@
 -- What may be asked for (Loki documentation: log stream selector; own).
-use Rattle.std.specs.Prelude.{ℕ, List}
+use Rattle.std.specs.Prelude.{◌≡◌, ◌≢◌, ℕ, List, [], Option, None, Some}
 use Rattle.ing_labels.specs.Selectors.{Match, IsSelector, IsSelectorText}
+use Rattle.ing_labels.specs.TextFaults.{IsSelectorFault}
+use Rattle.ing_labels.specs.declared.text_fault.TextFault.{TextFault}
+use Rattle.ing_labels.specs.declared.text_fault.TextFault.TheVariants.{NoMemory}
 
 -- a text that may be asked for, by its matchers
 pub record Reads (text : List ℕ) : Type 0 where
   pub ms : List Match
   pub spelt : IsSelectorText ms text
   pub usable : IsSelector ms
+
+-- the matchers by which a question asks that may have a text: those of its text, and none without one, so that all streams are asked
+abbrev pub AsksBy : Option (List ℕ) → List Match → Type 0
+AsksBy None ms = ms ≡ []
+AsksBy (Some text) ms = IsSelectorText ms text × IsSelector ms
+
+-- its text is no selector that may be used, by this fault
+abbrev pub IsTextRefused : Option (List ℕ) → TextFault → Type 0
+IsTextRefused None fault = ⊥
+IsTextRefused (Some text) fault = IsSelectorFault text fault × (fault ≢ NoMemory)

@@ -1,8 +1,9 @@
 //! The replies, and the lines that they are written as.
-ghost use Rattle.std.specs.Prelude.{◌≡◌, ◌++◌, OnOk, OnErr, codes, decimal, map};
-ghost use Rattle.ing_session.specs.Replies.{verdict_data, verdicts_data, fault_data, judged_data, push_data, sweep_data, flush_data, gauge_data, gauges_data, tenant_data, board_data, counts_data, checkpoint_data, entry_data, query_data, shard_data, report_data, channels_data, line_text, count};
+ghost use Rattle.std.specs.Prelude.{◌≡◌, ◌++◌, OnOk, OnErr, codes, decimal, map, string_bytes};
+ghost use Rattle.ing_rows.specs.Facets.{facet_view};
+ghost use Rattle.ing_session.specs.Replies.{catalog_data, verdict_data, verdicts_data, fault_data, judged_data, push_data, sweep_data, flush_data, gauge_data, gauges_data, tenant_data, board_data, counts_data, checkpoint_data, entry_data, query_data, texts_data, shard_data, report_data, channels_data, line_text, count};
 ghost use Rattle.ing_session.specs.Runs.{lines_text};
-ghost use Rattle.ing_session.specs.Views.{stream_data, reply_data};
+ghost use Rattle.ing_session.specs.Views.{stream_data, text_data, reply_data};
 ghost use Rattle.ing_session.specs.Written.{Adds, member_tokens, data_tokens, tokens_of_each};
 ghost use Rattle.serde_json.specs.Data.{array, boolean, string, object, no_members, member};
 ghost use Rattle.serde_json.specs.View.{items_of};
@@ -11,7 +12,7 @@ ghost use Rattle.ing_labels.specs.Canonical.{canonical_of};
 use ing_labels::Labels;
 use ing_query::Found;
 use ing_refusals::Refusal;
-use ing_rows::{Gauge, Gauges, Verdict};
+use ing_rows::{Facet, Gauge, Gauges, Verdict};
 use ing_tally::{Counts, ShardReport};
 use json::Writer;
 use std::alloc::{AllocError, Global};
@@ -50,6 +51,10 @@ pub enum Reply {
         found: Vec<Found>,
         fronts: Vec<u64>,
     },
+    /// The names of streams.
+    Series(Vec<String>),
+    /// The names of labels, or the values of one.
+    Labels(Vec<String>),
     /// What is reported of each shard, by its number.
     Report(Vec<ShardReport>),
     /// The same of a run of several channels, and how many of these broke.
@@ -77,6 +82,18 @@ pub enum StreamReply {
 
 /// Room that most replies fit into, in bytes.
 const REPLY_ROOM: usize = 1024;
+
+impl Reply {
+    /// The reply to a question for a catalog of this facet.
+    pub fn of_catalog(facet: Facet<'_>, texts: Vec<String>) -> Reply
+        ensures { reply_data result ≡ catalog_data (facet_view facet.entry) (map string_bytes texts.items) }
+    {
+        match facet {
+            Facet::Series => Reply::Series(texts),
+            Facet::Labels | Facet::Values(_) => Reply::Labels(texts),
+        }
+    }
+}
 
 /// Puts a reply behind the others, as one line. It is written in a buffer of its own, since the writer clears as much ahead
 /// as the buffer that it is given has.
@@ -130,6 +147,8 @@ fn write_reply(alloc: Global, out: &mut Writer, reply: &Reply) -> Result<(), All
         Reply::Checkpoint(shards) => write_checkpoint(out, shards),
         Reply::Refused { refusal, at } => write_fault(out, *refusal, *at),
         Reply::Query { found, fronts } => write_query(out, found, fronts),
+        Reply::Series(names) => write_texts(out, "series", names),
+        Reply::Labels(texts) => write_texts(out, "labels", texts),
         Reply::Report(shards) => write_report(out, shards),
         Reply::Channels { broken, shards } => write_channels(out, *broken, shards),
     }
@@ -529,6 +548,32 @@ fn write_entry(out: &mut Writer, found: &Found) -> Result<(), AllocError>
     write_digits(out, "stamp", found.entry.stamp.nanoseconds())?;
     write_text(out, "stream", found.name.as_str())?;
     out.end_object()?;
+    Ok(())
+}
+
+/// Writes an object of one member that is a list of texts.
+fn write_texts(out: &mut Writer, name: &str, texts: &[String]) -> Result<(), AllocError>
+    ensures tokens { OnOk result (Adds out.old out.new
+        (data_tokens (texts_data name.now (map string_bytes texts.now)))) }
+    ensures before { out.new.before ≡ out.old.before }
+{
+    out.begin_object()?;
+    out.key(name)?;
+    out.begin_array()?;
+    write_each_text(out, texts)?;
+    out.end_array()?;
+    out.end_object()?;
+    Ok(())
+}
+
+fn write_each_text(out: &mut Writer, texts: &[String]) -> Result<(), AllocError>
+    ensures tokens { OnOk result (Adds out.old out.new
+        (tokens_of_each (map text_data texts.now))) }
+    ensures before { out.new.before ≡ out.old.before }
+{
+    for text in texts {
+        out.string(text.as_str())?;
+    }
     Ok(())
 }
 

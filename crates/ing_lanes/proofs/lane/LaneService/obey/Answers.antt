@@ -1,7 +1,7 @@
 use Rattle.std.proofs.Common.{◌≤◌, ℕ, Ok, arith, refl, subst, sym}
 use Rattle.std.proofs.lemmas.Result.{IfOk-weaker}
-use Rattle.ing_commands.specs.Commands.{Board, Checkpoint, Gauges, Push, Sweep}
-use Rattle.ing_commands.specs.Views.{gauges_view, push_view, sweep_view}
+use Rattle.ing_commands.specs.Commands.{Board, Catalog, Checkpoint, Gauges, Push, Sweep}
+use Rattle.ing_commands.specs.Views.{catalog_view, gauges_view, push_view, sweep_view}
 use Rattle.ing_session.specs.Views.{reply_data}
 use Rattle.ing_session.proofs.ObeyLaws.{obeyed}
 use Rattle.ing_lanes.specs.ByLane.{Held, by_lane, failed_of, told_by}
@@ -120,3 +120,21 @@ pub returns-in-Checkpoint-clause-left : goal.returns-in-Checkpoint-clause-left
 returns-in-Checkpoint-clause-left g c = λ old is_held.
     let now = c.args.self.now in
     held_least now.pusher now.pusher (counted_by now.workers.items) (counted_by now.workers.items) now.board old (rises_none (told_by now.pusher)) (omega arith) is_held
+
+pub returns-in-Catalog-clause-obeyed : goal.returns-in-Catalog-clause-obeyed
+returns-in-Catalog-clause-obeyed g c =
+    let settings = g.N.NodeName.settings in
+    let left = c.catalog.new.self in
+    rw c.in-Catalog.is (IfOk-weaker c.catalog.result _ _
+    (λ reply came old is_held.
+    obeyed (by_lane g.S.StoreEnd.is_honest g.N.NodeName.has_logs) settings old old (IsHeld left.pusher (counted_by left.workers.items) left.board) (Ok (Catalog (catalog_view c.in-Catalog.catalog))) (g.S.StoreEnd.failure_count c.args.end.now) (reply_data reply)
+    (same_held (λ ws. counted_by ws.items) _ _ _ _ _ _ old c.catalog.ensures.pusher c.catalog.ensures.workers c.catalog.ensures.board is_held)
+    (record { came = came old.told is_held.told; left = λ i. refl; failures = refl }, record { chunks = refl; board = refl }))
+    c.catalog.ensures.came)
+
+pub returns-in-Catalog-clause-left : goal.returns-in-Catalog-clause-left
+returns-in-Catalog-clause-left g c = λ old is_held.
+    let now = c.args.self.now in
+    let left = c.catalog.new.self in
+    held_least now.pusher left.pusher (counted_by now.workers.items) (counted_by left.workers.items) now.board old (rises_same now.pusher left.pusher c.catalog.ensures.pusher)
+    (subst (λ ws. counted_by now.workers.items ≤ counted_by ws.items) (sym c.catalog.ensures.workers) (omega arith)) is_held

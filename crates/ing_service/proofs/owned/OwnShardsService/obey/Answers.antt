@@ -1,8 +1,8 @@
 use Rattle.std.proofs.Common.{◌≡◌, Ok, map, refl, subst, sym}
 use Rattle.std.proofs.lemmas.Result.{IfOk-weaker}
-use Rattle.ing_commands.specs.Commands.{Board, Checkpoint, Gauges, Push, Sweep, Query}
-use Rattle.ing_commands.specs.Views.{gauges_view, push_view, query_view, sweep_view}
-use Rattle.ing_service.specs.ByShards.{AsksBoard, AsksGauges, Checkpoints, Pushes, Sweeps, by_shards}
+use Rattle.ing_commands.specs.Commands.{Board, Catalog, Checkpoint, Gauges, Push, Sweep, Query}
+use Rattle.ing_commands.specs.Views.{catalog_view, gauges_view, push_view, query_view, sweep_view}
+use Rattle.ing_service.specs.ByShards.{AsksBoard, AsksGauges, Checkpoints, Lists, Pushes, Sweeps, by_shards}
 use Rattle.ing_service.specs.Held.{held_in, shard_held}
 use Rattle.ing_session.specs.Runs.{IsObeyed}
 use Rattle.ing_session.specs.Views.{reply_data}
@@ -62,3 +62,12 @@ returns-in-Query-clause-obeyed g c =
     rw c.in-Query.is (IfOk-weaker c.query.result _ _
     (λ reply obeyed held is. subst (λ h. IsObeyed (by_shards g.S.StoreEnd.is_honest g.N.Beginning.begun) own.settings (Ok (Query (query_view c.in-Query.query))) h (λ left. left ≡ now) (failures c.args.end.now) (failures c.query.new.end) (reply_data reply)) (sym is) obeyed)
     c.query.ensures.obeyed)
+
+pub returns-in-Catalog-clause-obeyed : goal.returns-in-Catalog-clause-obeyed
+returns-in-Catalog-clause-obeyed g c =
+    let own = c.args.self.now in
+    let held = held_in (map (λ seat. shard_held seat.shard) own.seats.items) own.ops.items in
+    rw c.in-Catalog.is (IfOk-weaker c.catalog.result _ _
+    (λ reply does. obeys g.S.StoreEnd.is_honest g.N.Beginning.begun own.settings held held
+    (Catalog (catalog_view c.in-Catalog.catalog)) (g.S.StoreEnd.failure_count c.args.end.now) (reply_data reply) (Lists does))
+    c.catalog.ensures)
