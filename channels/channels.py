@@ -42,7 +42,7 @@ SETTINGS = {"shards": range(1, 6), "flushers": range(1, 4), "flush_queue_length"
 SETTINGS |= {"chunk_idle_period": ["1s", "30m"], "max_chunk_age": ["10s", "2h"]}
 SETTINGS |= {"flush_check_period": ["0s", "0s", "1ms", "30ms"], "checkpoint_log_size": [0, 1, 3000], "diaries": [False, True]}
 SETTINGS |= {"chunk_block_size": [1, 60, 200, 262144], "chunk_target_size": [1, 120, 600, 3000, 1572864]}
-COMMANDS = {"push": 60, "sweep": 6, "flush": 8, "gauges": 4, "board": 6, "checkpoint": 3, "query": 12, "blank": 1, "bad": 2}
+COMMANDS = {"push": 60, "sweep": 6, "flush": 8, "gauges": 4, "board": 6, "checkpoint": 3, "query": 12, "series": 4, "labels": 4, "blank": 1, "bad": 2}
 PASSED = "what was planted was not noticed"
 BAD_LABELS = [{}, {"1a": "x"}, {"app": ""}, {"app": "x" * 2049}]
 
@@ -60,6 +60,7 @@ class Speech:
         if kind in ("blank", "bad"):
             return self.draw.choice(BAD_LINES if kind == "bad" else ["", " \t\r"])
         members = {"push": self.push, "sweep": self.time, "flush": self.flush, "gauges": self.tenant, "query": self.query}
+        members |= {"series": self.series, "labels": self.labels_asked}
         return json.dumps({"cmd": kind} | members.get(kind, dict)(), ensure_ascii=self.draw.random() < 0.5)
 
     def tenant(self):
@@ -92,6 +93,12 @@ class Speech:
         if self.draw.random() < 0.03:
             parts.append({"stream": self.draw.choice(BAD_LABELS), "values": [self.value()]})
         return self.tenant() | {"now": str(self.now), "streams": parts}
+
+    def series(self):
+        return self.tenant() | ({"query": self.draw.choice([BROAD, canonical_name(self.labels())])} if self.draw.random() < 0.5 else {})
+
+    def labels_asked(self):
+        return self.series() | ({"name": self.draw.choice(["app", "id", "none"])} if self.draw.random() < 0.6 else {})
 
     def query(self):
         among = {"start": [str(self.now - 10**9), "0"], "end": [str(self.now), str(2**63)], "limit": [1, 5, 5000], "direction": ["forward", "backward"]}

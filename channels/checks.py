@@ -12,7 +12,7 @@ sys.path += [str(TOP / "kills"), str(TOP / "inputs"), str(TOP / "forged")]
 from clients import BROKEN  # noqa: E402
 from kills import GROWING, SEALED, canonical_name, entries_of  # noqa: E402
 from kills import Model as Kept  # noqa: E402
-from model import Chunk, Entry, Model, Refused, Settings, Stream, labels_of, text_of  # noqa: E402
+from model import Chunk, Entry, Model, Refused, Settings, Stream, labels_of, matchers_of, text_of  # noqa: E402
 
 DURATIONS = {"1s": 10**9, "10s": 10**10, "30m": 1800 * 10**9, "2h": 7200 * 10**9}
 OF_CHANNELS = ("flush_check_period", "checkpoint_log_size", "diaries")  # the settings that the model has not
@@ -212,6 +212,23 @@ class Listener:
             assert shard[0] >= known, f"a board tells of {shard[0]} entries, and this channel was told {known}"
         self.board_before = counts
 
+    def series(self, command, told):
+        self.check_catalog(command, told)
+
+    def labels(self, command, told):
+        self.check_catalog(command, told)
+
+    def check_catalog(self, command, told):
+        """In byte order it has what the streams tell that this channel knows to be there, and nothing that no pushed stream does."""
+        def texts(streams):
+            picked = [stream for stream in streams if stream[0] == command["tenant"] and command.get("query", BROAD) in (BROAD, stream[1])]
+            return {text for stream in picked for text in texts_of(command, stream[1])}
+
+        assert told == sorted(set(told), key=str.encode), f"{command} has an answer out of order: {told}"
+        known = texts(stream for stream, entries in [*self.seen.before.items(), *self.told.items()] if entries)
+        assert known <= {*told}, f"{command} lacks {known - {*told}}: {told}"
+        assert {*told} <= texts({*self.seen.before, *self.seen.sent}), f"{command} was answered what nobody pushed: {told}"
+
     def query(self, command, told):
         assert set(told) == {"entries", "fronts"}, f"a query was answered {told}"
         for front, before in zip(told["fronts"], [max(both) for both in zip(self.fronts, self.counts)], strict=True):
@@ -242,6 +259,14 @@ class Asked:
 
     def has(self, stamp):
         return self.start <= stamp < self.end
+
+
+def texts_of(command, name):
+    """What a stream of this canonical name tells of what a question for a catalog asks for."""
+    labels = {label: value for label, _, value in matchers_of(name)}
+    if command["cmd"] == "series":
+        return {name}
+    return ({labels[command["name"]]} if command["name"] in labels else set()) if "name" in command else set(labels)
 
 
 def is_refused(settings, part):

@@ -2,7 +2,7 @@
 import json
 import re
 
-from checks import accepted_in, canonical_name, command_of
+from checks import accepted_in, canonical_name, command_of, texts_of
 from clients import BROKEN
 from model import text_of
 
@@ -223,6 +223,31 @@ def nothing(kind, none):
     return plant
 
 
+def listed(kind, text):
+    """A question for a catalog of a whole tenant is told a text more."""
+    def plant(seen, draw):
+        found = drawn(draw, [each for each in answered(seen, kind) if "query" not in each[1] and "name" not in each[1]])
+        return bool(found) and put(found[2], kind, [*found[3], text])
+    return plant
+
+
+def unlisted(kind):
+    """A question for a catalog of a whole tenant is not told what a stream tells of which the channel was told before."""
+    def plant(seen, draw):
+        for client in seen.clients:
+            known = []
+            for turn in client.said:
+                command = command_of(turn.line) if turn.reply else None
+                reply = json.loads(turn.reply) if command else {}
+                known += [(command["tenant"], part["stream"]) for part in reply.get("push", []) if accepted_in(part.get("verdicts", []))]
+                if kind in reply and "query" not in command and "name" not in command:
+                    names = [text for stream in known if stream[0] == command["tenant"] for text in texts_of(command, stream[1])]
+                    if names:
+                        return put(turn, kind, [text for text in reply[kind] if text != names[0]])
+        return False
+    return plant
+
+
 def no_gauges(told):
     return [shard | {name: {"bytes": "0", "entries": 0} for name in ("block", "flight", "head", "stored")} for shard in told]
 
@@ -283,6 +308,7 @@ PLANTS |= {"failed": member("flush", "failed", lambda count: 1), "stored": unclo
 PLANTS |= {"disordered": entries(disordered), "lacking": entries(lacking), "holed": entries(holed), "doubled": entries(doubled), "invented": entries(invented)}
 PLANTS |= {"board": nothing("board", lambda told: [{"accepted": 0, "stored": 0} for _ in told]), "gauges": nothing("gauges", no_gauges)}
 PLANTS |= {"fronts": nothing("query", lambda told: told | {"fronts": [0 for _ in told["fronts"]]})}
+PLANTS |= {"series": unlisted("series"), "labels": unlisted("labels"), "listed": listed("series", '{zzz="1"}'), "named": listed("labels", "zzz")}
 PLANTS |= {"accepted": reported(lambda shard: {"accepted": shard["accepted"] + 1, "kept": shard["kept"] + 1}), "broken": breaks}
 PLANTS |= {"recovered": reported(lambda shard: {"accepted": shard["accepted"] - 1, "recovered": shard["recovered"] + 1})}
 PLANTS |= {"kept": reported(lambda shard: {"kept": shard["kept"] + 1, "stored": shard["stored"] - 1}), "sum": reported(lambda shard: {"kept": shard["kept"] + 1})}

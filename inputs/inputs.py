@@ -4,9 +4,9 @@
     python3 inputs/inputs.py PROGRAM [--inputs N] [--seed N] [--jobs N] [--lines N] [--parent FOLDER]
 
 Settings are drawn, and pushes of several tenants and streams, of what is accepted, doubled, late and refused; sweeps, flushes,
-gauges, boards, checkpoints and queries between them; blank and bad lines. An input is run in memory, or over a folder, where it may
-be cut into parts, with a new start before each. What the program writes has to be, byte for byte, what model.py replies, which is
-written from docs/COMMANDS.md and docs/FORMATS.md alone. No upload fails here.
+gauges, boards, checkpoints, queries and questions for streams and labels between them; blank and bad lines. An input is run in
+memory, or over a folder, where it may be cut into parts, with a new start before each. What the program writes has to be, byte for
+byte, what model.py replies, which is written from docs/COMMANDS.md and docs/FORMATS.md alone. No upload fails here.
 
 At the first difference it prints what was written and what the model replies, keeps settings, input and folder, and ends with
 status 1. `--seed N` draws the same inputs again.
@@ -32,6 +32,7 @@ BAD_LABELS = [{}, {"a": ""}, {"1a": "x", "b": "1"}, {"b": "1", "ä": "x"}, {"a":
 LINES = ["", "x", "hello", 'quote " and \\', "line\nfeed\r\t\x01\x7f", "ä€😀", "a longer line, of forty bytes or so there"]
 BAD_LINES = ["{", "[]", "null", '{"cmd":"nope"}', '{"cmd":1}', '{"cmd":"push"}', '{"cmd":"sweep","now":5}', '{"cmd":"sweep","now":"1x"}']
 BAD_LINES += ['{"cmd":"flush","forced":0}', '{"cmd":"gauges","tenant":".."}', '{"cmd":"gauges"}', '{"cmd":"sweep","now":"9223372036854775808"}']
+BAD_LINES += ['{"cmd":"series"}', '{"cmd":"series","tenant":"t","query":null}', '{"cmd":"labels","tenant":"..","name":1}']
 BAD_LINES += ['{"cmd":"query","tenant":"t","query":"{a=\\"1\\"}","limit":0}', '{"cmd":"query","tenant":"t","query":"{}"}']
 BAD_LINES += ['{"cmd":"push","tenant":"t","now":"1","streams":[{"stream":{"a":"1"},"values":[["1","x",{}]]}]}']
 BAD_LINES += ['{"cmd":"push","tenant":"t","now":"1","streams":[{"stream":{"a":"1"},"values":[["1","x"],["","y"]]}]}']
@@ -39,7 +40,7 @@ SIZES = {"chunk_block_size": [1, 20, 60, 262144], "chunk_target_size": [1, 40, 9
 DURATIONS = {"chunk_idle_period": [0, 5, 50, 1800 * 10**9], "max_chunk_age": [0, 9, 30, 200, 7200 * 10**9]}
 LIMITS = {"max_label_names": [1, 2, 15], "max_label_name_length": [1, 3, 1024], "max_label_value_length": [1, 5, 2048]}
 LIMITS |= {"max_line_size": [1, 8, 262144], "max_streams_per_tenant": [1, 2, 3, 1000], "max_entries_per_push": [1, 3, 10000]}
-COMMANDS = {"push": 55, "sweep": 10, "flush": 8, "gauges": 6, "board": 4, "checkpoint": 3, "query": 10, "blank": 1, "bad": 3}
+COMMANDS = {"push": 55, "sweep": 10, "flush": 8, "gauges": 6, "board": 4, "checkpoint": 3, "query": 10, "series": 4, "labels": 4, "blank": 1, "bad": 3}
 
 
 class Difference(Exception):
@@ -82,6 +83,7 @@ class Drawing:
         if kind in ("blank", "bad"):
             return self.draw.choice(BAD_LINES if kind == "bad" else ["", " \t\r"])
         members = {"push": self.push, "sweep": self.time, "flush": self.flush, "gauges": self.tenant, "query": self.query}
+        members |= {"series": self.series, "labels": self.labels_asked}
         return json.dumps({"cmd": kind} | members.get(kind, dict)(), ensure_ascii=self.draw.random() < 0.5)
 
     def tenant(self):
@@ -110,12 +112,21 @@ class Drawing:
                    for _ in range(self.draw.choice([0, 1, 1, 1, 2, 3]))]
         return self.tenant() | self.time() | {"streams": streams}
 
-    def query(self):
+    def selector(self):
         selectors = ['{a="1"}', '{a="2"}', '{app="web"}', '{ a = "1" , b != "1" }', '{b="1", a=""}', '{a!="1", app="1"}', '{a="x\\"\\\\\\n"}']
         selectors += ['{a="1"}', '{a="2"}'] * 4 + [*BAD_SELECTORS, '{a!="1"}']
+        return {"query": self.draw.choice(selectors)}
+
+    def series(self):
+        return self.tenant() | (self.selector() if self.draw.random() < 0.5 else {})
+
+    def labels_asked(self):
+        return self.series() | ({"name": self.draw.choice([*NAMES, "none", ""])} if self.draw.random() < 0.6 else {})
+
+    def query(self):
         among = {"start": [str(self.now - 100), "0"], "end": [str(self.now), str(2**63)], "limit": [2, 5, 5000], "direction": ["forward", "backward"]}
         options = {name: self.draw.choice(choices) for name, choices in among.items() if self.draw.random() < 0.4}
-        return self.tenant() | {"query": self.draw.choice(selectors)} | options
+        return self.tenant() | self.selector() | options
 
 
 def compare(lines, written, expected):

@@ -111,6 +111,10 @@ def place_of(tenant, name, shards):
     return shard_of(tenant.encode(), name.encode(), shards)
 
 
+def in_byte_order(texts):
+    return sorted(set(texts), key=str.encode)
+
+
 def require(holds, name="BadCommand"):
     if not holds:
         raise Refused(name)
@@ -195,7 +199,7 @@ class Model:
             raise Refused("BadCommand") from None
         require(isinstance(command, dict) and isinstance(command.get("cmd"), str))
         obeys = {"push": self.push, "sweep": self.sweep, "flush": self.flush, "gauges": self.gauges, "board": self.board}
-        obeys |= {"checkpoint": self.checkpoint, "query": self.query}
+        obeys |= {"checkpoint": self.checkpoint, "query": self.query, "series": self.series, "labels": self.labels}
         require(command["cmd"] in obeys)
         return obeys[command["cmd"]](command)
 
@@ -329,10 +333,30 @@ class Model:
     def wanted(self, tenant, matchers, start, end):
         """Of each entry its stamp, canonical name, number and line."""
         require(any(is_equal and value for _, is_equal, value in matchers), "TooWide")
-        streams = [stream for shard in self.shards for stream in shard.values() if stream.tenant == tenant]
-        picked = [each for each in streams if all((each.labels.get(name, "") == value) == equal for name, equal, value in matchers)]
         return [(entry.stamp, stream.name.encode(), entry.number, entry.line)
-                for stream in picked for entry in stream.entries() if start <= entry.stamp < end]
+                for stream in self.picked(tenant, matchers) for entry in stream.entries() if start <= entry.stamp < end]
+
+    def picked(self, tenant, matchers):
+        streams = [stream for shard in self.shards for stream in shard.values() if stream.tenant == tenant]
+        return [each for each in streams if all((each.labels.get(name, "") == value) == equal for name, equal, value in matchers)]
+
+    def series(self, command):
+        return {"series": in_byte_order(stream.name for stream in self.asked(command))}
+
+    def labels(self, command):
+        require(isinstance(command.get("name", ""), str))
+        if "name" not in command:
+            return {"labels": in_byte_order(name for stream in self.asked(command) for name in stream.labels)}
+        values = [stream.labels.get(command["name"]) for stream in self.asked(command)]
+        return {"labels": in_byte_order(value for value in values if value)}
+
+    def asked(self, command):
+        """The streams that a question for a catalog is about."""
+        require(isinstance(command.get("tenant"), str) and isinstance(command.get("query", ""), str))
+        require_tenant(command["tenant"])
+        matchers = matchers_of(command["query"]) if "query" in command else []
+        require("query" not in command or any(is_equal and value for _, is_equal, value in matchers), "TooWide")
+        return self.picked(command["tenant"], matchers)
 
     def report(self):
         shards = zip(self.fronts(), self.recovered, self.stored())
