@@ -114,21 +114,32 @@ def test_an_end_in_order_and_a_start_after_it(front, channels):
     assert client.run.end() == 0
 
 
-@pytest.mark.parametrize("options", [(), ("--ingester.checkpoint-duration", "100ms")])
-def test_labels_and_series_are_told_after_a_start(front, options):
-    client = front("shards = 4\nflushers = 2\nchunk_target_size = 3000\n", *options)
-    hosts = [f"host-{number:02}" for number in range(20)]
-    for host in hosts:
-        # Stored chunks, sealed ones, one that grows, and none but stored ones.
-        client.push({"app": "web", "host": host}, *((number, f"line {number} " + "x" * 90) for number in range(40)))
+@pytest.mark.parametrize("channels", ["1", "3"])
+def test_labels_and_series_are_of_all_streams_also_after_a_start(front, channels):
+    client = front("shards = 4\n", "--channels", channels)
+    hosts = ['\\"\n', *(f"host-{number:02}" for number in range(20)), "ä"]
+    series = [{"app": "web", "host": host} for host in hosts]
+    for labels in series[::2]:
+        assert client.push(labels | {"none": ""}, (5, "x")) == (204, "")
     client.ask("/flush", b"")
-    for host in hosts[::2]:
-        client.push({"app": "web", "host": host}, *((number, f"line {number} " + "x" * 90) for number in range(40, 80)))
-    time.sleep(0.3)
+    for labels in series[1::2]:
+        assert client.push(labels, (5, "x")) == (204, "")
+    other = type(client)(client.run, "other")
+    assert other.push({"job": "api"}, (5, "x")) == (204, "")
+
+    def look():
+        assert client.data("/loki/api/v1/labels") == ["app", "host"] and client.data("/loki/api/v1/label/host/values") == hosts
+        assert client.data("/loki/api/v1/label/host/values", query='{app="web", host!="ä"}') == hosts[:-1]
+        assert client.data("/loki/api/v1/labels", query='{ app = "x\\ty\\u00e4" , b!=`\\`}') == []
+        assert client.data("/loki/api/v1/label/job/values") == [] and client.data("/loki/api/v1/series") == series
+        two = ['{host="host-03"}', '{app="web", host="ä"}', '{host="ä"}']
+        assert client.data("/loki/api/v1/series", **{"match[]": two}) == [series[4], series[-1]]
+        assert other.data("/loki/api/v1/series") == [{"job": "api"}]
+
+    look()
     client.run.kill()
     client.run.start()
-    assert client.data("/loki/api/v1/labels") == ["app", "host"] and client.data("/loki/api/v1/label/host/values") == hosts
-    assert client.data("/loki/api/v1/series", **{"match[]": '{host="host-03"}'}) == [{"app": "web", "host": "host-03"}]
+    look()
 
 
 @pytest.mark.parametrize("channels", ["1", "3"])

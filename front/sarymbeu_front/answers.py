@@ -4,7 +4,7 @@ import time
 
 from aiohttp import web
 
-from .labels import read_labels
+from .labels import labels_of
 
 
 def success(data: object) -> web.Response:
@@ -21,7 +21,7 @@ def streams(entries: list[dict], looked_at: int, size: int, began: float) -> dic
     values: dict[str, list[list[str]]] = {}
     for entry in entries:
         values.setdefault(entry["stream"], []).append([entry["stamp"], entry["line"]])
-    result = [{"stream": read_labels(name)[0], "values": found} for name, found in values.items()]
+    result = [{"stream": labels_of(name), "values": found} for name, found in values.items()]
     seconds = max(time.monotonic() - began, 1e-6)
     summary = {
         "bytesProcessedPerSecond": int(size / seconds),

@@ -28,8 +28,8 @@ class Child:
     """One run of the program. `ended` is set when it has closed its standard output, as it does when all channels have ended.
 
     Of several channels the first is the keeper's, for KEEPING; the others have pushes and queries. A push goes to the home of its
-    stream, so that those of one stream keep their order, a query to the channel where the fewest commands wait. In the place of
-    a channel that has ended another is taken.
+    stream, so that those of one stream keep their order; what else is asked, where the fewest commands wait. In the place of a
+    channel that has ended another is taken.
     """
 
     def __init__(self, words: list[str], metrics: Metrics, channels: int = 1):

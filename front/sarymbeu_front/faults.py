@@ -1,5 +1,8 @@
 """Answers that are not what was asked for."""
 
+# The program's refusals that are the sender's fault: BadSelector, TooWide, BadTenant, BadStamp, BadCommand, Metadata.
+SENDER_FAULTS = (8, 9, 30, 31, 33, 34)
+
 
 class Fault(Exception):
     """Ends the work on a request.
@@ -18,3 +21,8 @@ class Fault(Exception):
 def unavailable(text: str) -> Fault:
     """503, to be tried again after a second."""
     return Fault(503, text, retry_after=1)
+
+
+def refused(what: str, refusal: dict) -> Fault:
+    """400 where the program refuses what was asked for by the sender's fault, else 500."""
+    return Fault(400 if refusal["number"] in SENDER_FAULTS else 500, f"the program refuses the {what}: {refusal}\n")

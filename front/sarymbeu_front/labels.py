@@ -5,6 +5,9 @@ from .scan import Scanner
 
 # Wider than a label name may be: which names are refused is for the program to say.
 ANY_NAME = re.compile(r"[^\s{}=,\"`]+")
+# A label in a canonical name, and what is escaped in its value.
+PAIR = re.compile(r'(\w+)="([^"\\]*(?:\\.[^"\\]*)*)"', re.ASCII)
+ESCAPED = re.compile(r"\\(.)")
 
 
 def canonical_name(labels: dict[str, str]) -> str:
@@ -16,6 +19,16 @@ def canonical_name(labels: dict[str, str]) -> str:
 def escaped(value: str) -> str:
     """`value` as it stands between quotes in selectors and canonical names."""
     return value.replace("\\", "\\\\").replace('"', '\\"').replace("\n", "\\n")
+
+
+def unescaped(value: str) -> str:
+    """What stands so between quotes in a canonical name."""
+    return ESCAPED.sub(lambda found: "\n" if found[1] == "n" else found[1], value) if "\\" in value else value
+
+
+def labels_of(name: str) -> dict[str, str]:
+    """The labels of a canonical name, as the program spells it; sooner than by `read_labels`, for there may be many."""
+    return {label: unescaped(value) for label, value in PAIR.findall(name)}
 
 
 def read_labels(text: str) -> tuple[dict[str, str], int]:

@@ -38,10 +38,6 @@ class Query:
         matchers = (f'{one.name}{"!=" if one.negated else "="}"{escaped(one.value)}"' for one in self.matchers)
         return "{" + ", ".join(matchers) + "}"
 
-    def selects(self, labels: dict[str, str]) -> bool:
-        """Whether a stream with these labels is meant."""
-        return all((labels.get(one.name, "") == one.value) != one.negated for one in self.matchers)
-
     def keeps(self, line: str) -> bool:
         """Whether a line passes all filters."""
         return all((one.text in line) != one.negated for one in self.filters)

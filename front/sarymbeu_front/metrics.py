@@ -50,7 +50,6 @@ class Metrics:
         self.flushes_failed = self._counter("flushes_failed", "Uploads of chunks that failed.")
         self.checkpoints_failed = self._counter("checkpoints_failed", "Shards of which a checkpoint was not written.")
         self.channels_broken = self._counter("channels_broken", "Channels of the program that have ended by themselves.")
-        self.forgotten = self._counter("streams_forgotten", "Streams that are no longer known for labels and series.")
         self.waiting_bytes = Gauge("front_waiting_bytes", "Bytes of pushes that wait.", registry=self.registry)
         self.reply_seconds = Histogram(
             "front_reply_seconds", "From a command to its reply.", ["command"], buckets=BUCKETS, registry=self.registry

@@ -3,7 +3,7 @@ import collections
 from collections.abc import AsyncIterator, Awaitable, Callable
 from dataclasses import dataclass
 
-from .faults import Fault
+from .faults import refused
 from .stamps import STAMP_LIMIT
 
 # The most entries of one answer of the program.
@@ -53,13 +53,13 @@ class Range:
 async def first(ask: Ask, wanted: Range, limit: int) -> list[dict]:
     """The first entries, at most `limit`, which is at most MOST.
 
-    Raises Fault 400 for a selector that the program does not read, 500 where the store did not give what is stored.
+    Raises Fault: 400 for a selector that the program does not read, 500 as where the store did not give what is stored.
     """
     if wanted.start >= wanted.end:
         return []
     reply = await ask(wanted.command(limit))
     if "error" in reply:
-        raise Fault(500 if reply["number"] in (26, 27) else 400, f"the program refuses the query: {reply}\n")
+        raise refused("query", reply)
     return reply["query"]["entries"]
 
 

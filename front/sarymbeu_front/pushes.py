@@ -8,8 +8,7 @@ from aiohttp import web
 from . import bodies, memory, verdicts
 from .bodies import MAX_BODY, Stream
 from .child import Child
-from .faults import Fault, unavailable
-from .known import Streams
+from .faults import Fault, refused, unavailable
 from .limits import AllLimits
 from .metrics import Metrics
 from .resent import Resent
@@ -17,8 +16,6 @@ from .tenants import tenant_of
 
 # What a request takes beside its body, about, in bytes.
 REQUEST_BYTES = 1024
-# The program's refusals of a whole line that are the sender's fault: BadTenant, BadStamp, BadCommand, Metadata.
-SENDER_FAULTS = (30, 31, 33, 34)
 
 
 class Waiting:
@@ -51,10 +48,9 @@ class Waiting:
 class Pushes:
     """Answers pushes."""
 
-    def __init__(self, child: Child, limits: AllLimits, streams: Streams, resent: Resent, metrics: Metrics, settings):
+    def __init__(self, child: Child, limits: AllLimits, resent: Resent, metrics: Metrics, settings):
         self.child = child
         self.limits = limits
-        self.streams = streams
         self.resent = resent
         self.metrics = metrics
         self.drop_metadata = settings.structured_metadata == "drop"
@@ -130,9 +126,6 @@ class Pushes:
             self.resent.doubt(tenant, streams)
         outcome = verdicts.judge(parts, members, limits, tenant)
         outcome.fault = fault
-        for part, member in zip(parts, members):
-            if any(verdict == "duplicate" or "accepted" in verdict for verdict in (member or {}).get("verdicts", [])):
-                self.streams.note(tenant, member["stream"], part.content.labels)
         return outcome
 
     async def _ask(self, tenant: str, parts: list[verdicts.Part]) -> tuple[list[dict | None], Fault | None, bool]:
@@ -172,9 +165,7 @@ def members_of(parts: list[verdicts.Part], places: list[int]) -> list[dict]:
 
 def fault_of(reply: dict | Fault) -> Fault:
     """The answer where a push has no reply, or is refused."""
-    if isinstance(reply, Fault):
-        return reply
-    return Fault(400 if reply["number"] in SENDER_FAULTS else 500, f"the program refuses the push: {reply}\n")
+    return reply if isinstance(reply, Fault) else refused("push", reply)
 
 
 def entries_of(streams: list[tuple[int, Stream]]) -> int:

@@ -2,13 +2,13 @@
 import asyncio
 import contextlib
 import time
-from collections.abc import Mapping
+from collections.abc import AsyncIterator, Mapping
 
 from aiohttp import web
 
 from . import answers, pages
-from .faults import Fault
-from .known import Streams
+from .faults import Fault, refused
+from .labels import labels_of
 from .logql import Query, Unread, read_query
 from .stamps import SECOND, duration, moment
 from .tenants import tenant_of
@@ -17,14 +17,14 @@ DEFAULT_LIMIT, DEFAULT_SINCE = 100, "1h"
 # The most bytes of lines in one answer.
 MAX_ANSWER = 1 << 28
 HEALTH = "vector(1)+vector(1)"
+EVERY_STREAM = "{}"
 
 
 class Queries:
     """Answers queries."""
 
-    def __init__(self, ask: pages.Ask, streams: Streams, settings):
+    def __init__(self, ask: pages.Ask, settings):
         self.ask = ask
-        self.streams = streams
         self.settings = settings
         self.turns = asyncio.Semaphore(settings.max_concurrent)
 
@@ -50,21 +50,25 @@ class Queries:
         return await self._entries(request, query_of(text), max(now - self.settings.max_lookback_period, 0), now)
 
     async def _entries(self, request: web.Request, query: Query, start: int, end: int) -> web.Response:
-        """The first entries of a query. Raises Fault: 400 as told in it, 500 of the store, 504 where it takes too long."""
+        """The first entries of a query. Raises Fault: 400 as told in it, 500 of the store, and what a turn raises."""
         words, began = request.query, time.monotonic()
         backward, limit = _direction(words), self._limit(words)
-        tenant = tenant_of(request)
-        wanted = pages.Range(tenant, query.selector(), start, end, backward)
+        wanted = pages.Range(tenant_of(request), query.selector(), start, end, backward)
+        async with self._turn():
+            try:
+                found, looked_at, size = await self._collect(wanted, query, limit)
+            except pages.OneStamp as fault:
+                raise Fault(400, f"{fault}\n") from None
+        return answers.success(answers.streams(found, looked_at, size, began))
+
+    @contextlib.asynccontextmanager
+    async def _turn(self) -> AsyncIterator[None]:
+        """One of the turns in which the program is asked. Raises Fault 504 where waiting and asking take too long."""
         try:
             async with asyncio.timeout(self.settings.query_timeout / SECOND), self.turns:
-                found, looked_at, size = await self._collect(wanted, query, limit)
+                yield
         except TimeoutError:
-            raise Fault(504, "the query took too long; ask for a shorter range\n") from None
-        except pages.OneStamp as fault:
-            raise Fault(400, f"{fault}\n") from None
-        for name in {entry["stream"] for entry in found}:
-            self.streams.note(tenant, name)
-        return answers.success(answers.streams(found, looked_at, size, began))
+            raise Fault(504, "the query took too long; ask for a shorter range, or for fewer streams\n") from None
 
     async def _collect(self, wanted: pages.Range, query: Query, limit: int) -> tuple[list[dict], int, int]:
         """The first `limit` entries that pass the filters, how many were looked at, and the bytes of their lines.
@@ -95,31 +99,35 @@ class Queries:
         return int(text)
 
     async def labels(self, request: web.Request) -> web.Response:
-        """`labels`: the names of labels that are known. Raises Fault 400."""
-        return answers.success(sorted({name for labels in self._labels(request) for name in labels}))
+        """`labels`: the names of the labels of all streams, or of those that `query` means. Raises Fault."""
+        query = request.query.get("query") or EVERY_STREAM
+        return answers.success(await self._told(request, "labels", [query]))
 
     async def values(self, request: web.Request) -> web.Response:
-        """`label/NAME/values`: the values of a label that are known. Raises Fault 400."""
-        name = request.match_info["name"]
-        return answers.success(sorted({labels[name] for labels in self._labels(request) if name in labels}))
+        """`label/NAME/values`: the values of a label, of the same streams. Raises Fault."""
+        query = request.query.get("query") or EVERY_STREAM
+        return answers.success(await self._told(request, "labels", [query], name=request.match_info["name"]))
 
     async def series(self, request: web.Request) -> web.Response:
-        """`series`: the labels of each stream that is known and meant by a `match[]`. Raises Fault 400."""
+        """`series`: the labels of each stream, or of each that a `match[]` means. Raises Fault."""
         texts = request.query.getall("match[]", []) + request.query.getall("match", [])
-        queries = [selector_of(text) for text in texts]
-        if not queries:
-            raise Fault(400, "match[]: at least one selector is wanted\n")
-        known = self.streams.labels_of(tenant_of(request))
-        return answers.success([labels for labels in known if any(query.selects(labels) for query in queries)])
+        names = await self._told(request, "series", texts or [EVERY_STREAM])
+        return answers.success([labels_of(name) for name in names])
 
-    def _labels(self, request: web.Request) -> list[dict[str, str]]:
-        """The labels of the tenant's streams that are known, of those meant by `query`, where it is there. Raises Fault 400."""
-        known = self.streams.labels_of(tenant_of(request))
-        text = request.query.get("query")
-        if not text:
-            return list(known)
-        query = selector_of(text)
-        return [labels for labels in known if query.selects(labels)]
+    async def _told(self, request: web.Request, what: str, texts: list[str], **members: str) -> list[str]:
+        """What the command `what` tells of the streams that any of these selectors means, in byte order, each once.
+
+        Raises Fault: 400 and 500 as for a query, and what a turn raises.
+        """
+        commands = [{"cmd": what, "tenant": tenant_of(request)} | members | selection_of(text) for text in texts]
+        told: dict[str, None] = {}
+        async with self._turn():
+            for command in commands:
+                reply = await self.ask(command)
+                if "error" in reply:
+                    raise refused("query", reply)
+                told |= dict.fromkeys(reply[what])
+        return sorted(told)
 
 
 def query_of(text: str) -> Query:
@@ -130,14 +138,17 @@ def query_of(text: str) -> Query:
         raise Fault(400, f"{fault}\n") from None
 
 
-def selector_of(text: str) -> Query:
-    """A selector alone; `{}` means every stream, as in Loki where streams and not lines are asked for. Raises Fault 400."""
-    if "".join(text.split()) == "{}":
-        return Query()
+def selection_of(text: str) -> dict[str, str]:
+    """The member of a command for a selector alone. Raises Fault 400.
+
+    There is none for `{}`, which means every stream, as in Loki where streams and not lines are asked for.
+    """
+    if "".join(text.split()) == EVERY_STREAM:
+        return {}
     query = query_of(text)
     if query.filters:
         raise Fault(400, f"only a selector is wanted, without line filters: {text}\n")
-    return query
+    return {"query": query.selector()}
 
 
 def _wanted(words: Mapping[str, str], name: str) -> str:

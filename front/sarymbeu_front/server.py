@@ -12,9 +12,7 @@ from .bodies import MAX_BODY
 from .child import Child, lock_folder
 from .faults import Fault, unavailable
 from .housekeeping import Housekeeping
-from .known import Streams
 from .limits import AllLimits, read_limits
-from .logs import streams_of
 from .metrics import Metrics
 from .pushes import Pushes
 from .queries import Queries
@@ -37,11 +35,10 @@ class Front:
         self.settings = settings
         self.metrics = Metrics(lambda: self.child.pid)
         self.child = Child([settings.program, settings.settings_file, settings.folder], self.metrics, settings.channels)
-        self.streams = Streams(settings.known_streams, self.metrics)
         self.housekeeping = Housekeeping(self.child, self.metrics, settings)
-        self.resent = Resent(self.child.ask, self.housekeeping.checkpoint, self.streams, self.metrics)
-        self.pushes = Pushes(self.child, limits, self.streams, self.resent, self.metrics, settings)
-        self.queries = Queries(self.child.ask, self.streams, settings)
+        self.resent = Resent(self.child.ask, self.housekeeping.checkpoint, self.metrics)
+        self.pushes = Pushes(self.child, limits, self.resent, self.metrics, settings)
+        self.queries = Queries(self.child.ask, settings)
         self.counting = asyncio.Lock()
         self.ready = False
         self.stopping = False
@@ -132,11 +129,7 @@ class Front:
         Raises Fault where the program ends.
         """
         began = time.monotonic()
-        # Beside recovery: before and behind it the logs name the same streams.
-        named = asyncio.create_task(asyncio.to_thread(streams_of, self.settings.folder))
         reply = await self.child.begin()
-        for (tenant, name), labels in (await named).items():
-            self.streams.note(tenant, name, labels)
         # Where no shard has an entry, nothing that is sent can have been taken before.
         self.resent.fresh = not any(shard.get("accepted", 1) for shard in reply.get("board", [{}]))
         self.ready = True

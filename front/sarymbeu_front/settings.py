@@ -31,7 +31,6 @@ class Settings:
     query_timeout: int
     max_waiting_bytes: int
     remembered_answers: int
-    known_streams: int
     structured_metadata: str
     access_log: bool
 
@@ -80,7 +79,6 @@ def _parser() -> argparse.ArgumentParser:
         "querier.max-concurrent": ("max_concurrent", 4, "how many queries are worked on at once"),
         "max-waiting-bytes": ("max_waiting_bytes", 1 << 27, "bytes of pushes that wait, beyond which they get 503"),
         "remembered-answers": ("remembered_answers", 10000, "answers to pushes that are kept"),
-        "known-streams": ("known_streams", 100000, "streams that are known for labels and series"),
     }
     texts = {
         "program": ("program", "ingestd", "the program"),

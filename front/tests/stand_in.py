@@ -2,10 +2,11 @@
 """Stands in for the program in tests of the front: the same commands and replies, of few rules, without proof or folder.
 
 FRONT_STAND_IN says what else it does: with `mute` it answers nothing, with `dies` it ends at the first push, with `sleepy` pushes
-and queries take 0.3 seconds, with `fails` flushes and checkpoints fail; with `keeps` its entries are kept in
-FOLDER/stand-in.json, so that a second run has those of the first; with `refuses` it ends at once.
+and questions take 0.3 seconds, with `fails` flushes and checkpoints fail; with `keeps` its entries are kept in
+FOLDER/stand-in.json, so that a second run has those of the first; with `refuses` it ends at once. Whatever the tenant `lost`
+asks is refused, as where a shard is misplaced.
 
-Of channels: with `uneven` each takes a time of its own for a reply, with `held` queries wait until a flush is done, 3 seconds
+Of channels: with `uneven` each takes a time of its own for a reply, with `held` questions wait until a flush is done, 3 seconds
 at most, with `late` they are opened after 0.4 seconds, with `unserved` the last one when the others have ended. A push with the
 line `break` is taken, and then the channel ends without a reply, a flush with `keeper` likewise; the line `half` is not taken,
 and of the reply a half is written.
@@ -21,6 +22,8 @@ import time
 
 MODE = os.environ.get("FRONT_STAND_IN", "")
 PLACE = pathlib.Path(sys.argv[2]) / "stand-in.json"
+QUESTIONS = ("query", "series", "labels")
+PAIR = r'([a-zA-Z_][a-zA-Z0-9_]*)(!?=)"((?:[^"\\]|\\.)*)"'
 streams = {}  # By tenant and canonical name the entries, as accepted.
 if MODE == "keeps" and PLACE.exists():
     streams = {tuple(key): entries for key, entries in json.loads(PLACE.read_text())}
@@ -60,18 +63,56 @@ def push_stream(tenant, stream):
     return {"durable": tenant != "torn", "stream": name, "verdicts": verdicts}
 
 
-def query(command):
-    matchers = re.findall(r'(\w+)(!?=)"((?:[^"\\]|\\.)*)"', command["query"])
+def unescaped(value):
+    return re.sub(r"\\(.)", lambda found: "\n" if found[1] == "n" else found[1], value)
+
+
+def pairs_of(text):
+    """Of a selector or a canonical name each label with its sign and its value."""
+    return [(name, sign, unescaped(value)) for name, sign, value in re.findall(PAIR, text)]
+
+
+def matches(selector, labels):
+    return all((labels.get(name, "") == value) == (sign == "=") for name, sign, value in pairs_of(selector))
+
+
+def streams_of(tenant, selector):
+    """Names and labels of the tenant's streams that have an entry and are selected, in byte order."""
+    held = sorted(name for (owner, name), entries in streams.items() if owner == tenant and entries)
+    found = [(name, {label: value for label, _, value in pairs_of(name)}) for name in held]
+    return [(name, labels) for name, labels in found if matches(selector, labels)]
+
+
+def query(command, names):
     found = []
-    for (tenant, name), entries in sorted(streams.items()):
-        labels = dict(re.findall(r'(\w+)="((?:[^"\\]|\\.)*)"', name))
-        if tenant == command["tenant"] and all((labels.get(key, "") == value) == (sign == "=") for key, sign, value in matchers):
-            found += [(int(stamp), name, number, line) for number, (stamp, line) in enumerate(entries)]
+    for name in names:
+        entries = streams[command["tenant"], name]
+        found += [(int(stamp), name, number, line) for number, (stamp, line) in enumerate(entries)]
     found = [one for one in found if int(command.get("start", 0)) <= one[0] < int(command.get("end", 2**63))]
     found.sort(reverse=command.get("direction", "backward") == "backward")
     found = found[: command.get("limit", 100)]
     entries = [{"line": line, "stamp": str(stamp), "stream": name} for stamp, name, _, line in found]
     return {"query": {"entries": entries, "fronts": [0]}}
+
+
+def question(command):
+    selector = command.get("query", "{}")
+    if command["tenant"] == "lost":
+        return {"error": "Misplaced", "number": 43}
+    if not re.fullmatch(rf"\{{({PAIR}(, {PAIR})*)?\}}", selector):
+        return {"at": 0, "error": "BadSelector", "number": 8}
+    if "query" in command and not any(sign == "=" and value for _, sign, value in pairs_of(selector)):
+        return {"error": "TooWide", "number": 9}
+    found = streams_of(command["tenant"], selector)
+    match command:
+        case {"cmd": "query"}:
+            return query(command, [name for name, _ in found])
+        case {"cmd": "series"}:
+            return {"series": [name for name, _ in found]}
+        case {"cmd": "labels", "name": wanted}:
+            return {"labels": sorted({labels[wanted] for _, labels in found if wanted in labels})}
+        case {"cmd": "labels"}:
+            return {"labels": sorted({name for _, labels in found for name in labels})}
 
 
 def reply(command, channel):
@@ -84,8 +125,8 @@ def reply(command, channel):
             if MODE == "keeps":
                 PLACE.write_text(json.dumps(list(streams.items())))
             return answer
-        case "query":
-            return query(command)
+        case name if name in QUESTIONS:
+            return question(command)
         case "board":
             return {"board": [{"accepted": count, "stored": 0}]}
         case "sweep":
@@ -107,9 +148,9 @@ def lines_of(command):
 def answer(line, channel, told):
     """Obeys one command, as all channels do one after another, and writes the reply."""
     command = json.loads(line)
-    if MODE == "sleepy" and command["cmd"] in ("push", "query"):
+    if MODE == "sleepy" and command["cmd"] in ("push", *QUESTIONS):
         time.sleep(0.3)
-    if MODE == "held" and command["cmd"] == "query":
+    if MODE == "held" and command["cmd"] in QUESTIONS:
         flushed.wait(3)
     if "half" in lines_of(command):
         print("{", end="", file=told, flush=True)

@@ -15,9 +15,11 @@ import pytest
 
 from sarymbeu_front import child
 from sarymbeu_front.bodies import Stream
+from sarymbeu_front.metrics import Metrics
+from sarymbeu_front.resent import Resent
 from sarymbeu_front.server import serve
 from sarymbeu_front.settings import read_settings
-from test_requests import PUSH, RANGE, body_of, counts, found, of_tenant, push, sums_up
+from test_requests import PUSH, RANGE, body_of, counts, found, of_tenant, push, sums_up, told
 
 HERE = pathlib.Path(__file__).resolve().parent
 FOUR = ("--channels", "4")
@@ -47,7 +49,8 @@ async def answers_to(client):
             response = await client.post(PUSH, json=body, headers=of_tenant(tenant))
             found.append((response.status, await response.text()))
         words = {"start": "0", "end": "100"}
-        for path in [f'{RANGE}?query={{a="{number}"}}' for number in range(3)] + [RANGE, "/loki/api/v1/labels"]:
+        paths = [f'{RANGE}?query={{a="{number}"}}' for number in range(3)] + [RANGE]
+        for path in paths + [f"/loki/api/v1/{name}" for name in ("labels", "label/a/values", "series")]:
             response = await client.get(path, params=words, headers=of_tenant(tenant))
             text = await response.text()
             found.append((response.status, json.loads(text)["data"] if response.status == 200 else text))
@@ -115,7 +118,8 @@ def test_housekeeping_has_a_channel_of_its_own(with_front, monkeypatch):
     monkeypatch.setenv("FRONT_STAND_IN", "held")
 
     async def work(client, front):
-        asked = [asyncio.create_task(found(client, '{a="1"}')) for _ in range(4)]
+        asked = [asyncio.create_task(found(client, '{a="1"}')) for _ in range(2)]
+        asked += [asyncio.create_task(told(client, path)) for path in ("labels", "series")]
         while sum(channel.waiting for channel in front.child.channels) < 4:
             await asyncio.sleep(0.002)
         assert [channel.waiting for channel in front.child.channels] == [0, 2, 1, 1]
@@ -174,6 +178,20 @@ def test_what_is_left_out_behind_a_broken_channel_is_in_a_checkpoint(with_front)
     with_front(work, *FOUR)
 
 
+@pytest.mark.parametrize("doubted", [False, True])
+def test_a_stamp_that_comes_into_doubt_while_it_is_asked_for_is_not_kept(doubted):
+    streams = [(0, Stream({"a": "1"}, [["5", "x"]]))]
+
+    async def ask(_):
+        if doubted:
+            left_out.doubt("t", streams)
+        return {"query": {"entries": []}}
+
+    left_out = Resent(ask, None, Metrics(lambda: None))
+    assert asyncio.run(left_out.without_standing("t", streams)) == streams
+    assert left_out.may_stand("t", streams) == doubted
+
+
 def test_requests_that_wait_on_a_broken_channel_get_503_and_others_do_not(with_front, monkeypatch):
     monkeypatch.setenv("FRONT_STAND_IN", "uneven")
 
@@ -204,6 +222,7 @@ def test_the_end_of_the_program_is_503(with_front, monkeypatch):
     async def work(client, front):
         answers = await asyncio.gather(*(push(client, {"a": str(number)}, ("1", "x")) for number in range(8)))
         assert [status for status, _ in answers] == [503] * 8
+        await front.child.ended.wait()
         assert (await client.get("/ready")).status == 503
         assert await front.child.end() == 3
 

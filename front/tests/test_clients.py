@@ -202,7 +202,7 @@ def test_whether_grafana_finds_the_source_well(with_front):
 
 def test_what_logcli_asks(reads):
     times = f"end={LAST}&start={FIRST}"
-    both = [{"app": "web", "host": "a"}, {"app": "db", "host": "a"}]
+    both = [{"app": "db", "host": "a"}, {"app": "web", "host": "a"}]
     reads(
         [
             (f"/loki/api/v1/series?match=%7B%7D&{times}", both),
@@ -212,7 +212,7 @@ def test_what_logcli_asks(reads):
             (f"/loki/api/v1/query?direction=BACKWARD&limit=30&query={WEB}&time={FIRST + 2 * SECOND}", ENTRIES[1::-1]),
             (f"/loki/api/v1/labels?{times}", ["app", "host"]),
             (f"/loki/api/v1/label/host/values?{times}", ["a"]),
-            (f"/loki/api/v1/series?match={WEB}&{times}", both[:1]),
+            (f"/loki/api/v1/series?match={WEB}&{times}", both[1:]),
         ]
     )
 

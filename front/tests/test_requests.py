@@ -6,11 +6,12 @@ import json
 import pytest
 import snappy
 
-from sarymbeu_front import push_pb2
-from test_logs import WHOLE, record
+from sarymbeu_front import push_pb2, resent
+from sarymbeu_front.faults import refused
 
 PUSH, RANGE = "/loki/api/v1/push", "/loki/api/v1/query_range"
 JSON = {"Content-Type": "application/json"}
+WEB, DB, ODD = {"app": "web", "host": "a"}, {"app": "db"}, {"app": 'o"d\\d\n'}
 
 
 def body_of(labels, *values):
@@ -35,9 +36,18 @@ async def found(client, query, tenant="t", **words):
     return [(stream["stream"], *value) for stream in answer["data"]["result"] for value in stream["values"]]
 
 
-async def refusal(client, path, **words):
-    response = await client.get(path, params=words, headers=of_tenant("t"))
+async def refusal(client, path, tenant="t", **words):
+    response = await client.get(path, params=words, headers=of_tenant(tenant))
     return response.status, await response.text()
+
+
+async def told(client, path, *words, tenant="t"):
+    """The data of an answer of labels or series; each word is a name and a value."""
+    response = await client.get(f"/loki/api/v1/{path}", params=words, headers=of_tenant(tenant))
+    assert response.status == 200, await response.text()
+    answer = await response.json()
+    assert answer["status"] == "success"
+    return answer["data"]
 
 
 async def counts(client):
@@ -172,8 +182,6 @@ def test_wrong_queries_have_their_place(with_front):
         ):
             status, text = await refusal(client, RANGE, **words)
             assert status == 400 and text.startswith(start), (words, text)
-        assert (await refusal(client, "/loki/api/v1/series"))[0] == 400
-        assert (await refusal(client, "/loki/api/v1/series", **{"match[]": '{a="1"} |= "x"'}))[0] == 400
         assert (await refusal(client, "/loki/api/v1/nothing"))[0] == 404
 
     with_front(work)
@@ -192,21 +200,76 @@ def test_instant_queries_and_the_question_of_grafana(with_front):
 
 def test_labels_and_series(with_front):
     async def work(client, _):
-        await push(client, {"app": "web", "host": "a"}, ("1", "x"))
-        await push(client, {"app": "db"}, ("1", "x"))
+        for labels in (WEB, ODD, DB):
+            assert await push(client, labels | {"none": ""}, ("1", "x")) == (204, "")
+        assert await push(client, {"app": "api", "zone": "z"}, ("1", "x"), tenant="u") == (204, "")
         for path, words, data in (
-            ("labels", {}, ["app", "host"]),
-            ("label/app/values", {}, ["db", "web"]),
-            ("label/app/values", {"query": '{host="a"}'}, ["web"]),
-            ("label/none/values", {}, []),
-            ("series", {"match[]": '{app="db"}'}, [{"app": "db"}]),
+            ("labels", [], ["app", "host"]),
+            ("label", [], ["app", "host"]),
+            ("labels", [("query", "")], ["app", "host"]),
+            ("labels", [("query", " { } ")], ["app", "host"]),
+            ("labels", [("query", '{app="db"}')], ["app"]),
+            ("label/app/values", [], ["db", 'o"d\\d\n', "web"]),
+            ("label/app/values", [("query", '{host="a"}')], ["web"]),
+            ("label/app/values", [("query", '{host="a", app!="web"}')], []),
+            ("label/none/values", [], []),
+            ("label/n%22%0A/values", [], []),
+            ("series", [], [DB, ODD, WEB]),
+            ("series", [("match[]", "{}")], [DB, ODD, WEB]),
+            ("series", [("match[]", '{app="db"}'), ("start", "5"), ("end", "6")], [DB]),
+            ("series", [("match[]", '{host=`a`, app!="db"}')], [WEB]),
+            ("series", [("match[]", '{app="o\\"d\\\\d\\x0a"}')], [ODD]),
+            ("series", [("match[]", '{app="web"}'), ("match", '{app="db"}'), ("match[]", '{host="a"}')], [DB, WEB]),
+            ("series", [("match[]", '{app="web"}'), ("match[]", '{app="none"}'), ("match[]", "{}")], [DB, ODD, WEB]),
         ):
-            response = await client.get(f"/loki/api/v1/{path}", params=words, headers=of_tenant("t"))
-            assert await response.json() == {"status": "success", "data": data}
-        response = await client.get("/loki/api/v1/labels")
-        assert (await response.json())["data"] == []
+            assert await told(client, path, *words) == data, (path, words)
+        assert await told(client, "series", tenant="u") == [{"app": "api", "zone": "z"}]
+        assert await told(client, "label/zone/values", tenant="u") == ["z"]
+        assert await told(client, "labels", tenant="fake") == await told(client, "series", tenant="fake") == []
 
     with_front(work)
+
+
+WHERE_SELECTORS_STAND = [("labels", "query"), ("label/app/values", "query"), ("series", "match[]"), ("series", "match")]
+
+
+@pytest.mark.parametrize("path, word", WHERE_SELECTORS_STAND)
+def test_wrong_selectors_have_their_place(with_front, path, word):
+    async def work(client, _):
+        await push(client, WEB, ("1", "x"))
+        for text, start in (
+            ('{app="web", host=~"b"}', "parse error at line 1, col 17: =~ is not understood"),
+            ('{app="web", host!~"a"}', "parse error at line 1, col 17: !~ is not understood"),
+            ('{app!="db"}', "parse error at line 1, col 1: a selector needs at least one matcher"),
+            ('{app="web"', "parse error at line 1, col 11:"),
+            ('{app="web"} |= "x"', "only a selector is wanted, without line filters"),
+        ):
+            status, answer = await refusal(client, f"/loki/api/v1/{path}", **{word: text})
+            assert status == 400 and answer.startswith(start), (text, answer)
+        for words in ([("match[]", "{}"), ("match[]", "")], [("match", '{app="web"}'), ("match[]", "web")]):
+            assert (await client.get("/loki/api/v1/series", params=words, headers=of_tenant("t"))).status == 400
+
+    with_front(work)
+
+
+def test_what_the_program_refuses_is_no_empty_answer(with_front):
+    async def work(client, _):
+        for path, words in (
+            ("labels", {}),
+            ("label/app/values", {}),
+            ("series", {}),
+            ("series", {"match[]": '{app="web"}'}),
+            ("query_range", {"query": '{app="web"}'}),
+        ):
+            status, text = await refusal(client, f"/loki/api/v1/{path}", tenant="lost", **words)
+            assert status == 500 and text.startswith("the program refuses the query") and "Misplaced" in text, (path, text)
+
+    with_front(work)
+
+
+@pytest.mark.parametrize("status, numbers", [(400, (8, 9, 30, 31, 33, 34)), (500, (26, 27, 43))])
+def test_whose_fault_a_refusal_is(status, numbers):
+    assert {refused("query", {"error": "Name", "number": number}).status for number in numbers} == {status}
 
 
 def test_the_other_routes(with_front):
@@ -267,9 +330,26 @@ def test_a_query_that_takes_too_long_is_504(with_front, monkeypatch):
 
     async def work(client, _):
         assert (await refusal(client, RANGE, query='{a="1"}'))[0] == 504
+        for path in ("labels", "label/a/values", "series"):
+            assert (await refusal(client, f"/loki/api/v1/{path}"))[0] == 504
         assert (await client.get("/ready")).status == 200
 
     with_front(work, "--querier.query-timeout", "50ms")
+
+
+def test_labels_and_series_take_turns_with_queries(with_front, monkeypatch):
+    monkeypatch.setenv("FRONT_STAND_IN", "sleepy")
+
+    async def work(client, front):
+        asked = [asyncio.create_task(told(client, path)) for path in ("labels", "label/a/values", "series")]
+        asked.append(asyncio.create_task(found(client, '{a="1"}')))
+        most = 0
+        while not all(task.done() for task in asked):
+            most = max(most, front.child.channels[0].waiting)
+            await asyncio.sleep(0.002)
+        assert most == 2 and [task.result() for task in asked] == [[]] * 4
+
+    with_front(work, "--querier.max-concurrent", "2")
 
 
 @pytest.mark.parametrize("mode, failed", [("", False), ("fails", True)])
@@ -326,39 +406,42 @@ def test_what_was_pushed_before_a_start_is_not_pushed_again(with_front, monkeypa
         assert sorted(lines) == ["a", "b", "c", "d", "e", "new"]
         numbers = await counts(client)
         assert numbers["front_lines_already_there_total"] == 2 and sums_up(numbers)
-        response = await client.get("/loki/api/v1/labels", headers=of_tenant("t"))
-        assert (await response.json())["data"] == ["a", "c"]
-        await found(client, '{b="2"}')
-        response = await client.get("/loki/api/v1/labels", headers=of_tenant("t"))
-        assert (await response.json())["data"] == ["a", "b", "c"]
 
     with_front(before)
     with_front(after)
 
 
-def test_labels_and_series_of_logs_are_told_from_the_start(with_front, tmp_path):
-    (tmp_path / "wal-1").write_bytes(record(WHOLE))
+def test_labels_and_series_are_told_of_what_was_there_before_a_start(with_front, monkeypatch):
+    monkeypatch.setenv("FRONT_STAND_IN", "keeps")
 
-    async def work(client, _):
-        await push(client, {"new": "1"}, ("1", "x"))
-        for path, tenant, data in (
-            ("labels", "t", ["b", "c", "new"]),
-            ("label/b/values", "t", ['ä"}']),
-            ("series?match[]={a=\"1\"}", "u", [{"a": "1"}]),
-        ):
-            response = await client.get(f"/loki/api/v1/{path}", headers=of_tenant(tenant))
-            assert (await response.json())["data"] == data
+    async def before(client, _):
+        await push(client, WEB, ("1", "x"))
 
-    with_front(work)
+    async def after(client, _):
+        assert await told(client, "labels") == ["app", "host"] and await told(client, "label/app/values") == ["web"]
+        await push(client, DB, ("1", "x"))
+        assert await told(client, "series") == [DB, WEB]
+
+    with_front(before)
+    with_front(after)
 
 
-@pytest.mark.parametrize("size, known", [("1", ["b"]), ("2", ["a", "b"])])
-def test_streams_that_are_let_go_are_counted(with_front, size, known):
-    async def work(client, _):
-        for name in ("a", "b"):
+@pytest.mark.parametrize("most, asked", [(1, 10), (2, 8)])
+def test_a_stamp_that_was_let_go_is_asked_for_again(with_front, monkeypatch, most, asked):
+    monkeypatch.setenv("FRONT_STAND_IN", "keeps")
+    monkeypatch.setattr(resent, "MOST_STREAMS", most)
+
+    async def before(client, _):
+        for name in "abc":
             await push(client, {name: "1"}, ("1", "x"))
-        response = await client.get("/loki/api/v1/labels", headers=of_tenant("t"))
-        assert (await response.json())["data"] == known
-        assert (await counts(client))["front_streams_forgotten_total"] == 2 - len(known)
 
-    with_front(work, "--known-streams", size)
+    async def after(client, _):
+        for stamp, name in enumerate("abaca", 2):
+            assert await push(client, {name: "1"}, ("1", "x"), (str(stamp), "new")) == (204, "")
+        numbers = await counts(client)
+        assert numbers["front_lines_already_there_total"] == 5 and sums_up(numbers)
+        # Each time for the entry that stands, and for the stamp as often as it is not kept: of two, those that came last.
+        assert numbers['front_reply_seconds_count{command="query"}'] == asked
+
+    with_front(before)
+    with_front(after)

@@ -2,7 +2,7 @@
 import pytest
 
 from sarymbeu_front.faults import Fault
-from sarymbeu_front.labels import canonical_name, read_labels
+from sarymbeu_front.labels import canonical_name, labels_of, read_labels
 from sarymbeu_front.logql import read_query
 from sarymbeu_front.scan import Unread
 from sarymbeu_front.stamps import duration, is_stamp, moment, rfc3339
@@ -10,10 +10,14 @@ from sarymbeu_front.stamps import duration, is_stamp, moment, rfc3339
 
 @pytest.mark.parametrize(
     "labels",
-    [{"a": "1"}, {"b": "2", "a": "1"}, {"m": 'a"b\\c\nd'}, {"u": "ä€😀"}, {"tab": "a\tb"}],
-)
+    [
+        {"a": "1"}, {"b": "2", "a": "1"}, {"m": 'a"b\\c\nd'}, {"u": "ä€😀"}, {"tab": "a\tb\r"},
+        {"a": "\\n\\\n", "b": "\\"}, {"_9": '", b="c', "c": "{}", "d": 'e="f", g="'},
+    ],
+)  # fmt: skip
 def test_canonical_names_are_read_as_they_are_written(labels):
-    assert read_labels(canonical_name(labels)) == (labels, 0)
+    name = canonical_name(labels)
+    assert read_labels(name) == (labels, 0) and labels_of(name) == labels
 
 
 def test_a_canonical_name_is_that_of_the_formats():
@@ -51,7 +55,6 @@ def test_a_query_is_read():
     query = read_query('{app="web", env!="dev"} |= "a\\"b" != `c` |= ""')
     assert query.selector() == '{app="web", env!="dev"}'
     assert query.keeps('xa"b') and not query.keeps('a"bc') and not query.keeps("ab")
-    assert query.selects({"app": "web"}) and not query.selects({"app": "web", "env": "dev"}) and not query.selects({})
 
 
 @pytest.mark.parametrize(
