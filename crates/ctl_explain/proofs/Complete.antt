@@ -14,15 +14,15 @@ use Rattle.ing_commands.specs.CatalogCommands.{CatalogCommand, labels_of, series
 use Rattle.ing_commands.specs.FlushCommands.{flush_of}
 use Rattle.ing_commands.specs.GaugesCommands.{gauges_of, GaugesCommand}
 use Rattle.ing_commands.specs.PushCommands.{RawValue, RawStream, RawPush, raw_value, raw_labels, raw_stream, raw_push, has_metadata, is_no_stamp, has_bad_value, push_said_by, checked, push_of}
-use Rattle.ing_commands.specs.QueryCommands.{RawQuery, raw_query, query_of, limit_at, order_of, tenant_of, end_of}
+use Rattle.ing_commands.specs.QueryCommands.{RawCursor, RawQuery, after_at, behind_of, raw_query, query_of, limit_at, order_of, tenant_of, end_of}
 use Rattle.ing_commands.specs.QueryCommands as queries
 use Rattle.ing_commands.specs.Shapes.{text_of, text_at, text_or, maybe_text_at, flag_at, array_at, object_at, each}
 use Rattle.ing_commands.specs.SweepCommands.{sweep_of}
 use Rattle.ctl_explain.specs.declared.member.Field.{Field}
-use Rattle.ctl_explain.specs.declared.member.Field.TheVariants.{Cmd, Tenant, Now, Streams, Query, Start, End, Limit, Direction, Forced, Selector, Name}
+use Rattle.ctl_explain.specs.declared.member.Field.TheVariants.{Cmd, Tenant, Now, Streams, Query, Start, End, Limit, Direction, After, Pages, Forced, Selector, Name}
 use Rattle.ctl_explain.specs.declared.member.Part.TheVariants as part
 use Rattle.ctl_explain.specs.declared.member.Member.TheVariants.{Own, OfStream}
-use Rattle.ctl_explain.specs.Members.{Test, test_cmd, test_tenant, test_stamp, test_end, test_direction, test_raw, field_test, part_test, label_test, value_test, label_in}
+use Rattle.ctl_explain.specs.Members.{Test, test_cmd, test_tenant, test_stamp, test_after, test_end, test_direction, test_raw, field_test, part_test, label_test, value_test, label_in}
 use Rattle.ctl_explain.specs.Walks.{is_fault, value_has, label_has, first_item, first_label, first_field, items_at, members_at, label_found, value_found, first_part, first_of_streams, fields_of, rest_of, first_of_command, first_member}
 
 -- ---- steps
@@ -406,7 +406,7 @@ gauges_complete fault d e =
 -- ---- a query
 
 abbrev query_fields : List Field
-query_fields = Tenant ∷ Query ∷ Start ∷ End ∷ Limit ∷ Direction ∷ []
+query_fields = Tenant ∷ Query ∷ Start ∷ End ∷ Limit ∷ Direction ∷ After ∷ Pages ∷ []
 
 -- one of these members fails
 record OneFails (names : List Field) (fault : LineFault) (d : Data) : Type 0 where
@@ -422,9 +422,15 @@ record QueryFacts (d : Data) (raw : RawQuery) : Type 0 where
   tenant : text_at (codes "tenant") d ≡ Ok raw.tenant
   start : text_or (codes "start") (codes "0") d ≡ Ok raw.start
   end : text_or (codes "end") (codes "9223372036854775808") d ≡ Ok raw.end
+  after : after_at d ≡ Ok raw.after
+
+-- the value of a result, where it has one
+value_or : RawQuery → Result RawQuery LineFault → RawQuery
+value_or other (Ok raw) = raw
+value_or other (Err fault) = other
 
 query_facts : (d : Data) (raw : RawQuery) → raw_query d ≡ Ok raw → QueryFacts d raw
-unfolding raw_query
+unfolding raw_query value_or
 query_facts d raw e =
     let tenant = bind_ok (text_at (codes "tenant") d) _ raw e in
     let text = bind_ok (text_at (codes "query") d) _ raw tenant.2 in
@@ -433,11 +439,15 @@ query_facts d raw e =
     let limit = bind_ok (limit_at d) _ raw end.2 in
     let direction = bind_ok (text_or (codes "direction") (codes "backward") d) _ raw limit.2 in
     let order = bind_ok (order_of direction.0) _ raw direction.2 in
-    let same : record { tenant = tenant.0; text = text.0; start = start.0; end = end.0; limit = limit.0; order = order.0 } ≡ raw = cc (order.2) in
+    let after = bind_ok (after_at d) _ raw order.2 in
+    let pages = bind_ok (flag_at (codes "pages") false d) _ raw after.2 in
+    let said : RawQuery = record { tenant = tenant.0; text = text.0; start = start.0; end = end.0; limit = limit.0; order = order.0; after = after.0; pages = pages.0 } in
+    let same : said ≡ raw = ap (value_or said) pages.2 in
     record {
       tenant = tenant.1 ∙ ap (λ r. Ok r.tenant) same;
       start = start.1 ∙ ap (λ r. Ok r.start) same;
       end = end.1 ∙ ap (λ r. Ok r.end) same;
+      after = after.1 ∙ ap (λ r. Ok r.after) same;
     }
 
 query_shape : (fault : LineFault) (d : Data) → raw_query d ≡ Err fault → QueryFails fault d
@@ -463,13 +473,30 @@ query_shape fault d e =
                                     | inr direction ↦
                                         elim (bind_err (order_of direction.0) _ fault direction.2) as (λ _. QueryFails fault d) [
                                           | inl bad ↦ record { name = Direction; one = inr (inr (inr (inr (inr (inl refl))))); bad = goes_on (text_or (codes "direction") (codes "backward") d) test_direction direction.0 (Err fault) direction.1 (fails (order_of direction.0) _ fault bad) }
-                                          | inr order ↦ absurd (cc (order.2))
+                                          | inr order ↦
+                                              elim (bind_err (after_at d) _ fault order.2) as (λ _. QueryFails fault d) [
+                                                | inl bad ↦ record { name = After; one = inr (inr (inr (inr (inr (inr (inl refl)))))); bad = fails (after_at d) _ fault bad }
+                                                | inr after ↦
+                                                    elim (bind_err (flag_at (codes "pages") false d) _ fault after.2) as (λ _. QueryFails fault d) [
+                                                      | inl bad ↦ record { name = Pages; one = inr (inr (inr (inr (inr (inr (inr (inl refl))))))); bad = fails (flag_at (codes "pages") false d) _ fault bad }
+                                                      | inr pages ↦ absurd (cc (pages.2))
+                                                    ]
+                                              ]
                                         ]
                                   ]
                             ]
                       ]
                 ]
           ]
+    ]
+
+-- a cursor whose stamp is none
+cursor_at : (cursor : Option RawCursor) (fault : LineFault) → behind_of cursor ≡ Err fault → test_after cursor ≡ Err fault
+cursor_at None fault e = absurd (cc)
+cursor_at (Some cursor) fault e =
+    elim (bind_err (ok_or (stamp_of cursor.stamp) BadStamp) _ fault e) as (λ _. test_after (Some cursor) ≡ Err fault) [
+      | inl bad ↦ stamp_at (stamp_of cursor.stamp) fault bad
+      | inr stamp ↦ absurd (cc (stamp.2))
     ]
 
 query_checked : (fault : LineFault) (d : Data) (raw : RawQuery) → QueryFacts d raw → queries.checked raw ≡ Err fault → QueryFails fault d
@@ -481,7 +508,10 @@ query_checked fault d raw facts e =
         | inl bad ↦ record { name = Start; one = inr (inr (inl refl)); bad = goes_on (text_or (codes "start") (codes "0") d) test_stamp raw.start (Err fault) facts.start (stamp_at (stamp_of raw.start) fault bad) }
         | inr start ↦ elim (bind_err (end_of raw.end) _ fault start.2) as (λ _. QueryFails fault d) [
           | inl bad ↦ record { name = End; one = inr (inr (inr (inl refl))); bad = goes_on (text_or (codes "end") (codes "9223372036854775808") d) test_end raw.end (Err fault) facts.end (end_at (bytes_eq raw.end (codes "9223372036854775808")) raw.end (2 ^ 63) fault bad) }
-          | inr end ↦ absurd (cc (end.2))
+          | inr end ↦ elim (bind_err (behind_of raw.after) _ fault end.2) as (λ _. QueryFails fault d) [
+            | inl bad ↦ record { name = After; one = inr (inr (inr (inr (inr (inr (inl refl)))))); bad = goes_on (after_at d) test_after raw.after (Err fault) facts.after (cursor_at raw.after fault bad) }
+            | inr after ↦ absurd (cc (after.2))
+          ]
         ]
       ]
     ]

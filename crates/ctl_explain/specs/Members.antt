@@ -1,5 +1,5 @@
 -- What is tested of each member of a command by itself, and which member is at fault (own).
-use Rattle.std.specs.Prelude.{◌≡◌, ℕ, zero, suc, List, [], ◌∷◌, codes, bytes_eq, Bool, true, if◌then◌else◌, ⊤, Option, Some, None, option_and_then, Result, Ok, Err}
+use Rattle.std.specs.Prelude.{◌≡◌, ℕ, zero, suc, List, [], ◌∷◌, codes, bytes_eq, Bool, false, true, if◌then◌else◌, ⊤, Option, Some, None, option_and_then, Result, Ok, Err}
 use Rattle.std.specs.List.{list_any}
 use Rattle.serde_json.specs.Data.{Data, Items, Members, no_members, member}
 use Rattle.serde_json.specs.Find.{get, get_item, as_array, as_object}
@@ -8,7 +8,7 @@ use Rattle.ing_rows.specs.Texts.{is_tenant}
 use Rattle.ing_commands.specs.declared.fault.LineFault.{LineFault}
 use Rattle.ing_commands.specs.declared.fault.LineFault.TheVariants.{BadCommand, Metadata, BadTenant, BadStamp}
 use Rattle.ing_commands.specs.PushCommands.{RawValue, raw_texts, raw_elements, raw_value, is_no_stamp}
-use Rattle.ing_commands.specs.QueryCommands.{limit_at, order_of}
+use Rattle.ing_commands.specs.QueryCommands.{RawCursor, after_at, cursor_of, limit_at, order_of}
 use Rattle.ing_commands.specs.Shapes.{text_of, text_at, text_or, maybe_text_at, flag_at, array_at, object_at}
 use Rattle.ctl_explain.specs.declared.member.Field.{Field}
 use Rattle.ctl_explain.specs.declared.member.Field.TheVariants as field
@@ -44,6 +44,19 @@ test_end text = if bytes_eq text (codes "9223372036854775808") then Ok tt else t
 abbrev pub test_direction : List ℕ → Test
 test_direction text = order_of text >>= passes
 
+-- the stamp of a cursor, where there is one
+abbrev pub test_after : Option RawCursor → Test
+test_after None = Ok tt
+test_after (Some cursor) = test_stamp cursor.stamp
+
+-- a cursor: its shape, and then its stamp
+abbrev pub test_cursor : Data → Test
+test_cursor d = cursor_of (Some d) >>= test_after
+
+-- a flag, where there is one
+abbrev pub test_flag : List ℕ → Bool → Data → Test
+test_flag name absent d = flag_at name absent d >>= passes
+
 -- a text, where there is one
 abbrev pub test_text : List ℕ → Data → Test
 test_text name d = maybe_text_at name d >>= passes
@@ -60,6 +73,8 @@ field_name field.Start = codes "start"
 field_name field.End = codes "end"
 field_name field.Limit = codes "limit"
 field_name field.Direction = codes "direction"
+field_name field.After = codes "after"
+field_name field.Pages = codes "pages"
 field_name field.Forced = codes "forced"
 field_name field.Selector = codes "query"
 field_name field.Name = codes "name"
@@ -74,7 +89,9 @@ field_test field.Start d = text_or (codes "start") (codes "0") d >>= test_stamp
 field_test field.End d = text_or (codes "end") (codes "9223372036854775808") d >>= test_end
 field_test field.Limit d = limit_at d >>= passes
 field_test field.Direction d = text_or (codes "direction") (codes "backward") d >>= test_direction
-field_test field.Forced d = flag_at (codes "forced") true d >>= passes
+field_test field.After d = after_at d >>= test_after
+field_test field.Pages d = test_flag (codes "pages") false d
+field_test field.Forced d = test_flag (codes "forced") true d
 field_test field.Selector d = test_text (codes "query") d
 field_test field.Name d = test_text (codes "name") d
 

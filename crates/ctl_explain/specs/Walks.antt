@@ -80,7 +80,7 @@ fields_of cmd =
     else if bytes_eq cmd (codes "gauges") then field.Tenant ∷ []
     else if bytes_eq cmd (codes "board") then []
     else if bytes_eq cmd (codes "checkpoint") then []
-    else if bytes_eq cmd (codes "query") then field.Tenant ∷ field.Query ∷ field.Start ∷ field.End ∷ field.Limit ∷ field.Direction ∷ []
+    else if bytes_eq cmd (codes "query") then field.Tenant ∷ field.Query ∷ field.Start ∷ field.End ∷ field.Limit ∷ field.Direction ∷ field.After ∷ field.Pages ∷ []
     else if bytes_eq cmd (codes "series") then field.Tenant ∷ field.Selector ∷ []
     else if bytes_eq cmd (codes "labels") then field.Tenant ∷ field.Selector ∷ field.Name ∷ []
     else field.Cmd ∷ []

@@ -23,6 +23,10 @@ pub enum Field {
     Limit,
     /// The order of a query.
     Direction,
+    /// What the entries that a query asks for stand behind, which may be absent.
+    After,
+    /// Whether a query asks for pages.
+    Pages,
     /// Whether a flush is forced.
     Forced,
     /// The selector of a question for a catalog, which may be absent.
@@ -71,6 +75,8 @@ impl Field {
             Field::End => "end",
             Field::Limit => "limit",
             Field::Direction => "direction",
+            Field::After => "after",
+            Field::Pages => "pages",
             Field::Forced => "forced",
             Field::Selector => "query",
             Field::Name => "name",

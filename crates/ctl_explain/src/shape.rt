@@ -1,8 +1,8 @@
 //! What is tested of each member of a command by itself. It takes no memory.
-ghost use Rattle.std.specs.Prelude.{◌≡◌};
+ghost use Rattle.std.specs.Prelude.{◌≡◌, Bool};
 ghost use Rattle.serde_json.specs.View.{view, items_view, members_view};
 ghost use Rattle.ing_refusals.specs.Results.{Returns};
-ghost use Rattle.ing_commands.specs.Shapes.{text_of, text_at, text_or, flag_at, array_at, object_at};
+ghost use Rattle.ing_commands.specs.Shapes.{text_of, text_at, text_or, number_at, array_at, object_at};
 ghost use Rattle.ctl_explain.specs.Members as members;
 
 use crate::member::Field;
@@ -65,11 +65,43 @@ pub(crate) fn object_at<'a>(
         .ok_or(LineFault::BadCommand)
 }
 
-/// The member `forced`.
-fn test_forced(value: &Value) -> Result<(), LineFault>
-    ensures { result ≡ members.field_test Field.Forced (view value.now) }
+/// The member of a name, if it is an integer from 0 to 2^64-1.
+fn number_at(value: &Value, name: &str) -> Result<u64, LineFault>
+    ensures { Returns (λ number. number) result (number_at name.now (view value.now)) }
 {
-    match value.get("forced") {
+    value
+        .get(name)
+        .and_then(Value::as_u64)
+        .ok_or(LineFault::BadCommand)
+}
+
+/// The member `after`.
+fn test_after(value: &Value) -> Result<(), LineFault>
+    ensures { result ≡ members.field_test Field.After (view value.now) }
+{
+    match value.get("after") {
+        Some(cursor) => test_cursor(cursor),
+        None => Ok(()),
+    }
+}
+
+/// A cursor: its members, and then its stamp.
+#[tactic(auto, unfolding(ing_commands::specs::QueryCommands::cursor_in))]
+fn test_cursor(value: &Value) -> Result<(), LineFault>
+    ensures { result ≡ members.test_cursor (view value.now) }
+{
+    let stamp = text_at(value, "stamp")?;
+    let _ = text_at(value, "stream")?;
+    let _ = number_at(value, "number")?;
+    test_stamp(stamp)
+}
+
+/// The member of a name, which is true or false where it is there.
+fn test_flag(value: &Value, name: &str) -> Result<(), LineFault>
+    ensures { (absent : Bool) →
+        result ≡ members.test_flag name.now absent (view value.now) }
+{
+    match value.get(name) {
         Some(flag) => match flag.as_bool() {
             Some(_) => Ok(()),
             None => Err(LineFault::BadCommand),
@@ -174,7 +206,9 @@ pub(crate) fn field_test(field: Field, value: &Value) -> Result<(), LineFault>
         Field::End => test_end(text_or(value, "end", "9223372036854775808")?),
         Field::Limit => test_limit(value),
         Field::Direction => test_direction(text_or(value, "direction", "backward")?),
-        Field::Forced => test_forced(value),
+        Field::After => test_after(value),
+        Field::Pages => test_flag(value, "pages"),
+        Field::Forced => test_flag(value, "forced"),
         Field::Selector => test_text(value, "query"),
         Field::Name => test_text(value, "name"),
     }

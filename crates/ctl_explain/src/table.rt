@@ -222,7 +222,7 @@ pub(crate) static TABLE: [Page; 43] = [
     Page {
         refusal: Refusal::BadStamp,
         meaning: "A time is not 1 to 19 digits, or passes 2^63-1 nanoseconds.",
-        when: "In the place of a line, for `now`, the stamp of a value, `start` or `end`.",
+        when: "In the place of a line, for `now`, the stamp of a value or of `after`, `start` or `end`.",
         advice: "Write nanoseconds since 1970, a text of digits with no sign and no point.",
     },
     Page {

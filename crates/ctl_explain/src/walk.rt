@@ -114,6 +114,8 @@ pub(crate) fn fields_of(cmd: &str) -> &'static [Field]
             Field::End,
             Field::Limit,
             Field::Direction,
+            Field::After,
+            Field::Pages,
         ],
         "series" => &[Field::Tenant, Field::Selector],
         "labels" => &[Field::Tenant, Field::Selector, Field::Name],

@@ -1,3 +1,5 @@
 pub mod ReplyLaws
-pub mod ApartLaws
+pub mod PlaceLaws
+pub mod ListLaws
 pub mod PageLaws
+pub mod AnswerLaws

@@ -1,278 +1,191 @@
--- The new entries of all pages are all that is wanted.
-use Rattle.std.proofs.Common.{◌≡◌, ℕ, ◌+◌, ◌-◌, ◌<◌, ◌≤◌, Bool, true, false, cond, List, [], ◌∷◌, ◌++◌, length, take, drop, Option, Some, refl, sym, ap, subst, ◌∙◌, ◌&&◌, ◌==◌, arith, length-append, append_assoc, min}
-use Rattle.std.specs.Prelude.{nat_lt, slice_get}
-use Rattle.std.specs.List.{filter, fold, list_all}
+-- All pages have all that is wanted.
+use Rattle.std.proofs.Common.{◌≡◌, ℕ, zero, suc, ◌-◌, ◌<◌, ◌≤◌, Bool, true, false, cond, List, [], ◌∷◌, ◌++◌, length, take, drop, Option, Some, None, refl, sym, ap, subst, ◌∙◌, ◌&&◌, arith, min}
+use Rattle.std.specs.Prelude.{nat_lt, option_map, slice_get}
+use Rattle.std.specs.List.{filter, list_all}
+use Rattle.std.proofs.lemmas.Bool.{true≢false}
 use Rattle.std.proofs.lemmas.Bool.Decides.{nat_tests}
-use Rattle.std.proofs.lemmas.List.{take-append-drop, drop_all, length-take}
-use Rattle.std.proofs.Math.Seq.{take-append-add}
+use Rattle.std.proofs.lemmas.Option.{slice_get_past}
+use Rattle.std.proofs.lemmas.List.{take-append-drop, drop_all, length-drop, length-take}
 use Rattle.std.proofs.lemmas.List.Elements.{filter-append}
+use Rattle.ing_rows.specs.Cursors.{Cursor}
 use Rattle.ing_rows.specs.declared.order.Order.{Order}
-use Rattle.ing_rows.specs.declared.order.Order.TheVariants.{Forward, Backward}
-use Rattle.ctl_pages.specs.Pages.{AreBehind, ArePages, IsInOrder, answer_of, asking_by, asking_from, comes_first, edge_of, is_wanted, joined, last_of, new_of, next_between, next_of, set_apart, with_stamp_of}
-use Rattle.ctl_pages.specs.declared.next.Next.{Next}
-use Rattle.ctl_pages.specs.declared.next.Next.TheVariants.{Last, Page, OneStamp}
-use Rattle.ctl_pages.specs.declared.next.Wanted.{Wanted}
-use Rattle.ctl_pages.specs.declared.told.Told.{Told}
-use Rattle.ctl_pages.proofs.ApartLaws.{seen_left_out, rest_is_new}
-
--- ---- the last entry
-
-last_by : Told → List Told → Told
-last_by told [] = told
-last_by told (next ∷ rest) = last_by next rest
-
-last_at : (told : Told) (rest : List Told) → slice_get (told ∷ rest) (length rest) ≡ Some (last_by told rest)
-unfolding last_by
-last_at told [] = refl
-last_at told (next ∷ rest) = last_at next rest
-
-last_is : (told : Told) (rest : List Told) → last_of (told ∷ rest) ≡ Some (last_by told rest)
-last_is told rest =
-    let one_less : length (told ∷ rest) - 1 ≡ length rest = omega arith in
-    ap (slice_get (told ∷ rest)) one_less ∙ last_at told rest
-
--- ---- tests of all entries
-
-both : (a b : Bool) → (a && b) ≡ true → (a ≡ true) × (b ≡ true)
-both true b h = (refl, h)
-both false b h = (h, cc)
-
-all_of_both : (p : Told → Bool) (xs ys : List Told) → list_all p (xs ++ ys) ≡ true → (list_all p xs ≡ true) × (list_all p ys ≡ true)
-all_of_both p [] ys h = (refl, h)
-all_of_both p (x ∷ xs) ys h =
-    let parts : (p x ≡ true) × (list_all p (xs ++ ys) ≡ true) = both (p x) (list_all p (xs ++ ys)) h in
-    let rest : (list_all p xs ≡ true) × (list_all p ys ≡ true) = all_of_both p xs ys parts.1 in
-    (ap (λ b. b && list_all p xs) parts.0 ∙ rest.0, rest.1)
-
-of_last : (p : Told → Bool) (x : Told) (xs : List Told) → list_all p (x ∷ xs) ≡ true → p (last_by x xs) ≡ true
-unfolding last_by
-of_last p x [] h = (both (p x) true h).0
-of_last p x (y ∷ ys) h = of_last p y ys (both (p x) (list_all p (y ∷ ys)) h).1
-
-filter_at : (p : Told → Bool) (b : Bool) (x : Told) (rest : List Told) → list_all p rest ≡ true → p x ≡ b → list_all p (cond b (x ∷ rest) rest) ≡ true
-filter_at p true x rest h passes = ap (λ b. b && list_all p rest) passes ∙ h
-filter_at p false x rest h passes = h
-
-filter_passes : (p : Told → Bool) (xs : List Told) → list_all p (filter p xs) ≡ true
-filter_passes p [] = refl
-filter_passes p (x ∷ xs) = filter_at p (p x) x (filter p xs) (filter_passes p xs) refl
-
--- ---- filters
-
-keep_at : (p : Told → Bool) (b : Bool) (x : Told) (xs : List Told) → b ≡ true → filter p xs ≡ xs → cond b (x ∷ filter p xs) (filter p xs) ≡ x ∷ xs
-keep_at p true x xs h e = ap (λ ys. x ∷ ys) e
-keep_at p false x xs h e = cc
-
--- all that pass are kept
-filter_all : (p : Told → Bool) (xs : List Told) → list_all p xs ≡ true → filter p xs ≡ xs
-filter_all p [] h = refl
-filter_all p (x ∷ xs) h =
-    let parts : (p x ≡ true) × (list_all p xs ≡ true) = both (p x) (list_all p xs) h in
-    keep_at p (p x) x xs parts.0 (filter_all p xs parts.1)
-
-twice_at : (q : Told → Bool) (b c : Bool) (x : Told) (rs ps : List Told) → q x ≡ c → rs ≡ filter q ps → cond (b && c) (x ∷ rs) rs ≡ filter q (cond b (x ∷ ps) ps)
-twice_at q true true x rs ps passes e = ap (λ ys. x ∷ ys) e ∙ sym (ap (λ t. cond t (x ∷ filter q ps) (filter q ps)) passes)
-twice_at q true false x rs ps passes e = e ∙ sym (ap (λ t. cond t (x ∷ filter q ps) (filter q ps)) passes)
-twice_at q false c x rs ps passes e = e
-
--- one filter behind another
-filter_twice : (p q r : Told → Bool) → ((x : Told) → r x ≡ (p x && q x)) → (xs : List Told) → filter r xs ≡ filter q (filter p xs)
-filter_twice p q r same [] = refl
-filter_twice p q r same (x ∷ xs) =
-    ap (λ b. cond b (x ∷ filter r xs) (filter r xs)) (same x)
-    ∙ twice_at q (p x) (q x) x (filter r xs) (filter p xs) refl (filter_twice p q r same xs)
-
--- ---- orders
-
-comes_itself : (order : Order) (s : ℕ) → comes_first order s s ≡ true
-comes_itself Forward s = grind (arith, nat_tests)
-comes_itself Backward s = grind (arith, nat_tests)
-
--- of what comes first, what comes behind has the same stamp
-same_stamp : (order : Order) (a s : ℕ) → comes_first order a s ≡ true → comes_first order s a ≡ (a == s)
-same_stamp Forward a s h = grind (arith, nat_tests)
-same_stamp Backward a s h = grind (arith, nat_tests)
-
--- the order of an append, seen from the last entry of the first part
-all_to_last : (order : Order) (x : Told) (xs ys : List Told) → IsInOrder order ((x ∷ xs) ++ ys)
-    → (list_all (λ t. comes_first order t.stamp (last_by x xs).stamp) (x ∷ xs) ≡ true)
-    × (list_all (λ t. comes_first order (last_by x xs).stamp t.stamp) ys ≡ true)
-unfolding last_by
-all_to_last order x [] ys h = (ap (λ b. b && true) (comes_itself order x.stamp), h.0)
-all_to_last order x (y ∷ xs) ys h =
-    let rest : (list_all (λ t. comes_first order t.stamp (last_by y xs).stamp) (y ∷ xs) ≡ true)
-    × (list_all (λ t. comes_first order (last_by y xs).stamp t.stamp) ys ≡ true) = all_to_last order y xs ys h.1 in
-    let here : comes_first order x.stamp (last_by y xs).stamp ≡ true =
-    of_last (λ t. comes_first order x.stamp t.stamp) y xs (all_of_both (λ t. comes_first order x.stamp t.stamp) (y ∷ xs) ys h.0).0 in
-    (ap (λ b. b && list_all (λ t. comes_first order t.stamp (last_by y xs).stamp) (y ∷ xs)) here ∙ rest.0, rest.1)
-
-order_at : (q p : Told → Bool) (xs : List Told) → list_all q xs ≡ true → list_all q (filter p xs) ≡ true
-order_at q p [] h = refl
-order_at q p (y ∷ ys) h =
-    let parts : (q y ≡ true) × (list_all q ys ≡ true) = both (q y) (list_all q ys) h in
-    let rest : list_all q (filter p ys) ≡ true = order_at q p ys parts.1 in
-    elim (p y) as (λ t. list_all q (cond t (y ∷ filter p ys) (filter p ys)) ≡ true)
-    [ true ↦ ap (λ t. t && list_all q (filter p ys)) parts.0 ∙ rest | false ↦ rest ]
-
--- a filter keeps the order
-filter_in_order : (order : Order) (p : Told → Bool) (xs : List Told) → IsInOrder order xs → IsInOrder order (filter p xs)
-filter_in_order order p [] h = tt
-filter_in_order order p (x ∷ xs) h =
-    let rest : IsInOrder order (filter p xs) = filter_in_order order p xs h.1 in
-    let here : list_all (λ t. comes_first order x.stamp t.stamp) (filter p xs) ≡ true =
-    order_at (λ t. comes_first order x.stamp t.stamp) p xs h.0 in
-    elim (p x) as (λ t. IsInOrder order (cond t (x ∷ filter p xs) (filter p xs)))
-    [ true ↦ (here, rest) | false ↦ rest ]
+use Rattle.ctl_pages.specs.Pages.{AreBehind, ArePages, IsInOrder, Placed, Wanted, answer_of, asking_behind, is_behind, is_wanted, is_within, joined, next_of, place_of, precedes, stands_before}
+use Rattle.ctl_pages.proofs.ListLaws.{all_of_both, both, filter_all, filter_first, filter_keeps, filter_passes, filter_twice, last_at, last_by, of_last}
+use Rattle.ctl_pages.proofs.PlaceLaws.{not_itself, precedes_is_order, still_behind}
 
 -- ---- behind a page
 
--- what is wanted behind a stamp is what was wanted from there on
-wanted_behind : (order : Order) (w : Wanted) (s limit : ℕ) → w.start ≤ s → s < w.end → (x : Told)
-    → is_wanted (asking_by order w s limit) x ≡ (is_wanted w x && comes_first order s x.stamp)
-wanted_behind Forward w s limit low high x = grind (arith, nat_tests)
-wanted_behind Backward w s limit low high x = grind (arith, nat_tests)
+in_order_at : (order : Order) (b : Bool) (x : Placed) (xs : List Placed) → list_all (stands_before order x) xs ≡ true → IsInOrder order xs → IsInOrder order (cond b (x ∷ xs) xs)
+in_order_at order true x xs first rest = (first, rest)
+in_order_at order false x xs first rest = rest
 
-same_order : (order : Order) (w : Wanted) (s limit : ℕ) → (asking_by order w s limit).order ≡ order
-same_order Forward w s limit = refl
-same_order Backward w s limit = refl
+-- a filter keeps the order
+filter_in_order : (order : Order) (p : Placed → Bool) (xs : List Placed) → IsInOrder order xs → IsInOrder order (filter p xs)
+filter_in_order order p [] h = tt
+filter_in_order order p (x ∷ xs) h = in_order_at order (p x) x (filter p xs) (filter_keeps (stands_before order x) p xs h.0) (filter_in_order order p xs h.1)
 
-same_limit : (order : Order) (w : Wanted) (s limit : ℕ) → (asking_by order w s limit).limit ≡ limit
-same_limit Forward w s limit = refl
-same_limit Backward w s limit = refl
+-- behind the last of the first entries are all others, and none of them
+behind_last : (order : Order) (x : Placed) (xs rest : List Placed) → IsInOrder order ((x ∷ xs) ++ rest)
+    → (filter (stands_before order (last_by x xs)) (x ∷ xs) ≡ []) × (list_all (stands_before order (last_by x xs)) rest ≡ true)
+behind_last order x [] rest h = (filter_first (stands_before order x) x [] [] (not_itself order (place_of x)) refl, h.0)
+behind_last order x (y ∷ xs) rest h =
+    let others : (filter (stands_before order (last_by y xs)) (y ∷ xs) ≡ []) × (list_all (stands_before order (last_by y xs)) rest ≡ true) =
+    behind_last order y xs rest h.1 in
+    let first : stands_before order x (last_by y xs) ≡ true =
+    of_last (stands_before order x) y xs (all_of_both (stands_before order x) (y ∷ xs) rest h.0).0 in
+    let not_behind : stands_before order (last_by y xs) x ≡ false = (precedes_is_order order).one_way (place_of x) (place_of (last_by y xs)) first in
+    (filter_first (stands_before order (last_by y xs)) x (y ∷ xs) [] not_behind others.0, others.1)
 
-in_range : (w : Wanted) (x : Told) → is_wanted w x ≡ true → (w.start ≤ x.stamp) × (x.stamp < w.end)
-in_range w x h = (grind (arith, nat_tests), grind (arith, nat_tests))
+more_tests : (a b c : Bool) → (c ≡ true → b ≡ true) → (a && c) ≡ ((a && b) && c)
+more_tests true true c h = refl
+more_tests true false true h = absurd (true≢false (sym (h refl)))
+more_tests true false false h = refl
+more_tests false b c h = refl
 
-edge_behind : (order : Order) (s : ℕ) (xs : List Told) → list_all (λ t. comes_first order t.stamp s) xs ≡ true
-    → filter (λ t. comes_first order s t.stamp) xs ≡ filter (λ t. t.stamp == s) xs
-edge_behind order s [] h = refl
-edge_behind order s (x ∷ xs) h =
-    let parts : (comes_first order x.stamp s ≡ true) × (list_all (λ t. comes_first order t.stamp s) xs ≡ true) =
-    both (comes_first order x.stamp s) (list_all (λ t. comes_first order t.stamp s) xs) h in
-    ap (λ t. cond t (x ∷ filter (λ t. comes_first order s t.stamp) xs) (filter (λ t. comes_first order s t.stamp) xs)) (same_stamp order x.stamp s parts.0)
-    ∙ ap (λ ys. cond (x.stamp == s) (x ∷ ys) ys) (edge_behind order s xs parts.1)
+-- what is wanted behind a place that may be wanted is what was wanted and stands behind it
+wanted_behind : (w : Wanted) (place : Cursor) → is_behind w.order w.after place ≡ true → (x : Placed)
+    → is_wanted (asking_behind w place) x ≡ (is_wanted w x && precedes w.order place (place_of x))
+wanted_behind w place there x =
+    more_tests (is_within w x.told) (is_behind w.order w.after (place_of x)) (precedes w.order place (place_of x))
+    (still_behind w.order w.after place (place_of x) there)
 
-edge_is : (x : Told) (xs : List Told) → edge_of (x ∷ xs) ≡ filter (λ t. t.stamp == (last_by x xs).stamp) (x ∷ xs)
-edge_is x xs = ap (λ last. with_stamp_of last (x ∷ xs)) (last_is x xs)
-
--- The entries that are wanted behind a page that has an entry: those of its last stamp, then what is left of what was wanted.
-behind_page : (all : List Told) (w : Wanted) (x : Told) (xs rest : List Told) (limit : ℕ) → IsInOrder w.order all
-    → (x ∷ xs) ++ rest ≡ filter (is_wanted w) all
-    → edge_of (x ∷ xs) ++ rest ≡ filter (is_wanted (asking_from w (last_by x xs).stamp limit)) all
-behind_page all w x xs rest limit ordered whole =
-    let s : ℕ = (last_by x xs).stamp in
-    let order : Order = w.order in
-    let P : List Told → Type 0 = λ ys. IsInOrder w.order ys in
+-- behind the last entry of a page the others are wanted
+others_wanted : (all : List Placed) (w : Wanted) (x : Placed) (xs rest : List Placed) → IsInOrder w.order all
+    → (x ∷ xs) ++ rest ≡ filter (is_wanted w) all → filter (is_wanted (asking_behind w (place_of (last_by x xs)))) all ≡ rest
+others_wanted all w x xs rest ordered whole =
+    let last : Placed = last_by x xs in
+    let P : List Placed → Type 0 = λ ys. IsInOrder w.order ys in
     let in_order : IsInOrder w.order ((x ∷ xs) ++ rest) = subst P (sym whole) (filter_in_order w.order (is_wanted w) all ordered) in
-    let Q : List Told → Type 0 = λ ys. list_all (is_wanted w) ys ≡ true in
+    let Q : List Placed → Type 0 = λ ys. list_all (is_wanted w) ys ≡ true in
     let passes : list_all (is_wanted w) ((x ∷ xs) ++ rest) ≡ true = subst Q (sym whole) (filter_passes (is_wanted w) all) in
-    let last_passes : is_wanted w (last_by x xs) ≡ true = of_last (is_wanted w) x xs (all_of_both (is_wanted w) (x ∷ xs) rest passes).0 in
-    let range : (w.start ≤ s) × (s < w.end) = in_range w (last_by x xs) last_passes in
-    let sides : (list_all (λ t. comes_first w.order t.stamp s) (x ∷ xs) ≡ true) × (list_all (λ t. comes_first w.order s t.stamp) rest ≡ true) =
-    all_to_last w.order x xs rest in_order in
-    let from : Told → Bool = λ t. comes_first w.order s t.stamp in
-    let e1 : filter (is_wanted (asking_by w.order w s limit)) all ≡ filter from (filter (is_wanted w) all) =
-    filter_twice (is_wanted w) from (is_wanted (asking_by w.order w s limit)) (wanted_behind w.order w s limit range.0 range.1) all in
-    let e2 : filter from (filter (is_wanted w) all) ≡ filter from (x ∷ xs) ++ filter from rest =
-    ap (filter from) (sym whole) ∙ filter-append from (x ∷ xs) rest in
-    let e3 : filter from (x ∷ xs) ≡ edge_of (x ∷ xs) = edge_behind w.order s (x ∷ xs) sides.0 ∙ sym (edge_is x xs) in
-    let e4 : filter from rest ≡ rest = filter_all from rest sides.1 in
-    sym (e1 ∙ e2 ∙ ap (λ ys. ys ++ filter from rest) e3 ∙ ap (λ ys. edge_of (x ∷ xs) ++ ys) e4)
+    let last_passes : is_wanted w last ≡ true = of_last (is_wanted w) x xs (all_of_both (is_wanted w) (x ∷ xs) rest passes).0 in
+    let there : is_behind w.order w.after (place_of last) ≡ true =
+    (both (is_within w last.told) (is_behind w.order w.after (place_of last)) last_passes).1 in
+    let sides : (filter (stands_before w.order last) (x ∷ xs) ≡ []) × (list_all (stands_before w.order last) rest ≡ true) =
+    behind_last w.order x xs rest in_order in
+    let behind : Placed → Bool = stands_before w.order last in
+    filter_twice (is_wanted w) behind (is_wanted (asking_behind w (place_of last))) (wanted_behind w (place_of last) there) all
+    ∙ ap (filter behind) (sym whole) ∙ filter-append behind (x ∷ xs) rest
+    ∙ ap (λ ys. ys ++ filter behind rest) sides.0 ∙ filter_all behind rest sides.1
 
-filter_shorter : (p : Told → Bool) (xs : List Told) → length (filter p xs) ≤ length xs
-filter_shorter p [] = omega arith
-filter_shorter p (x ∷ xs) =
-    let rest : length (filter p xs) ≤ length xs = filter_shorter p xs in
-    elim (p x) as (λ t. length (cond t (x ∷ filter p xs) (filter p xs)) ≤ length (x ∷ xs)) [ true ↦ omega arith | false ↦ omega arith ]
+-- ---- what is told with a page
 
--- Behind a page before, which has the first of what is wanted, these are the others.
-record Leaves (all : List Told) (w : Wanted) (before rest : List Told) : Type 0 where
-  some : 0 < w.limit
-  in_order : IsInOrder w.order all
-  few : length (edge_of before) ≤ w.limit
-  whole : edge_of before ++ rest ≡ filter (is_wanted w) all
+-- with a full page the place of its last entry
+pub next_full : (w : Wanted) (x : Placed) (xs : List Placed) → w.pages ≡ true → length (x ∷ xs) ≡ w.limit
+    → next_of w (x ∷ xs) ≡ Some (place_of (last_by x xs))
+next_full w x xs paged full =
+    let at : w.limit - 1 ≡ length xs = omega arith in
+    ap (λ b. cond b (option_map place_of (slice_get (x ∷ xs) (w.limit - 1))) None) paged
+    ∙ ap (λ n. option_map place_of (slice_get (x ∷ xs) n)) at ∙ ap (option_map place_of) (last_at x xs)
 
-abbrev LeavesBy : List Told → Next → List Told → List Told → Type 0
-LeavesBy all Last before rest = rest ≡ []
-LeavesBy all (Page w) before rest = Leaves all w before rest
-LeavesBy all (OneStamp stamp) before rest = Unit {0}
+neither : {A : Type 0} (b : Bool) (a : A) → cond b a a ≡ a
+neither true a = refl
+neither false a = refl
 
--- asked from the last stamp on, so many at least as the page has
-leaves_from : (all : List Told) (w : Wanted) (x : Told) (xs rest : List Told) (limit : ℕ) → IsInOrder w.order all → length (x ∷ xs) ≤ limit
-    → (x ∷ xs) ++ rest ≡ filter (is_wanted w) all → Leaves all (asking_from w (last_by x xs).stamp limit) (x ∷ xs) rest
-leaves_from all w x xs rest limit ordered long whole =
-    let s : ℕ = (last_by x xs).stamp in
-    let P : Order → Type 0 = λ o. IsInOrder o all in
-    let shorter : length (edge_of (x ∷ xs)) ≤ length (x ∷ xs) =
-    rw (edge_is x xs) (filter_shorter (λ t. t.stamp == s) (x ∷ xs)) in
-    let limited : (asking_from w s limit).limit ≡ limit = same_limit w.order w s limit in
-    record {
-      some = rw limited (omega arith);
-      in_order = subst P (sym (same_order w.order w s limit)) ordered;
-      few = rw limited (omega arith);
-      whole = behind_page all w x xs rest limit ordered whole;
-    }
+-- with a shorter one nothing
+pub next_short : (w : Wanted) (page : List Placed) → length page < w.limit → next_of w page ≡ None
+next_short w page short =
+    let past : length page ≤ w.limit - 1 = omega arith in
+    ap (λ last. cond w.pages (option_map place_of last) None) (slice_get_past page (w.limit - 1) past) ∙ neither w.pages None
 
-next_leaves_at : (all : List Told) (w : Wanted) (x : Told) (xs rest : List Told) (short one_stamp room : Bool) → IsInOrder w.order all
-    → (short ≡ true → rest ≡ []) → (short ≡ false → length (x ∷ xs) ≤ w.limit) → (room ≡ true → w.limit < 5000)
-    → (x ∷ xs) ++ rest ≡ filter (is_wanted w) all
-    → LeavesBy all (cond short Last (cond one_stamp (cond room (Page (asking_from w (last_by x xs).stamp 5000)) (OneStamp (last_by x xs).stamp)) (Page (asking_from w (last_by x xs).stamp w.limit)))) (x ∷ xs) rest
-next_leaves_at all w x xs rest true one_stamp room ordered last long more whole = last refl
-next_leaves_at all w x xs rest false true true ordered last long more whole =
-    let there : length (x ∷ xs) ≤ w.limit = long refl in
-    let less : w.limit < 5000 = more refl in
-    leaves_from all w x xs rest 5000 ordered (omega arith) whole
-next_leaves_at all w x xs rest false true false ordered last long more whole = tt
-next_leaves_at all w x xs rest false false room ordered last long more whole = leaves_from all w x xs rest w.limit ordered (long refl) whole
+-- these are the entries that are left behind such a place
+abbrev Leaves : List Placed → Wanted → Option Cursor → List Placed → Type 0
+Leaves all w None rest = rest ≡ []
+Leaves all w (Some place) rest = filter (is_wanted (asking_behind w place)) all ≡ rest
 
-next_leaves : (all : List Told) (w : Wanted) (page rest : List Told) → 0 < w.limit → IsInOrder w.order all
-    → page ++ rest ≡ filter (is_wanted w) all → length page ≤ w.limit → (length page < w.limit → rest ≡ [])
-    → LeavesBy all (next_of w page) page rest
-next_leaves all w [] rest some ordered whole long last = last some
-next_leaves all w (x ∷ xs) rest some ordered whole long last =
-    let P : Option Told → Type 0 = λ o. LeavesBy all (next_between w (length (x ∷ xs)) (Some x) o) (x ∷ xs) rest in
-    subst P (sym (last_is x xs))
-    (next_leaves_at all w x xs rest (nat_lt (length (x ∷ xs)) w.limit) (x.stamp == (last_by x xs).stamp) (nat_lt w.limit 5000) ordered
-    (λ h. last (grind (arith, nat_tests))) (λ h. long) (λ h. grind (arith, nat_tests)) whole)
+page_leaves : (all : List Placed) (w : Wanted) (page rest : List Placed) (short : Bool) → nat_lt (length page) w.limit ≡ short
+    → 0 < w.limit → w.pages ≡ true → IsInOrder w.order all → page ++ rest ≡ filter (is_wanted w) all
+    → length page ≤ w.limit → (length page < w.limit → rest ≡ []) → Leaves all w (next_of w page) rest
+page_leaves all w page rest true is some paged ordered whole long last =
+    let short : length page < w.limit = grind (arith, nat_tests) in
+    let P : Option Cursor → Type 0 = λ next. Leaves all w next rest in
+    subst P (sym (next_short w page short)) (last short)
+page_leaves all w [] rest false is some paged ordered whole long last =
+    let P : Option Cursor → Type 0 = λ next. Leaves all w next rest in
+    subst P (sym (next_short w [] some)) (last some)
+page_leaves all w (x ∷ xs) rest false is some paged ordered whole long last =
+    let full : length (x ∷ xs) ≡ w.limit = grind (arith, nat_tests) in
+    let P : Option Cursor → Type 0 = λ next. Leaves all w next rest in
+    subst P (sym (next_full w x xs paged full)) (others_wanted all w x xs rest ordered whole)
 
--- a page without what was seen
-new_is : (before page rest : List Told) → page ≡ edge_of before ++ rest → new_of before page ≡ rest
-new_is before page rest e =
-    ap (λ ys. (fold set_apart (record { left = edge_of before; new = [] }) ys).new) e
-    ∙ ap (λ a. a.new) (seen_left_out (edge_of before) [] rest) ∙ rest_is_new [] rest
+-- behind an answer
+answer_leaves : (all : List Placed) (w : Wanted) → 0 < w.limit → w.pages ≡ true → IsInOrder w.order all
+    → Leaves all w (next_of w (answer_of w all)) (drop w.limit (filter (is_wanted w) all))
+answer_leaves all w some paged ordered =
+    let found : List Placed = filter (is_wanted w) all in
+    let page : List Placed = answer_of w all in
+    let counted : length page ≡ min w.limit (length found) = length-take w.limit found in
+    let last : length page < w.limit → drop w.limit found ≡ [] = λ short. let few : length found ≤ w.limit = omega arith in drop_all w.limit found few in
+    page_leaves all w page (drop w.limit found) (nat_lt (length page) w.limit) refl some paged ordered (take-append-drop w.limit found) (omega arith) last
 
-page_is : (all : List Told) (w : Wanted) (before rest : List Told) (k : ℕ) → length (edge_of before) + k ≡ w.limit
-    → edge_of before ++ rest ≡ filter (is_wanted w) all → answer_of w all ≡ edge_of before ++ take k rest
-page_is all w before rest k size whole =
-    ap (take w.limit) (sym whole) ∙ ap (λ n. take n (edge_of before ++ rest)) (sym size) ∙ take-append-add (edge_of before) rest k
+-- ---- all pages
 
-pages_leave : (all : List Told) (pages : List (List Told)) (next : Next) (before rest : List Told)
-    → LeavesBy all next before rest → AreBehind all next before pages → joined pages ≡ rest
-pages_leave all [] Last before rest leaves are = sym leaves
-pages_leave all [] (OneStamp stamp) before rest leaves are = absurd are
-pages_leave all [] (Page w) before rest leaves are = absurd are
-pages_leave all (new ∷ pages) Last before rest leaves are = absurd are
-pages_leave all (new ∷ pages) (OneStamp stamp) before rest leaves are = absurd are
-pages_leave all (new ∷ pages) (Page w) before rest leaves are =
-    let k : ℕ = w.limit - length (edge_of before) in
-    let few : length (edge_of before) ≤ w.limit = leaves.few in
-    let size : length (edge_of before) + k ≡ w.limit = omega arith in
-    let page : answer_of w all ≡ edge_of before ++ take k rest = page_is all w before rest k size leaves.whole in
-    let split : answer_of w all ++ drop k rest ≡ filter (is_wanted w) all =
-    ap (λ ys. ys ++ drop k rest) page ∙ append_assoc (edge_of before) (take k rest) (drop k rest)
-    ∙ ap (λ ys. edge_of before ++ ys) (take-append-drop k rest) ∙ leaves.whole in
-    let counted : length (answer_of w all) ≡ min w.limit (length (filter (is_wanted w) all)) = length-take w.limit (filter (is_wanted w) all) in
-    let summed : length (edge_of before) + length rest ≡ length (filter (is_wanted w) all) =
-    sym (length-append (edge_of before) rest) ∙ ap length leaves.whole in
-    let behind : LeavesBy all (next_of w (answer_of w all)) (answer_of w all) (drop k rest) =
-    next_leaves all w (answer_of w all) (drop k rest) leaves.some leaves.in_order split (omega arith)
-    (λ h. let short : length rest ≤ k = omega arith in drop_all k rest short) in
-    let others : joined pages ≡ drop k rest = pages_leave all pages (next_of w (answer_of w all)) (answer_of w all) (drop k rest) behind are.1 in
-    let first : new ≡ take k rest = are.0 ∙ new_is before (answer_of w all) (take k rest) page in
-    ap (λ ys. ys ++ joined pages) first ∙ ap (λ ys. take k rest ++ ys) others ∙ take-append-drop k rest
+-- a page, and what the others have where they have all that is left behind it
+page_then : (all : List Placed) (w : Wanted) (page others : List Placed) → 0 < w.limit → w.pages ≡ true → IsInOrder w.order all
+    → page ≡ answer_of w all → ((rest : List Placed) → Leaves all w (next_of w page) rest → others ≡ rest)
+    → page ++ others ≡ filter (is_wanted w) all
+page_then all w page others some paged ordered answers then =
+    let found : List Placed = filter (is_wanted w) all in
+    let rest : List Placed = drop w.limit found in
+    let P : List Placed → Type 0 = λ ys. Leaves all w (next_of w ys) rest in
+    let left : Leaves all w (next_of w page) rest = subst P (sym answers) (answer_leaves all w some paged ordered) in
+    ap (λ ys. page ++ ys) (then rest left) ∙ ap (λ ys. ys ++ rest) answers ∙ take-append-drop w.limit found
 
--- the new entries of all pages are what is wanted, in order
-pub all_pages : (all : List Told) (w : Wanted) (pages : List (List Told)) → 0 < w.limit → IsInOrder w.order all → ArePages all w pages
-    → joined pages ≡ filter (is_wanted w) all
-all_pages all w pages some ordered are =
-    pages_leave all pages (Page w) [] (filter (is_wanted w) all) (record { some = some; in_order = ordered; few = omega arith; whole = refl }) are
+pages_leave : (all : List Placed) (w : Wanted) (pages : List (List Placed)) (next : Option Cursor) (rest : List Placed)
+    → 0 < w.limit → w.pages ≡ true → IsInOrder w.order all → Leaves all w next rest → AreBehind all w next pages → joined pages ≡ rest
+pages_leave all w [] None rest some paged ordered leaves are = sym leaves
+pages_leave all w [] (Some place) rest some paged ordered leaves are = absurd are
+pages_leave all w (page ∷ pages) None rest some paged ordered leaves are = absurd are
+pages_leave all w (page ∷ pages) (Some place) rest some paged ordered leaves are =
+    page_then all (asking_behind w place) page (joined pages) some paged ordered are.0
+    (λ others left. pages_leave all w pages (next_of w page) others some paged ordered left are.1)
+    ∙ leaves
+
+-- they have what is wanted, in order
+pub all_pages : (all : List Placed) (w : Wanted) (pages : List (List Placed)) → 0 < w.limit → w.pages ≡ true → IsInOrder w.order all
+    → ArePages all w pages → joined pages ≡ filter (is_wanted w) all
+all_pages all w [] some paged ordered are = absurd are
+all_pages all w (page ∷ pages) some paged ordered are =
+    page_then all w page (joined pages) some paged ordered are.0
+    (λ others left. pages_leave all w pages (next_of w page) others some paged ordered left are.1)
+
+-- ---- the last page
+
+-- behind one page more
+next_leaves : (all : List Placed) (w : Wanted) (place : Cursor) (rest : List Placed) → 0 < w.limit → w.pages ≡ true → IsInOrder w.order all
+    → Leaves all w (Some place) rest → Leaves all w (next_of w (answer_of (asking_behind w place) all)) (drop w.limit rest)
+next_leaves all w place rest some paged ordered leaves =
+    let P : List Placed → Type 0 = λ ys. Leaves all w (next_of w (answer_of (asking_behind w place) all)) (drop w.limit ys) in
+    subst P leaves (answer_leaves all (asking_behind w place) some paged ordered)
+
+-- with an empty page nothing is told
+none_left : (all : List Placed) (w : Wanted) (place : Cursor) (rest : List Placed) → 0 < w.limit → length rest ≤ 0
+    → Leaves all w (Some place) rest → next_of w (answer_of (asking_behind w place) all) ≡ None
+none_left all w place rest some few leaves =
+    let counted : length (answer_of (asking_behind w place) all) ≡ min w.limit (length rest) =
+    ap (λ ys. length (take w.limit ys)) leaves ∙ length-take w.limit rest in
+    next_short w (answer_of (asking_behind w place) all) (omega arith)
+
+pages_behind : (all : List Placed) (w : Wanted) (most : ℕ) (next : Option Cursor) (rest : List Placed) → 0 < w.limit → w.pages ≡ true
+    → IsInOrder w.order all → length rest ≤ most → Leaves all w next rest → (pages : List (List Placed)) × AreBehind all w next pages
+pages_behind all w most None rest some paged ordered few leaves = ([], tt)
+pages_behind all w zero (Some place) rest some paged ordered few leaves =
+    let P : Option Cursor → Type 0 = λ next. AreBehind all w next [] in
+    (answer_of (asking_behind w place) all ∷ [], (refl, subst P (sym (none_left all w place rest some few leaves)) tt))
+pages_behind all w (suc most) (Some place) rest some paged ordered few leaves =
+    let page : List Placed = answer_of (asking_behind w place) all in
+    let counted : length (drop w.limit rest) ≡ length rest - w.limit = length-drop w.limit rest in
+    let others : (pages : List (List Placed)) × AreBehind all w (next_of w page) pages =
+    pages_behind all w most (next_of w page) (drop w.limit rest) some paged ordered (omega arith)
+    (next_leaves all w place rest some paged ordered leaves) in
+    (page ∷ others.0, (refl, others.1))
+
+-- there are pages up to one that is the last
+pub pages_to_last : (all : List Placed) (w : Wanted) → 0 < w.limit → w.pages ≡ true → IsInOrder w.order all
+    → (pages : List (List Placed)) × ArePages all w pages
+pages_to_last all w some paged ordered =
+    let page : List Placed = answer_of w all in
+    let rest : List Placed = drop w.limit (filter (is_wanted w) all) in
+    let others : (pages : List (List Placed)) × AreBehind all w (next_of w page) pages =
+    pages_behind all w (length rest) (next_of w page) rest some paged ordered (omega arith) (answer_leaves all w some paged ordered) in
+    (page ∷ others.0, (refl, others.1))

@@ -1,106 +1,169 @@
--- How all entries of a query are read page by page (own).
-use Rattle.std.specs.Prelude.{◌≡◌, ℕ, ◌+◌, ◌-◌, Bool, true, List, [], ◌∷◌, ◌++◌, filter, take, length, nat_lt, nat_le, ◌==◌, ◌&&◌, if◌then◌else◌, Option, Some, None, remove, slice_get}
-use Rattle.std.specs.List.{fold, list_all, position}
+-- What is asked for of the entries of a selector, page by page, and what may answer it (own).
+use Rattle.std.specs.Prelude.{◌≡◌, ℕ, ◌-◌, Bool, true, false, not, List, [], ◌∷◌, ◌++◌, filter, take, length, nat_lt, nat_le, bytes_eq, ◌==◌, ◌&&◌, if◌then◌else◌, Option, Some, None, option_map, slice_get}
+use Rattle.std.specs.List.{list_all}
+use Rattle.std.specs.Cmp.Lexicographic.{slice_cmp}
+use Rattle.std.specs.Ordering.{is_ge, is_le, is_lt, nat_cmp, ordering_then}
+use Rattle.std.specs.declared.cmp.Ordering.{Ordering}
+use Rattle.ing_rows.specs.Cursors.{Cursor, cursor_view}
 use Rattle.ing_rows.specs.declared.order.Order.{Order}
 use Rattle.ing_rows.specs.declared.order.Order.TheVariants.{Forward, Backward}
-use Rattle.ctl_pages.specs.Entries.{is_same}
-use Rattle.ctl_pages.specs.declared.next.Next.{Next}
-use Rattle.ctl_pages.specs.declared.next.Next.TheVariants.{Last, Page, OneStamp}
-use Rattle.ctl_pages.specs.declared.next.Wanted.{Wanted}
 use Rattle.ctl_pages.specs.declared.told.Told.{Told}
+use Rattle.ctl_pages.specs.declared.wanted.Wanted as code
 
--- ---- what is asked for behind a page
+-- Those whose stamp is at least the start and below the end, the first ones in the order, so many
+-- at most; where there is a place, of those that stand behind it in the order; and whether a full
+-- page, of as many, tells where the next begins.
+pub record Wanted : Type 0 where
+  pub start : ℕ
+  pub end : ℕ
+  pub limit : ℕ
+  pub order : Order
+  pub after : Option Cursor
+  pub pages : Bool
+
+-- the same, without where its text lies in memory
+abbrev pub wanted_view : code.Wanted → Wanted
+wanted_view w = record {
+  start = w.start;
+  end = w.end;
+  limit = w.limit;
+  order = w.order;
+  after = option_map cursor_view w.after;
+  pages = w.pages;
+}
+
+-- the stamp of an entry is in the range
+abbrev pub is_within : Wanted → Told → Bool
+is_within wanted told = nat_le wanted.start told.stamp && nat_lt told.stamp wanted.end
+
+-- ---- the order of places
+
+-- by stamp, then by stream in byte order, then by number
+abbrev pub place_cmp : Cursor → Cursor → Ordering
+place_cmp one other =
+    let by_number = nat_cmp one.number other.number in
+    let by_stream = slice_cmp nat_cmp one.stream other.stream in
+    ordering_then (nat_cmp one.stamp other.stamp) (ordering_then by_stream by_number)
+
+-- one place stands before another in the order
+abbrev pub precedes : Order → Cursor → Cursor → Bool
+precedes Forward one other = is_lt (place_cmp one other)
+precedes Backward one other = is_lt (place_cmp other one)
+
+-- a place stands behind the other, where there is one
+abbrev pub is_behind : Order → Option Cursor → Cursor → Bool
+is_behind order None place = true
+is_behind order (Some from) place = precedes order from place
+
+-- ---- what may answer it
+
+-- how a place stands to an entry by stamp, then by stream in byte order; its number is not told
+abbrev pub stream_cmp : Cursor → Told → Ordering
+stream_cmp place told =
+    ordering_then (nat_cmp place.stamp told.stamp) (slice_cmp nat_cmp place.stream told.stream)
+
+-- an entry has the stamp and the stream of the place, or stands behind it by these in the order
+abbrev pub is_from : Order → Cursor → Told → Bool
+is_from Forward place told = is_le (stream_cmp place told)
+is_from Backward place told = is_ge (stream_cmp place told)
+
+-- so it may stand behind the place, where there is one
+abbrev pub may_be_behind : Order → Option Cursor → Told → Bool
+may_be_behind order None told = true
+may_be_behind order (Some place) told = is_from order place told
+
+-- an entry may be one that is wanted, whatever its number
+abbrev pub may_be_wanted : Wanted → Told → Bool
+may_be_wanted wanted told =
+    is_within wanted told && may_be_behind wanted.order wanted.after told
 
 -- the last entry, if there is one
 abbrev pub last_of : List Told → Option Told
 last_of page = slice_get page (length page - 1)
 
--- the entries that are wanted from this stamp on, it too, in their order, at most so many
-abbrev pub asking_by : Order → Wanted → ℕ → ℕ → Wanted
-asking_by Forward wanted stamp limit = record { start = stamp; end = wanted.end; limit = limit; order = Forward }
-asking_by Backward wanted stamp limit = record { start = wanted.start; end = stamp + 1; limit = limit; order = Backward }
+-- the place is that of the entry, whatever its number
+abbrev pub is_place_of : Cursor → Option Told → Bool
+is_place_of place None = false
+is_place_of place (Some told) =
+    (place.stamp == told.stamp) && bytes_eq place.stream told.stream
 
-abbrev pub asking_from : Wanted → ℕ → ℕ → Wanted
-asking_from wanted stamp limit = asking_by wanted.order wanted stamp limit
+-- pages are asked for, and this one has as many entries as it may
+abbrev pub is_full : Wanted → List Told → Bool
+is_full wanted page = wanted.pages && (length page == wanted.limit)
 
--- behind a page that is full: its last stamp is asked for again, whole; where it has no other, in as long an answer as there may be
-abbrev pub next_behind : Wanted → ℕ → ℕ → Next
-next_behind wanted first last =
-    if first == last then (if nat_lt wanted.limit 5000 then Page (asking_from wanted last 5000) else OneStamp last)
-    else Page (asking_from wanted last wanted.limit)
+-- of a full page the place of its last entry is told, which stands behind what was asked; of no
+-- other page any
+abbrev pub tells_end : Wanted → List Told → Option Cursor → Bool
+tells_end wanted page None = not (is_full wanted page)
+tells_end wanted page (Some place) =
+    let is_there = is_behind wanted.order wanted.after place in
+    is_full wanted page && is_place_of place (last_of page) && is_there
 
-abbrev pub next_between : Wanted → ℕ → Option Told → Option Told → Next
-next_between wanted count None last = Last
-next_between wanted count (Some first) None = Last
-next_between wanted count (Some first) (Some last) =
-    if nat_lt count wanted.limit then Last else next_behind wanted first.stamp last.stamp
+-- a page, and what is told of where the next begins, may answer
+abbrev pub may_answer : Wanted → List Told → Option Cursor → Bool
+may_answer wanted page next =
+    let is_short_enough = nat_le (length page) wanted.limit in
+    is_short_enough && list_all (may_be_wanted wanted) page && tells_end wanted page next
 
--- a page that is not full is the last one
-abbrev pub next_of : Wanted → List Told → Next
-next_of wanted page = next_between wanted (length page) (slice_get page 0) (last_of page)
+-- ---- what answers it, of all entries that there are
 
--- ---- which entries of a page are new
+-- an entry, with its number in its stream
+pub record Placed : Type 0 where
+  pub told : Told
+  pub number : ℕ
 
--- the entries that have the stamp of the last one
-abbrev pub with_stamp_of : Option Told → List Told → List Told
-with_stamp_of None page = []
-with_stamp_of (Some last) page = filter (λ told. told.stamp == last.stamp) page
+abbrev pub place_of : Placed → Cursor
+place_of placed =
+    record { stamp = placed.told.stamp; stream = placed.told.stream; number = placed.number }
 
-abbrev pub edge_of : List Told → List Told
-edge_of page = with_stamp_of (last_of page) page
+-- one entry stands before another
+abbrev pub stands_before : Order → Placed → Placed → Bool
+stands_before order one other = precedes order (place_of one) (place_of other)
 
--- what was seen and is still looked for in a page, and what is new in it
-pub record Apart : Type 0 where
-  pub left : List Told
-  pub new : List Told
+-- each stands before those behind it: so no two stand at one place
+abbrev pub IsInOrder : Order → List Placed → Type 0
+IsInOrder order [] = Unit {0}
+IsInOrder order (placed ∷ behind) =
+    (list_all (stands_before order placed) behind ≡ true) × IsInOrder order behind
 
-abbrev pub apart_by : Option ℕ → Apart → Told → Apart
-apart_by None apart told = record { left = apart.left; new = apart.new ++ told ∷ [] }
-apart_by (Some at) apart told = record { left = remove apart.left at; new = apart.new }
+abbrev pub is_wanted : Wanted → Placed → Bool
+is_wanted wanted placed =
+    is_within wanted placed.told && is_behind wanted.order wanted.after (place_of placed)
 
--- one more entry of the page: one that was seen stands for it, or it is new
-abbrev pub set_apart : Apart → Told → Apart
-set_apart apart told = apart_by (position (is_same told) apart.left) apart told
+-- the first of those that are wanted, as many as are asked for at most
+abbrev pub answer_of : Wanted → List Placed → List Placed
+answer_of wanted all = take wanted.limit (filter (is_wanted wanted) all)
 
--- the entries of a page without those that the page before it has of its last stamp
-abbrev pub new_of : List Told → List Told → List Told
-new_of before page = (fold set_apart (record { left = edge_of before; new = [] }) page).new
+-- the place of the last entry of as many as an answer may have, where pages are asked for
+abbrev pub next_of : Wanted → List Placed → Option Cursor
+next_of wanted answer =
+    let last = slice_get answer (wanted.limit - 1) in
+    if wanted.pages then option_map place_of last else None
 
 -- ---- all pages
 
--- its stamp is one of those that are wanted
-abbrev pub is_wanted : Wanted → Told → Bool
-is_wanted wanted told = nat_le wanted.start told.stamp && nat_lt told.stamp wanted.end
+-- the same is wanted, behind this place
+abbrev pub asking_behind : Wanted → Cursor → Wanted
+asking_behind wanted place = record wanted { after = Some place }
 
--- one stamp comes no later than another, in this order
-abbrev pub comes_first : Order → ℕ → ℕ → Bool
-comes_first Forward one other = nat_le one other
-comes_first Backward one other = nat_le other one
-
--- none comes before one of a stamp that comes later, in this order
-abbrev pub IsInOrder : Order → List Told → Type 0
-IsInOrder order [] = Unit {0}
-IsInOrder order (told ∷ behind) = (list_all (λ other. comes_first order told.stamp other.stamp) behind ≡ true) × IsInOrder order behind
-
--- the answer to what is wanted, of all entries that there are: the first in its order, as many as it asks for at most
-abbrev pub answer_of : Wanted → List Told → List Told
-answer_of wanted all = take wanted.limit (filter (is_wanted wanted) all)
-
--- These are the new entries of one page after another, behind a page, of all entries that there are: each page answers what is asked
--- for behind the one before it, up to the last.
-abbrev pub AreBehind : List Told → Next → List Told → List (List Told) → Type 0
-AreBehind all Last before [] = Unit {0}
-AreBehind all Last before (new ∷ pages) = ⊥
-AreBehind all (OneStamp stamp) before pages = ⊥
-AreBehind all (Page wanted) before [] = ⊥
-AreBehind all (Page wanted) before (new ∷ pages) =
-    (new ≡ new_of before (answer_of wanted all)) × AreBehind all (next_of wanted (answer_of wanted all)) (answer_of wanted all) pages
+-- Of all entries that there are these are the pages, one after another, behind one that told such
+-- a place: each answers what is wanted behind the place that was told before it, up to one that
+-- tells none.
+abbrev pub AreBehind : List Placed → Wanted → Option Cursor → List (List Placed) → Type 0
+AreBehind all wanted None [] = Unit {0}
+AreBehind all wanted None (page ∷ pages) = ⊥
+AreBehind all wanted (Some place) [] = ⊥
+AreBehind all wanted (Some place) (page ∷ pages) =
+    (page ≡ answer_of (asking_behind wanted place) all)
+    × AreBehind all wanted (next_of wanted page) pages
 
 -- the same from the first page on
-abbrev pub ArePages : List Told → Wanted → List (List Told) → Type 0
-ArePages all wanted pages = AreBehind all (Page wanted) [] pages
+abbrev pub ArePages : List Placed → Wanted → List (List Placed) → Type 0
+ArePages all wanted [] = ⊥
+ArePages all wanted (page ∷ pages) =
+    (page ≡ answer_of wanted all) × AreBehind all wanted (next_of wanted page) pages
 
 -- what stands in lists, one after the other
-abbrev pub joined : List (List Told) → List Told
+abbrev pub joined : List (List Placed) → List Placed
 joined [] = []
 joined (page ∷ pages) = page ++ joined pages

@@ -1,16 +1,15 @@
-//! How all entries of a query are read page by page: what is asked for behind a page, and which entries of a page are new.
+//! How all entries of a query are read page by page: what a reply has, and whether it may answer
+//! what was asked.
 #![tactic(auto)]
 
-mod apart;
 mod fault;
 mod laws;
-mod next;
 mod reply;
 mod told;
+mod wanted;
 
-pub use apart::new_entries;
 pub use fault::ReplyFault;
-pub use laws::pages_have_all;
-pub use next::{Next, Wanted, may_answer, next_page};
-pub use reply::page_of;
+pub use laws::{answers_may_answer, pages_end, pages_have_all};
+pub use reply::{next_of, page_of};
 pub use told::{Name, Told};
+pub use wanted::{Wanted, may_answer};

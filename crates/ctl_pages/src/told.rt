@@ -1,6 +1,5 @@
 //! An entry of an answer.
-ghost use Rattle.std.specs.Prelude.{◌≡◌, IfOk, bytes_eq, ◌==◌, ◌&&◌};
-ghost use Rattle.ctl_pages.specs.Entries.{is_same};
+ghost use Rattle.std.specs.Prelude.{◌≡◌, IfOk};
 
 use ing_rows::{Line, Stamp};
 use std::alloc::{AllocError, Global};
@@ -47,15 +46,4 @@ pub struct Told {
     pub stamp: Stamp,
     /// What was logged.
     pub line: Line,
-}
-
-impl Told {
-    /// Whether the other entry has its stream, its stamp and its line. Takes no memory.
-    pub fn is(&self, other: &Told) -> bool
-        ensures { result ≡ is_same self.now other.now }
-    {
-        self.stamp == other.stamp
-            && self.stream.as_str() == other.stream.as_str()
-            && self.line.as_str() == other.line.as_str()
-    }
 }

@@ -205,6 +205,10 @@ fn query<'a>(alloc: Global) -> Result<Command<'a>, AllocError> {
         "The oldest first, or the newest, as without it",
     )
     .value_parser(DIRECTIONS.as_slice());
+    let pages = Arg::new(alloc, "pages")
+        .long("pages")
+        .action(ArgAction::SetTrue)
+        .help("The reply tells where the next page begins");
     Command::new(alloc, "query")
         .about("A query as a command, or why it would be refused.")
         .arg(tenant(alloc))?
@@ -235,16 +239,11 @@ fn query<'a>(alloc: Global) -> Result<Command<'a>, AllocError> {
             "At most so many entries, 1 to 5000; 100 without it",
         ))?
         .arg(direction)?
+        .arg(pages)?
         .arg(now(alloc))
 }
 
 fn entries<'a>(alloc: Global) -> Result<Command<'a>, AllocError> {
-    let before = word(
-        alloc,
-        "before",
-        "REPLY",
-        "The reply of the page before, of whose last stamp the entries are left out; an empty file is none",
-    );
     let output = word(
         alloc,
         "output",
@@ -255,7 +254,6 @@ fn entries<'a>(alloc: Global) -> Result<Command<'a>, AllocError> {
     .default_value("raw");
     Command::new(alloc, "entries")
         .about("The entries of a reply to a query.")
-        .arg(before)?
         .arg(output)?
         .arg(reply(alloc))
 }
@@ -264,7 +262,7 @@ fn next<'a>(alloc: Global) -> Result<Command<'a>, AllocError> {
     let asked = Arg::new(alloc, "asked")
         .value_name("ASKED")
         .required(true)
-        .help("A file with the query, as ingestd was given it");
+        .help("A file with the query, as ingestd was given it; it has \"pages\":true");
     Command::new(alloc, "next")
         .about("The query for the page behind a reply; nothing where that was the last one.")
         .arg(asked)?

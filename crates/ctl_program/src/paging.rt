@@ -3,9 +3,9 @@ use crate::output::put;
 use crate::status::Status;
 use anyhow::{Context, Result, bail};
 use clap::ArgMatches;
-use ctl_pages::{Next, ReplyFault, Told, Wanted, may_answer, new_entries, next_page, page_of};
+use ctl_pages::{ReplyFault, Told, Wanted, may_answer, next_of, page_of};
 use ing_commands::{Command, LineFault, Query, command_of, read_value};
-use ing_rows::Order;
+use ing_rows::{Cursor, Order};
 use serde_json::{Number, Value, json};
 use std::alloc::{AllocError, Global};
 use std::fs;
@@ -14,7 +14,13 @@ use std::io::{BufRead, Write};
 /// What a reply is called that comes from standard input.
 const INPUT: &str = "standard input";
 
-/// Writes the entries of a reply to a query, each as its line or as a JSON object, without those that the page before it has.
+/// What is told of a reply to another command.
+const NO_ANSWER: &str = "no reply to a query";
+
+/// What is told of a full page of a query that asks for no pages.
+const NO_PAGES: &str = "ask with \"pages\":true, to be told where the next page begins";
+
+/// Writes the entries of a reply to a query, each as its line or as a JSON object.
 pub fn write_entries<I: BufRead, O: Write>(
     rt: &HostRuntime,
     given: &ArgMatches<'_>,
@@ -22,13 +28,10 @@ pub fn write_entries<I: BufRead, O: Write>(
     output: &mut O,
 ) -> Result<Status> {
     let alloc = rt.alloc();
-    let before = match given.get_str("before") {
-        Some(path) => page_before(rt, path)?,
-        None => Vec::new(alloc),
-    };
-    let page = reply_page(rt, given.get_str("reply"), input)?;
+    let source = given.get_str("reply");
+    let reply = reply_at(rt, source, input)?;
     let is_raw = given.get_str("output") != Some("jsonl");
-    for told in &new_entries(alloc, before, page)? {
+    for told in &page_in(alloc, source, &reply)? {
         let mut text = if is_raw {
             told.line.as_str().as_bytes().to_vec(alloc)?
         } else {
@@ -40,7 +43,7 @@ pub fn write_entries<I: BufRead, O: Write>(
     Ok(Status::Right)
 }
 
-/// Writes the query behind a page, or tells that it was the last one; or that a stamp has more entries than an answer may have.
+/// Writes the query behind a page, or tells that it was the last one.
 pub fn write_next<I: BufRead, O: Write, E: Write>(
     rt: &HostRuntime,
     given: &ArgMatches<'_>,
@@ -58,56 +61,62 @@ pub fn write_next<I: BufRead, O: Write, E: Write>(
         Err(LineFault::NoMemory) => bail!("out of memory"),
         _ => bail!("{path}: no query that ingestd takes"),
     };
-    let wanted = wanted_of(&query);
-    let page = reply_page(rt, given.get_str("reply"), input)?;
-    if !may_answer(wanted, &page) {
-        bail!("the reply does not answer {path}: it has other stamps, or more entries");
+    let source = given.get_str("reply");
+    let reply = reply_at(rt, source, input)?;
+    let page = page_in(alloc, source, &reply)?;
+    let next = next_in(source, &reply)?;
+    if !may_answer(wanted_of(&query), &page, next) {
+        bail!("the reply does not answer {path}: it has other entries, or tells another end");
     }
-    match next_page(wanted, &page) {
-        Next::Last => put(errors, "ingestctl: that was the last page\n")?,
-        Next::Page(wanted) => {
-            let mut line = query_value(alloc, &query, wanted)?.to_vec(alloc)?;
+    match next {
+        Some(place) => {
+            let mut line = query_value(alloc, &query, place)?.to_vec(alloc)?;
             line.push(b'\n').map_err(AllocError::from)?;
             output.write_all(&line)?;
         }
-        Next::OneStamp(stamp) => {
-            let (count, stamp) = (page.len(), stamp.nanoseconds());
-            put(
-                errors,
-                format!(in alloc;
-                    "ingestctl: {count} entries or more have the stamp {stamp}, and no answer has more; ask for fewer streams\n"
-                )?.as_str(),
-            )?;
-            return Ok(Status::Wrong);
-        }
+        None if page.len() < query.limit => put(errors, "ingestctl: that was the last page\n")?,
+        None => bail!("{path}: {NO_PAGES}"),
     }
     Ok(Status::Right)
 }
 
 /// Which entries a query wants.
-fn wanted_of(query: &Query<'_>) -> Wanted {
+fn wanted_of<'a>(query: &Query<'a>) -> Wanted<'a> {
     Wanted {
         start: query.start,
         end: query.end,
         limit: query.limit,
         order: query.order,
+        after: query.after,
+        pages: query.pages,
     }
 }
 
-/// The command of a query that wants these entries instead.
-fn query_value(alloc: Global, query: &Query<'_>, wanted: Wanted) -> Result<Value, AllocError> {
-    let direction = match wanted.order {
+/// The command of a query that wants the same behind this place.
+fn query_value(alloc: Global, query: &Query<'_>, place: Cursor<'_>) -> Result<Value, AllocError> {
+    let direction = match query.order {
         Order::Forward => "forward",
         Order::Backward => "backward",
     };
     json!(in alloc; {
+        "after": place_value(alloc, place)?,
         "cmd": "query",
         "direction": direction,
-        "end": wanted.end.to_string(alloc)?,
-        "limit": Value::Number(Number::from(wanted.limit as u64)),
+        "end": query.end.to_string(alloc)?,
+        "limit": Value::Number(Number::from(query.limit as u64)),
+        "pages": query.pages,
         "query": query.text,
-        "start": wanted.start.to_string(alloc)?,
+        "start": query.start.to_string(alloc)?,
         "tenant": query.tenant.as_str()
+    })
+}
+
+/// A place as a query has it.
+fn place_value(alloc: Global, place: Cursor<'_>) -> Result<Value, AllocError> {
+    json!(in alloc; {
+        "number": Value::Number(Number::from(place.number)),
+        "stamp": place.stamp.to_string(alloc)?,
+        "stream": place.stream
     })
 }
 
@@ -120,47 +129,44 @@ fn entry_value(alloc: Global, told: &Told) -> Result<Value, AllocError> {
     })
 }
 
-/// The entries of the reply before; none in an empty file.
-fn page_before(rt: &HostRuntime, path: &str) -> Result<Vec<Told>> {
-    let bytes = fs::read(rt, path).context(path)?;
-    if bytes.is_empty() {
-        return Ok(Vec::new(rt.alloc()));
-    }
-    page_in(rt.alloc(), path, &bytes)
-}
-
-/// The entries of the reply in a file, or in the input.
-fn reply_page<I: BufRead>(
-    rt: &HostRuntime,
-    path: Option<&str>,
-    input: &mut I,
-) -> Result<Vec<Told>> {
+/// The reply in a file, or in the input, unless it is a refusal.
+fn reply_at<I: BufRead>(rt: &HostRuntime, path: Option<&str>, input: &mut I) -> Result<Value> {
     let alloc = rt.alloc();
-    match path {
-        Some(path) => page_in(alloc, path, &fs::read(rt, path).context(path)?),
+    let name = path.unwrap_or(INPUT);
+    let bytes = match path {
+        Some(path) => fs::read(rt, path).context(path)?,
         None => {
             let mut bytes = Vec::new(alloc);
             input.read_to_end(&mut bytes)?;
-            page_in(alloc, INPUT, &bytes)
+            bytes
         }
+    };
+    if bytes.is_empty() {
+        bail!("{name}: no reply: it is empty");
+    }
+    let Some(reply) = value_of(alloc, &bytes)? else {
+        bail!("{name}: no reply: it is not one line of JSON");
+    };
+    if let Some(error) = reply.get("error").and_then(Value::as_str) {
+        bail!("{name}: the query was refused: {error}");
+    }
+    Ok(reply)
+}
+
+/// The entries of the reply in a file, or in the input.
+fn page_in(alloc: Global, path: Option<&str>, reply: &Value) -> Result<Vec<Told>> {
+    match page_of(alloc, reply) {
+        Ok(page) => Ok(page),
+        Err(ReplyFault::NoAnswer) => bail!("{}: {NO_ANSWER}", path.unwrap_or(INPUT)),
+        Err(ReplyFault::NoMemory) => bail!("out of memory"),
     }
 }
 
-/// The entries of a reply that came from such a place.
-fn page_in(alloc: Global, path: &str, bytes: &[u8]) -> Result<Vec<Told>> {
-    if bytes.is_empty() {
-        bail!("{path}: no reply: it is empty");
-    }
-    let Some(reply) = value_of(alloc, bytes)? else {
-        bail!("{path}: no reply: it is not one line of JSON");
-    };
-    if let Some(error) = reply.get("error").and_then(Value::as_str) {
-        bail!("{path}: the query was refused: {error}");
-    }
-    match page_of(alloc, &reply) {
-        Ok(page) => Ok(page),
-        Err(ReplyFault::NoAnswer) => bail!("{path}: no reply to a query"),
-        Err(ReplyFault::NoMemory) => bail!("out of memory"),
+/// The place behind which the next page begins, where that reply tells one.
+fn next_in<'a>(path: Option<&str>, reply: &'a Value) -> Result<Option<Cursor<'a>>> {
+    match next_of(reply) {
+        Ok(next) => Ok(next),
+        Err(_) => bail!("{}: {NO_ANSWER}", path.unwrap_or(INPUT)),
     }
 }
 

@@ -94,6 +94,9 @@ fn members(rt: &HostRuntime, given: &ArgMatches<'_>) -> Result<Map<String, Value
         let limit = Value::Number(Number::from(limit_in(text)?));
         put_member(&mut members, alloc, "limit", limit)?;
     }
+    if given.get_flag("pages") {
+        put_member(&mut members, alloc, "pages", Value::Bool(true))?;
+    }
     Ok(members)
 }
 

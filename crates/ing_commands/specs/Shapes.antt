@@ -2,7 +2,7 @@
 use Rattle.std.specs.Prelude.{ℕ, List, [], ◌∷◌, Bool, Option, None, Some, option_and_then, Result, Ok}
 use Rattle.std.specs.Option.{ok_or}
 use Rattle.serde_json.specs.Data.{Data, Items, no_items, item, Members}
-use Rattle.serde_json.specs.Find.{get, as_bool, as_str, as_array, as_object}
+use Rattle.serde_json.specs.Find.{get, as_array, as_bool, as_number, as_object, as_str, as_u64}
 use Rattle.ing_refusals.specs.Results.{◌>>=◌}
 use Rattle.ing_commands.specs.declared.fault.LineFault.{LineFault}
 use Rattle.ing_commands.specs.declared.fault.LineFault.TheVariants.{BadCommand}
@@ -33,7 +33,15 @@ maybe_text (Some d) = text_of d >>= λ text. Ok (Some text)
 abbrev pub maybe_text_at : List ℕ → Data → Result (Option (List ℕ)) LineFault
 maybe_text_at name d = maybe_text (get name d)
 
--- the same as `text_at`, an array
+-- the number that a value is, an integer from 0 to 2^64-1
+abbrev pub number_of : Data → Option ℕ
+number_of d = option_and_then as_u64 (as_number d)
+
+-- the same as `text_at`, such a number
+abbrev pub number_at : List ℕ → Data → Result ℕ LineFault
+number_at name d = ok_or (option_and_then number_of (get name d)) BadCommand
+
+-- the same, an array
 abbrev pub array_at : List ℕ → Data → Result Items LineFault
 array_at name d = ok_or (option_and_then as_array (get name d)) BadCommand
 

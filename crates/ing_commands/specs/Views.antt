@@ -10,6 +10,7 @@ use Rattle.ing_commands.specs.declared.catalog.Catalog as catalog
 use Rattle.ing_commands.specs.declared.flush.Flush as flush
 use Rattle.ing_commands.specs.declared.gauges.GaugesOf.{GaugesOf}
 use Rattle.ing_commands.specs.declared.query.Query as query
+use Rattle.ing_commands.specs.declared.query.CursorTexts.{CursorTexts}
 use Rattle.ing_commands.specs.declared.query.QueryTexts.{QueryTexts}
 use Rattle.ing_commands.specs.declared.sweep.Sweep as sweep
 use Rattle.ing_commands.specs.declared.command.Command as code
@@ -20,8 +21,9 @@ use Rattle.ing_commands.specs.PushTexts.{values_in}
 use Rattle.ing_commands.specs.SweepCommands.{SweepCommand}
 use Rattle.ing_commands.specs.FlushCommands.{FlushCommand}
 use Rattle.ing_commands.specs.GaugesCommands.{GaugesCommand}
-use Rattle.ing_commands.specs.QueryCommands.{RawQuery, QueryCommand}
+use Rattle.ing_commands.specs.QueryCommands.{RawCursor, RawQuery, QueryCommand}
 use Rattle.ing_commands.specs.CatalogCommands.{CatalogCommand}
+use Rattle.ing_rows.specs.Cursors.{cursor_view}
 use Rattle.ing_rows.specs.Facets.{facet_view}
 use Rattle.ing_commands.specs.Commands.{Command, Push, Sweep, Flush, Gauges, Board, Checkpoint, Query, Catalog}
 
@@ -61,13 +63,17 @@ flush_view f = record { forced = f.forced }
 abbrev pub gauges_view : GaugesOf → GaugesCommand
 gauges_view g = record { tenant = g.tenant }
 
+-- the texts of a cursor
+abbrev pub cursor_texts : CursorTexts → RawCursor
+cursor_texts c = record { stamp = c.stamp.now; stream = c.stream.now; number = c.number }
+
 -- the texts of a query
 abbrev pub query_texts : QueryTexts → RawQuery
-query_texts q = record { tenant = q.tenant.now; text = q.text.now; start = q.start.now; end = q.end.now; limit = q.limit; order = q.order }
+query_texts q = record { tenant = q.tenant.now; text = q.text.now; start = q.start.now; end = q.end.now; limit = q.limit; order = q.order; after = option_map cursor_texts q.after; pages = q.pages }
 
 -- a query
 abbrev pub query_view : query.Query → QueryCommand
-query_view q = record { tenant = q.tenant; text = q.text.now; start = q.start; end = q.end; limit = q.limit; order = q.order }
+query_view q = record { tenant = q.tenant; text = q.text.now; start = q.start; end = q.end; limit = q.limit; order = q.order; after = option_map cursor_view q.after; pages = q.pages }
 
 -- a question for a catalog
 abbrev pub catalog_view : catalog.Catalog → CatalogCommand

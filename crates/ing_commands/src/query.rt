@@ -1,12 +1,14 @@
 //! The command that asks for entries.
+ghost use Rattle.std.specs.Prelude.{option_map};
 ghost use Rattle.serde_json.specs.View.{view};
 ghost use Rattle.ing_refusals.specs.Results.{Gives, Returns};
-ghost use Rattle.ing_commands.specs.QueryCommands.{checked, end_of, limit_at, limit_in, order_of, query_of, raw_query};
-ghost use Rattle.ing_commands.specs.Views.{query_texts, query_view};
+ghost use Rattle.ing_rows.specs.Cursors.{cursor_view};
+ghost use Rattle.ing_commands.specs.QueryCommands.{after_at, behind_of, checked, cursor_in, end_of, limit_at, limit_in, order_of, query_of, raw_query};
+ghost use Rattle.ing_commands.specs.Views.{cursor_texts, query_texts, query_view};
 
 use crate::fault::LineFault;
-use crate::shape::{text_at, text_or};
-use ing_rows::{Order, Stamp, Tenant};
+use crate::shape::{flag_at, number_at, text_at, text_or};
+use ing_rows::{Cursor, Order, Stamp, Tenant};
 use serde_json::Value;
 use std::alloc::Global;
 
@@ -34,6 +36,18 @@ pub struct Query<'a> {
     pub limit: usize,
     /// Which of them come first.
     pub order: Order,
+    /// What they stand behind in that order, where a page goes on.
+    pub after: Option<Cursor<'a>>,
+    /// Whether the reply is to tell where the next page begins.
+    pub pages: bool,
+}
+
+/// The texts of a cursor, and its number.
+#[derive(Clone, Copy, Debug)]
+pub struct CursorTexts<'a> {
+    stamp: &'a str,
+    stream: &'a str,
+    number: u64,
 }
 
 /// The texts of a query, and its numbers.
@@ -45,12 +59,15 @@ pub struct QueryTexts<'a> {
     end: &'a str,
     limit: usize,
     order: Order,
+    after: Option<CursorTexts<'a>>,
+    pages: bool,
 }
 
 /// The query that a value with its command says. The faults in their order: `BadCommand` where `tenant` or `query` is missing,
-/// a member is no text or `limit` no integer from 1 to 5000, or `direction` neither `forward` nor `backward`; `BadTenant` where
-/// the tenant is no tenant id; `BadStamp` where `start` is no stamp, or `end` neither one nor 2^63. All but the first two members
-/// may be absent: all stamps are wanted then, and the newest 100 entries. Other members are ignored. (Loki documentation: HTTP
+/// a member is no text or `limit` no integer from 1 to 5000, or `direction` neither `forward` nor `backward`, or `after` no object with
+/// the texts `stamp` and `stream` and an integer `number` from 0 to 2^64-1, or `pages` neither true nor false; `BadTenant` where the tenant is no tenant id; `BadStamp`
+/// where `start` is no stamp, or `end` neither one nor 2^63, or the stamp of `after` none. All but the first two members may be absent:
+/// all stamps are wanted then, and the newest 100 entries, and no next page is told. Other members are ignored. (Loki documentation: HTTP
 /// API, query range; the command's form is own.)
 pub fn query_of(alloc: Global, value: &Value) -> Result<Query<'_>, LineFault>
     ensures { Gives LineFault.NoMemory query_view result (query_of (view value.now)) }
@@ -70,6 +87,8 @@ fn texts_of(value: &Value) -> Result<QueryTexts<'_>, LineFault>
     let end = text_or(value, "end", "9223372036854775808")?;
     let limit = limit_at(value)?;
     let order = order_of(text_or(value, "direction", "backward")?)?;
+    let after = after_at(value)?;
+    let pages = flag_at(value, "pages", false)?;
     Ok(QueryTexts {
         tenant,
         text,
@@ -77,6 +96,33 @@ fn texts_of(value: &Value) -> Result<QueryTexts<'_>, LineFault>
         end,
         limit,
         order,
+        after,
+        pages,
+    })
+}
+
+/// The cursor that a value has, an entry as a reply has it, where there is one.
+fn after_at(value: &Value) -> Result<Option<CursorTexts<'_>>, LineFault>
+    ensures { Returns (option_map cursor_texts) result (after_at (view value.now)) }
+{
+    match value.get("after") {
+        Some(cursor) => Ok(Some(cursor_in(cursor)?)),
+        None => Ok(None),
+    }
+}
+
+/// The texts and the number of a cursor.
+#[tactic(auto, unfolding(crate::specs::QueryCommands::cursor_in))]
+fn cursor_in(value: &Value) -> Result<CursorTexts<'_>, LineFault>
+    ensures { Returns cursor_texts result (cursor_in (view value.now)) }
+{
+    let stamp = text_at(value, "stamp")?;
+    let stream = text_at(value, "stream")?;
+    let number = number_at(value, "number")?;
+    Ok(CursorTexts {
+        stamp,
+        stream,
+        number,
     })
 }
 
@@ -88,6 +134,7 @@ fn checked(alloc: Global, texts: QueryTexts<'_>) -> Result<Query<'_>, LineFault>
     let tenant = Tenant::of_text(alloc, texts.tenant)?;
     let start = Stamp::of_text(texts.start)?;
     let end = end_of(texts.end)?;
+    let after = behind_of(texts.after)?;
     Ok(Query {
         tenant,
         text: texts.text,
@@ -95,7 +142,25 @@ fn checked(alloc: Global, texts: QueryTexts<'_>) -> Result<Query<'_>, LineFault>
         end,
         limit: texts.limit,
         order: texts.order,
+        after,
+        pages: texts.pages,
     })
+}
+
+/// The cursor that the texts say, where there is one.
+fn behind_of(texts: Option<CursorTexts<'_>>) -> Result<Option<Cursor<'_>>, LineFault>
+    ensures { Returns (option_map cursor_view) result
+        (behind_of (option_map cursor_texts texts.entry)) }
+{
+    let Some(cursor) = texts else {
+        return Ok(None);
+    };
+    let stamp = Stamp::of_text(cursor.stamp)?;
+    Ok(Some(Cursor {
+        stamp: stamp.nanoseconds(),
+        stream: cursor.stream,
+        number: cursor.number,
+    }))
 }
 
 /// What all stamps that are wanted are below.

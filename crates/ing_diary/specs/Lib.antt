@@ -9,6 +9,6 @@ pub use Rattle.ing_query.specs.Found
 pub use Rattle.ing_query.specs.PartAnswers
 pub use Rattle.ing_query.specs.Parts
 pub use Rattle.ing_query.specs.QueryFaults
-pub use Rattle.ing_query.specs.Question
+pub use Rattle.ing_query.specs.Questions
 pub use Rattle.ing_query.specs.Snapshot
 pub use Rattle.ing_shard.specs.declared.listed.StreamFront

@@ -1,7 +1,7 @@
 -- What each command of a channel does to shards that lie behind locks, where other channels change them too. What lies there nobody
 -- knows, so this says what is known outside: what a line says, the form of its reply, how many entries were told accepted on this
 -- channel, by the number of their shard, which ones, where the settings want diaries, and how many chunks were told stored on it.
-use Rattle.std.specs.Prelude.{◌≡◌, ◌≢◌, ◌⊎◌, ℕ, ◌+◌, ◌≤◌, All, Bool, false, true, List, [], ◌∷◌, None, Some, Result, Ok, Err, length, slice_get, sum_by}
+use Rattle.std.specs.Prelude.{◌≡◌, ◌≢◌, ◌⊎◌, ℕ, ◌+◌, ◌≤◌, All, Bool, false, true, List, [], ◌∷◌, None, Some, Result, Ok, Err, length, slice_get, sum_by, Option}
 use Rattle.std.specs.List.{AllPass, flat_map}
 use Rattle.std.specs.List.Sorted.{IsSortedBy}
 use Rattle.serde_json.specs.Data.{Data}
@@ -36,7 +36,6 @@ use Rattle.ing_node.specs.Boards.{IsNoLess, no_counts}
 use Rattle.ing_node.specs.Catalog.{Asked, IsCatalog}
 use Rattle.ing_node.specs.Pushes.{AreJudged, IsPushRefusal}
 use Rattle.ing_node.specs.Queries.{AreAnswerOf, AreSelected}
-use Rattle.ing_node.specs.Question.{Question}
 use Rattle.ing_node.specs.Refusals.{IsRoundRefusal}
 use Rattle.ing_node.specs.Diaries.{PusherState, notes_kept}
 use Rattle.ing_node.specs.Notes.{Note, noted}
@@ -48,7 +47,7 @@ use Rattle.ing_commands.specs.QueryCommands.{QueryCommand}
 use Rattle.ing_session.specs.Faults.{label_fault, limits_of}
 use Rattle.ing_session.specs.Causes.{HaveCause}
 use Rattle.ing_session.specs.Manners.{Manner}
-use Rattle.ing_session.specs.Selecting.{AsksBy, IsTextRefused, Reads}
+use Rattle.ing_session.specs.Selecting.{AsksBy, IsTextRefused, Reads, page_of, question_of}
 use Rattle.ing_session.specs.Replies.{catalog_data, fault_data, judged_data, push_data, sweep_data, flush_data, gauges_data, board_data, checkpoint_data, query_data}
 
 -- How what was told accepted is measured: by how many entries they are of a shard, by its number; or by what all of them weigh, each by
@@ -217,17 +216,13 @@ pub record ObeysBoard (settings : StoreSettings) (old new : Held) (failed : ℕ)
 
 -- ---- a query
 
--- what a query asks for
-abbrev pub question_of : QueryCommand → Question
-question_of query = record { start = query.start; end = query.end; order = query.order; limit = query.limit }
-
 -- These entries are given: each is of a stream of the tenant that the text selects and in the range, they stand in their order, each
 -- once, and they are not more than the limit. Each shard had accepted at least as many entries as were told of it. Over an honest end
 -- of the store they are exactly the first ones that are wanted of the rows that the shards had when they were looked at.
 pub record IsGiven (honest : Type 0) (settings : StoreSettings) (query : QueryCommand) (known : Told) (found : List Found) (fronts : List ℕ) : Type 0 where
   pub reads : Reads query.text
   pub selected : AreSelected query.tenant reads.ms found
-  pub within : AllPass (is_within query.start query.end) found
+  pub within : AllPass (is_within (question_of query)) found
   pub in_order : IsSortedBy (precedes query.order) found
   pub most : length found ≤ query.limit
   pub once : StandApart found
@@ -252,10 +247,10 @@ QueryMayBe honest settings query told (Refused fault) = IsSelectorFault query.te
 QueryMayBe honest settings query told (Given found fronts) = IsGiven honest settings query told found fronts
 QueryMayBe honest settings query told (Failed fault) = IsNotAnswered honest settings query fault
 
-abbrev pub query_reply : Answer → Data
-query_reply (Refused fault) = fault_data (text_refusal_of fault) (text_fault_place fault)
-query_reply (Given found fronts) = query_data found fronts
-query_reply (Failed fault) = fault_data (answer_refusal_of fault) None
+abbrev pub query_reply : Option ℕ → Answer → Data
+query_reply page (Refused fault) = fault_data (text_refusal_of fault) (text_fault_place fault)
+query_reply page (Given found fronts) = query_data page found fronts
+query_reply page (Failed fault) = fault_data (answer_refusal_of fault) None
 
 -- how many queries the store failed
 abbrev pub failed_of : Answer → ℕ
@@ -270,14 +265,14 @@ failed_of (Failed (Query (queries.BadObject key))) = 0
 pub record CameTo (honest : Type 0) (settings : StoreSettings) (query : QueryCommand) (known : Told) (before after : ℕ) (reply : Data) : Type 0 where
   pub answer : Answer
   pub may_be : QueryMayBe honest settings query known answer
-  pub told : reply ≡ query_reply answer
+  pub told : reply ≡ query_reply (page_of query) answer
   pub causes : HaveCause before after (failed_of answer)
 
 -- a query is obeyed
 pub record ObeysQuery (honest : Type 0) (settings : StoreSettings) (query : QueryCommand) (old new : Told) (failed : ℕ) (reply : Data) : Type 0 where
   pub answer : Answer
   pub may_be : QueryMayBe honest settings query old answer
-  pub told : reply ≡ query_reply answer
+  pub told : reply ≡ query_reply (page_of query) answer
   pub left : Stays old new
   pub failures : failed ≡ failed_of answer
 

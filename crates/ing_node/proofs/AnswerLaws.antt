@@ -9,7 +9,7 @@ use Rattle.ing_labels.specs.Selectors.{Match}
 use Rattle.ing_rows.specs.Rows.{Row, StreamKey}
 use Rattle.ing_rows.specs.declared.order.Order.{Order}
 use Rattle.ing_diary.specs.Found.{Found}
-use Rattle.ing_diary.specs.Question.{Question}
+use Rattle.ing_diary.specs.Questions.{Question}
 use Rattle.ing_diary.specs.Snapshot.{Snapshot}
 use Rattle.ing_diary.specs.PartAnswers.{StandFor}
 use Rattle.ing_diary.specs.Parts.{found_at, wanted, within}
@@ -22,10 +22,9 @@ pub one_stands : {R : Type 0} (tenant : List ℕ) (ms : List Match) (q : Questio
     → StandFor q.order q.limit (wanted s) (wanted_of picked q asked.rows)
 one_stands tenant ms q s asked picked picks =
     let all = map found_at (filter (λ (r : Row). picked r.stream) asked.rows) in
-    subst (λ o. StandFor o q.limit (wanted s) (within q.start q.end all)) asked.order
-    (subst (λ n. StandFor s.best.order n (wanted s) (within q.start q.end all)) asked.limit
-    (subst (λ n. StandFor s.best.order s.best.limit (wanted s) (within n q.end all)) asked.start
-    (subst (λ n. StandFor s.best.order s.best.limit (wanted s) (within s.start n all)) asked.end (asked.has picked picks).stand)))
+    subst (λ o. StandFor o q.limit (wanted s) (within q all)) asked.order
+    (subst (λ n. StandFor s.best.order n (wanted s) (within q all)) asked.limit
+    (subst (λ l. StandFor s.best.order s.best.limit (wanted s) l) (λ i. filter (λ f. asked.range f i) all) (asked.has picked picks).stand))
 
 -- the rows of the shards of several snapshots
 pub record RowsOf {R : Type 0} (tenant : List ℕ) (ms : List Match) (q : Question) (ss : List (Snapshot R)) : Type 0 where

@@ -1,5 +1,5 @@
 -- What is of snapshots is selected, and in their range.
-use Rattle.std.proofs.Common.{◌≡◌, ℕ, Bool, true, false, cond, ◌&&◌, List, [], ◌∷◌, ◌++◌, map, filter, refl, ap, subst, ◌∙◌, bytes_eq}
+use Rattle.std.proofs.Common.{◌≡◌, ℕ, Bool, true, false, cond, ◌&&◌, List, [], ◌∷◌, ◌++◌, map, filter, refl, ap, subst, sym, ◌∙◌, bytes_eq}
 use Rattle.std.specs.Prelude.{All}
 use Rattle.std.specs.List.{AllPass}
 use Rattle.std.proofs.lemmas.List.Elements.{All-nil, All-cons, All-head, All-tail, All-map, All-weaker, All-contains}
@@ -7,7 +7,7 @@ use Rattle.std.proofs.lemmas.List.Sorted.{All-permutation, IsPermutation-sym}
 use Rattle.std.proofs.lemmas.Slice.Eq.{bytes_eq-Decides}
 use Rattle.ing_labels.specs.Selectors.{Match, selects}
 use Rattle.ing_diary.specs.Found.{Found}
-use Rattle.ing_diary.specs.Question.{Question}
+use Rattle.ing_diary.specs.Questions.{Question}
 use Rattle.ing_diary.specs.Snapshot.{Snapshot}
 use Rattle.ing_diary.specs.PartAnswers.{AreSomeOf}
 use Rattle.ing_diary.specs.Parts.{HasRows, KeepsInRange, found_at, is_within, standing}
@@ -84,13 +84,12 @@ found_selected tenant ms q ss found asked of picked picks =
     found of
 
 pub found_within : {R : Type 0} (tenant : List ℕ) (ms : List Match) (q : Question) (ss : List (Snapshot R)) (found : List Found)
-    → All (IsAskedOf tenant ms q) ss → All (IsOf ss) found → AllPass (is_within q.start q.end) found
+    → All (IsAskedOf tenant ms q) ss → All (IsOf ss) found → AllPass (is_within q) found
 found_within tenant ms q ss found asked of =
-    All-weaker (IsOf ss) (λ (f : Found). is_within q.start q.end f ≡ true)
+    All-weaker (IsOf ss) (λ (f : Found). is_within q f ≡ true)
     (λ f is.
     let there = All-contains (IsAskedOf tenant ms q) ss is.snapshot asked is.there in
-    subst (λ start. is_within start q.end f ≡ true) there.start
-    (subst (λ end. is_within is.snapshot.start end f ≡ true) there.end is.in_range))
+    sym (there.range f) ∙ is.in_range)
     found of
 
 pub all_kept : {R : Type 0} (tenant : List ℕ) (ms : List Match) (q : Question) (ss : List (Snapshot R)) → All (IsAskedOf tenant ms q) ss → All KeepsInRange ss

@@ -16,7 +16,7 @@ pub use Rattle.ing_diary.specs.Fronts
 pub use Rattle.ing_diary.specs.Notes
 pub use Rattle.ing_diary.specs.PartAnswers
 pub use Rattle.ing_diary.specs.Parts
-pub use Rattle.ing_diary.specs.Question
+pub use Rattle.ing_diary.specs.Questions
 pub use Rattle.ing_diary.specs.declared.fault.Mismatch
 pub use Rattle.ing_diary.specs.declared.fault.Unsettled
 pub use Rattle.ing_begun.specs.Begun

@@ -3,10 +3,10 @@ use Rattle.std.specs.Prelude.{◌≡◌, ◌<◌, ◌≤◌, ℕ, Bool, true, Li
 use Rattle.std.specs.List.{flat_map}
 use Rattle.ing_labels.specs.Selectors.{Match}
 use Rattle.ing_diary.specs.Found.{Found}
-use Rattle.ing_diary.specs.Question.{Question}
+use Rattle.ing_diary.specs.Questions.{Question}
 use Rattle.ing_diary.specs.Snapshot.{Snapshot}
 use Rattle.ing_diary.specs.PartAnswers.{IsAnswer}
-use Rattle.ing_diary.specs.Parts.{HasRows, KeepsInRange, found_at, standing, within}
+use Rattle.ing_diary.specs.Parts.{HasRangeOf, HasRows, KeepsInRange, found_at, standing, within}
 use Rattle.ing_rows.specs.Gauges.{gauges_of}
 use Rattle.ing_rows.specs.Placement.{shard_of}
 use Rattle.ing_rows.specs.Rows.{Row, StreamKey}
@@ -31,16 +31,15 @@ pub record IsAskedOf {R : Type 0} (tenant : List ℕ) (ms : List Match) (q : Que
   pub rows : List Row
   pub count : s.front ≡ length rows
   pub has : (picked : StreamKey → Bool) → Picks tenant ms picked → HasRows (filter (λ r. picked r.stream) rows) s
-  pub start : s.start ≡ q.start
-  pub end : s.end ≡ q.end
+  pub range : HasRangeOf q s
   pub order : s.best.order ≡ q.order
   pub limit : s.best.limit ≡ q.limit
   pub kept : KeepsInRange s
   pub selected : AreSelected tenant ms (standing s)
 
--- what is wanted of a shard's rows: those of picked streams whose stamp is in the question's range
+-- what is wanted of a shard's rows: those of picked streams that are in the question's range
 abbrev pub wanted_of : (StreamKey → Bool) → Question → List Row → List Found
-wanted_of picked q rows = within q.start q.end (map found_at (filter (λ r. picked r.stream) rows))
+wanted_of picked q rows = within q (map found_at (filter (λ r. picked r.stream) rows))
 
 -- Each shard had rows when it was looked at, as many as is told of it; the entries are the first ones, in the question's order, of all that
 -- is wanted of them, at most so many.

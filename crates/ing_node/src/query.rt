@@ -4,6 +4,7 @@ ghost use Rattle.std.specs.List.{AllPass};
 ghost use Rattle.std.specs.List.Sorted.{IsSortedBy};
 ghost use Rattle.ing_diary.specs.PartAnswers.{StandApart, precedes};
 ghost use Rattle.ing_diary.specs.Parts.{is_within};
+ghost use Rattle.ing_diary.specs.Questions.{question_view};
 ghost use Rattle.ing_begun.specs.Catalog.{asked_view};
 ghost use Rattle.ing_diary.specs.Answers.{standing_in};
 ghost use Rattle.ing_node.specs.AnswerFaults.{IsCaused, IsNoBadAnswer, IsPassedOver, answer_refusal_of};
@@ -77,7 +78,7 @@ impl From<QueryFault> for AnswerFault {
 }
 
 impl<N: NodeName, D: LogDisk, R: Receipt> Ingester<N, D, R> {
-    /// The entries of a tenant whose labels the selector matches and whose stamp is in the question's range: the first ones in its
+    /// The entries of a tenant whose labels the selector matches and that are in the question's range: the first ones in its
     /// order, at most so many. It looks at one shard after the other, each under its lock, and not at one moment; each has then at
     /// least as many entries as the pusher was told of, so that who pushed finds what was accepted. The answer is never a partial one.
     /// (Loki documentation: HTTP API, query range; own.)
@@ -92,22 +93,22 @@ impl<N: NodeName, D: LogDisk, R: Receipt> Ingester<N, D, R> {
         end: &mut S,
         tenant: &Tenant,
         selector: &Selector,
-        question: Question,
+        question: Question<'_>,
     ) -> Result<Answer, AnswerFault>
         ensures fronts { IfOk result (λ answer. (vec_len answer.fronts ≡ N.settings.shards)
             × AreNoLess pusher.old.told answer.fronts.items) }
         // Whatever the end gives.
         ensures selected { IfOk result (λ answer. AreSelected tenant.now selector.now answer.entries.items) }
         ensures within { IfOk result (λ answer.
-            AllPass (is_within question.start question.end) answer.entries.items) }
+            AllPass (is_within (question_view question.entry)) answer.entries.items) }
         ensures in_order { IfOk result (λ answer.
-            IsSortedBy (precedes question.order) answer.entries.items) }
-        ensures most { IfOk result (λ answer. length answer.entries.items ≤ question.limit) }
+            IsSortedBy (precedes question.entry.order) answer.entries.items) }
+        ensures most { IfOk result (λ answer. length answer.entries.items ≤ question.entry.limit) }
         // No entry is given twice.
         ensures once { IfOk result (λ answer. StandApart answer.entries.items) }
         // Over an honest end they are exactly the wanted ones of the rows that each shard had then.
         ensures found { S.is_honest → IfOk result (λ answer.
-            AreAnswerOf tenant.now selector.now question answer.fronts.items answer.entries.items) }
+            AreAnswerOf tenant.now selector.now (question_view question.entry) answer.fronts.items answer.entries.items) }
         ensures honest { S.is_honest → IfErr result IsNoBadAnswer }
         ensures refused { IfErr result (IsPassedOver N.settings.shards) }
         ensures same { pusher.new ≡ pusher.old }
@@ -169,17 +170,17 @@ impl<N: NodeName, D: LogDisk, R: Receipt> Ingester<N, D, R> {
     }
 
     /// A snapshot of each shard, and how many entries it had accepted.
-    fn look_after<W: Wait>(
+    fn look_after<'q, W: Wait>(
         &self,
         rt: &W,
         alloc: Global,
         pusher: &mut Pusher<N>,
         tenant: &Tenant,
         selector: &Selector,
-        question: Question,
-    ) -> Result<(Vec<Snapshot<R>>, Vec<u64>), NodeFault>
+        question: Question<'q>,
+    ) -> Result<(Vec<Snapshot<'q, R>>, Vec<u64>), NodeFault>
         ensures snapshots { IfOk result (λ looked.
-            All (IsAskedOf tenant.now selector.now question) looked.0.items) }
+            All (IsAskedOf tenant.now selector.now (question_view question.entry)) looked.0.items) }
         ensures fronts { IfOk result (λ looked. (vec_len looked.1 ≡ N.settings.shards)
             × AreNoLess pusher.old.told looked.1.items) }
         ensures told { IfOk result (λ looked. looked.1.items ≡ map (λ s. s.front) looked.0.items) }

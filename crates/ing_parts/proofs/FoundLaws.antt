@@ -12,7 +12,7 @@ use Rattle.ing_chunk.specs.declared.numbered.Numbered.{Numbered}
 use Rattle.ing_chunk.specs.Chunks.{ChunkContents, ChunksContents, block_rows, chunk_state, chunks_state, entries_growing, entries_in_memory, entries_of, entries_of_all, growing_state, head_rows, in_blocks, row_in, stream_state}
 use Rattle.ing_parts.specs.declared.found.Found.{Found}
 use Rattle.ing_parts.specs.declared.snapshot.Snapshot.{Snapshot}
-use Rattle.ing_parts.specs.Parts.{Adds, AddsRows, HasRows, KeepsInRange, RowsAreFound, found_at, found_of, is_within, standing, within}
+use Rattle.ing_parts.specs.Parts.{Adds, AddsRows, HasRows, KeepsInRange, RowsAreFound, asked, found_at, found_of, is_within, standing, within}
 use Rattle.ing_parts.proofs.RangeLaws.{adds_alike, adds_both}
 use Rattle.ing_parts.proofs.SomeLaws.{some_have}
 
@@ -81,5 +81,5 @@ rows_among rows s h f = All-contains (Contains (map found_at rows)) (standing s)
 -- what is kept of rows is in the range
 pub kept_in_range : {R : Type 0} (rows : List Row) (s : Snapshot R) → HasRows rows s → KeepsInRange s
 kept_in_range rows s h =
-    let test = is_within s.start s.end in
-    some_have (λ f. test f ≡ true) s.best.held (within s.start s.end (map found_at rows)) h.kept (filter_passes test (map found_at rows))
+    let test = is_within (asked s) in
+    some_have (λ f. test f ≡ true) s.best.held (within (asked s) (map found_at rows)) h.kept (filter_passes test (map found_at rows))

@@ -31,23 +31,23 @@ module _ {X : Type 0} (lt : X → X → Bool) where
 
   -- ---- order
 
-  abbrev Head : X → List X → Type 0
+  abbrev pub Head : X → List X → Type 0
   Head x [] = Unit {0}
   Head x (y ∷ ys) = lt y x ≡ false
 
-  abbrev Rises : List X → Type 0
+  abbrev pub Rises : List X → Type 0
   Rises [] = Unit {0}
   Rises (x ∷ xs) = Head x xs × Rises xs
 
   after : (k : ℕ) → suc k + 1 ≡ suc (k + 1)
   after k = omega arith
 
-  rises : (xs : List X) → IsSortedBy lt xs → Rises xs
+  pub rises : (xs : List X) → IsSortedBy lt xs → Rises xs
   rises [] h = tt
   rises (x ∷ []) h = (tt, tt)
   rises (x ∷ y ∷ ys) h = (h 0 x (omega arith) (omega arith), rises (y ∷ ys) (λ k d low high. subst (λ n. lt (get_or (x ∷ y ∷ ys) n d) (get_or (y ∷ ys) k d) ≡ false) (after k) (h (suc k) d (omega arith) (omega arith))))
 
-  sorts : (xs : List X) → Rises xs → IsSortedBy lt xs
+  pub sorts : (xs : List X) → Rises xs → IsSortedBy lt xs
   sorts [] h k d low high = absurd (omega arith)
   sorts (x ∷ []) h k d low high = absurd (omega arith)
   sorts (x ∷ y ∷ ys) h zero d low high = h.0

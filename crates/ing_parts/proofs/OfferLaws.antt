@@ -1,5 +1,5 @@
 -- Entries that are offered one after another.
-use Rattle.std.proofs.Common.{◌≡◌, Bool, true, false, not, cond, filter, ℕ, ◌+◌, ◌<◌, ◌≤◌, List, [], ◌∷◌, ◌++◌, map, length, drop, take, get_or, suc, add-one, drop-cons, append_assoc, append-nil, refl, ap, sym, ◌∙◌, subst, arith}
+use Rattle.std.proofs.Common.{◌≡◌, Bool, true, false, not, cond, ◌&&◌, filter, ℕ, ◌+◌, ◌<◌, ◌≤◌, List, [], ◌∷◌, ◌++◌, map, length, drop, take, get_or, suc, add-one, drop-cons, append_assoc, append-nil, refl, ap, sym, ◌∙◌, subst, arith}
 use Rattle.std.specs.Prelude.{All, IsPermutation}
 use Rattle.std.proofs.lemmas.List.{map-append, take-append-drop, take_more}
 use Rattle.std.proofs.lemmas.List.Elements.{All-nil, All-cons, All-head, All-push, All-tail, filter-append}
@@ -10,7 +10,8 @@ use Rattle.ing_chunk.specs.Chunks.{AreInOrder, StampsRise, in_blocks, is_between
 use Rattle.ing_rows.specs.declared.order.Order.{Order}
 use Rattle.ing_rows.specs.declared.order.Order.TheVariants.{Forward, Backward}
 use Rattle.ing_parts.specs.Answers.{AreSomeOf, BestState, IsAnswer, IsFrom, Offers, PassesOver, StandFor}
-use Rattle.ing_parts.specs.Parts.{AreFrom, found_between, found_of, is_within, within}
+use Rattle.ing_parts.specs.Parts.{AreFrom, found_between, found_of, is_behind, is_within, within}
+use Rattle.ing_parts.specs.Questions.{Question}
 use Rattle.ing_parts.proofs.RangeLaws.{missed}
 use Rattle.ing_parts.proofs.SomeLaws.{some_alike, some_beside, some_first, some_through}
 use Rattle.ing_parts.proofs.StandLaws.{stand_alike, stand_answered, stand_beside, stand_still, stand_through}
@@ -47,22 +48,25 @@ offers_answered all answer old new h a = stand_answered old.order old.limit new.
 
 -- ---- entries of one stream, in a range
 
-pub between_parts : (name : List ℕ) (start end : ℕ) (xs ys : List Numbered) → found_between name start end (xs ++ ys) ≡ found_between name start end xs ++ found_between name start end ys
-between_parts name start end xs ys = ap (within start end) (map-append (found_of name) xs ys) ∙ filter-append (is_within start end) (map (found_of name) xs) (map (found_of name) ys)
+pub between_parts : (name : List ℕ) (q : Question) (xs ys : List Numbered) → found_between name q (xs ++ ys) ≡ found_between name q xs ++ found_between name q ys
+between_parts name q xs ys = ap (within q) (map-append (found_of name) xs ys) ∙ filter-append (is_within q) (map (found_of name) xs) (map (found_of name) ys)
 
 -- to look for those of the range among those of the range changes nothing
-pub between_again : (name : List ℕ) (start end : ℕ) (es : List Numbered) → found_between name start end (filter (is_between start end) es) ≡ found_between name start end es
-between_again name start end [] = refl
-between_again name start end (e ∷ es) = step (is_between start end e) refl (between_again name start end es) where
+pub between_again : (name : List ℕ) (q : Question) (es : List Numbered) → found_between name q (filter (is_between q.start q.end) es) ≡ found_between name q es
+between_again name q [] = refl
+between_again name q (e ∷ es) = step (is_between q.start q.end e) refl (between_again name q es) where
   rest : List Found
-  rest = found_between name start end es
+  rest = found_between name q es
+
+  behind : Bool
+  behind = is_behind q.order q.after (found_of name e)
 
   inner : List Found
-  inner = found_between name start end (filter (is_between start end) es)
+  inner = found_between name q (filter (is_between q.start q.end) es)
 
-  step : (t : Bool) → is_between start end e ≡ t → inner ≡ rest
-      → found_between name start end (cond t (e ∷ filter (is_between start end) es) (filter (is_between start end) es)) ≡ cond t (found_of name e ∷ rest) rest
-  step true is same = ap (λ b. cond b (found_of name e ∷ inner) inner) is ∙ ap (λ l. found_of name e ∷ l) same
+  step : (t : Bool) → is_between q.start q.end e ≡ t → inner ≡ rest
+      → found_between name q (cond t (e ∷ filter (is_between q.start q.end) es) (filter (is_between q.start q.end) es)) ≡ cond (t && behind) (found_of name e ∷ rest) rest
+  step true is same = ap (λ b. cond (b && behind) (found_of name e ∷ inner) inner) is ∙ ap (λ l. cond behind (found_of name e ∷ l) l) same
   step false is same = same
 
 -- what is left from an index on
@@ -79,21 +83,25 @@ in_blocks_more [] b = append-nil b
 in_blocks_more (c ∷ bs) b = ap (λ l. c ++ l) (in_blocks_more bs b) ∙ sym (append_assoc c (in_blocks bs) b)
 
 -- these behind those that were offered before them
-pub offers_next : (name : List ℕ) (start end : ℕ) (xs more all : List Numbered) (old mid new : BestState) → all ≡ xs ++ more → Offers (found_between name start end xs) old mid → Offers (found_between name start end more) mid new → Offers (found_between name start end all) old new
-offers_next name start end xs more all old mid new is h k =
-    subst (λ l. Offers l old new) (sym (between_parts name start end xs more) ∙ sym (ap (found_between name start end) is)) (offers_both (found_between name start end xs) (found_between name start end more) old mid new h k)
+pub offers_next : (name : List ℕ) (q : Question) (xs more all : List Numbered) (old mid new : BestState) → all ≡ xs ++ more → Offers (found_between name q xs) old mid → Offers (found_between name q more) mid new → Offers (found_between name q all) old new
+offers_next name q xs more all old mid new is h k =
+    subst (λ l. Offers l old new) (sym (between_parts name q xs more) ∙ sym (ap (found_between name q) is)) (offers_both (found_between name q xs) (found_between name q more) old mid new h k)
 
 -- and these before them
-pub offers_previous : (name : List ℕ) (start end : ℕ) (xs more all : List Numbered) (old mid new : BestState) → all ≡ more ++ xs → Offers (found_between name start end xs) old mid → Offers (found_between name start end more) mid new → Offers (found_between name start end all) old new
-offers_previous name start end xs more all old mid new is h k =
-    let x = found_between name start end xs in
-    let y = found_between name start end more in
-    subst (λ l. Offers l old new) (sym (between_parts name start end more xs) ∙ sym (ap (found_between name start end) is)) (offers_alike (x ++ y) (y ++ x) old new (IsPermutation-append_comm x y) (offers_both x y old mid new h k))
+pub offers_previous : (name : List ℕ) (q : Question) (xs more all : List Numbered) (old mid new : BestState) → all ≡ more ++ xs → Offers (found_between name q xs) old mid → Offers (found_between name q more) mid new → Offers (found_between name q all) old new
+offers_previous name q xs more all old mid new is h k =
+    let x = found_between name q xs in
+    let y = found_between name q more in
+    subst (λ l. Offers l old new) (sym (between_parts name q more xs) ∙ sym (ap (found_between name q) is)) (offers_alike (x ++ y) (y ++ x) old new (IsPermutation-append_comm x y) (offers_both x y old mid new h k))
 
 -- one that changes nothing, or that is not in the range
 pub refused_or_out : (b : BestState) (f : Found) (t : Bool) → Offers (f ∷ []) b b → Offers (cond t (f ∷ []) []) b b
 refused_or_out b f true still = still
 refused_or_out b f false still = offers_none b
+
+-- one that is not in the range
+pub offers_out : (name : List ℕ) (q : Question) (e : Numbered) (b : BestState) → is_within q (found_of name e) ≡ false → Offers (found_between name q (e ∷ [])) b b
+offers_out name q e b out = subst (λ t. Offers (cond t (found_of name e ∷ []) []) b b) (sym out) (offers_none b)
 
 -- ---- entries that come from a stamp on
 
@@ -102,61 +110,61 @@ first_from Forward from e es h = (omega arith, omega arith)
 first_from Backward from e es h = (omega arith, omega arith)
 
 -- the stamps of those in the range
-all_from : (order : Order) (from : ℕ) (name : List ℕ) (start end : ℕ) (es : List Numbered) → AreFrom order from es → All (λ f. IsFrom order from f.entry.stamp) (found_between name start end es)
-all_from order from name start end [] h = All-nil (λ f. IsFrom order from f.entry.stamp)
-all_from order from name start end (e ∷ es) h =
-    step (is_within start end (found_of name e)) (first_from order from e es h).0 (all_from order from name start end es (first_from order from e es h).1) where
-      step : (t : Bool) → IsFrom order from e.entry.stamp → All (λ f. IsFrom order from f.entry.stamp) (found_between name start end es) → All (λ f. IsFrom order from f.entry.stamp) (cond t (found_of name e ∷ found_between name start end es) (found_between name start end es))
-      step true here rest = All-cons (λ f. IsFrom order from f.entry.stamp) (found_of name e) (found_between name start end es) here rest
+all_from : (order : Order) (from : ℕ) (name : List ℕ) (q : Question) (es : List Numbered) → AreFrom order from es → All (λ f. IsFrom order from f.entry.stamp) (found_between name q es)
+all_from order from name q [] h = All-nil (λ f. IsFrom order from f.entry.stamp)
+all_from order from name q (e ∷ es) h =
+    step (is_within q (found_of name e)) (first_from order from e es h).0 (all_from order from name q es (first_from order from e es h).1) where
+      step : (t : Bool) → IsFrom order from e.entry.stamp → All (λ f. IsFrom order from f.entry.stamp) (found_between name q es) → All (λ f. IsFrom order from f.entry.stamp) (cond t (found_of name e ∷ found_between name q es) (found_between name q es))
+      step true here rest = All-cons (λ f. IsFrom order from f.entry.stamp) (found_of name e) (found_between name q es) here rest
       step false here rest = rest
 
 -- nothing from there on changes anything
-pub offers_from : (name : List ℕ) (start end from : ℕ) (es : List Numbered) (b : BestState) → PassesOver from b → AreFrom b.order from es → Offers (found_between name start end es) b b
-offers_from name start end from es b pass h = offers_passed from b (found_between name start end es) pass (all_from b.order from name start end es h)
+pub offers_from : (name : List ℕ) (q : Question) (from : ℕ) (es : List Numbered) (b : BestState) → PassesOver from b → AreFrom b.order from es → Offers (found_between name q es) b b
+offers_from name q from es b pass h = offers_passed from b (found_between name q es) pass (all_from b.order from name q es h)
 
 -- the same of what is found of entries
-found_from : (order : Order) (from : ℕ) (name : List ℕ) (start end : ℕ) (es : List Numbered) → All (λ e. IsFrom order from e.entry.stamp) es → All (λ f. IsFrom order from f.entry.stamp) (found_between name start end es)
-found_from order from name start end [] h = All-nil (λ f. IsFrom order from f.entry.stamp)
-found_from order from name start end (e ∷ es) h =
-    step (is_within start end (found_of name e)) (All-head (λ (x : Numbered). IsFrom order from x.entry.stamp) e es h) (found_from order from name start end es (All-tail (λ (x : Numbered). IsFrom order from x.entry.stamp) e es h)) where
-      step : (t : Bool) → IsFrom order from e.entry.stamp → All (λ f. IsFrom order from f.entry.stamp) (found_between name start end es) → All (λ f. IsFrom order from f.entry.stamp) (cond t (found_of name e ∷ found_between name start end es) (found_between name start end es))
-      step true here rest = All-cons (λ f. IsFrom order from f.entry.stamp) (found_of name e) (found_between name start end es) here rest
+found_from : (order : Order) (from : ℕ) (name : List ℕ) (q : Question) (es : List Numbered) → All (λ e. IsFrom order from e.entry.stamp) es → All (λ f. IsFrom order from f.entry.stamp) (found_between name q es)
+found_from order from name q [] h = All-nil (λ f. IsFrom order from f.entry.stamp)
+found_from order from name q (e ∷ es) h =
+    step (is_within q (found_of name e)) (All-head (λ (x : Numbered). IsFrom order from x.entry.stamp) e es h) (found_from order from name q es (All-tail (λ (x : Numbered). IsFrom order from x.entry.stamp) e es h)) where
+      step : (t : Bool) → IsFrom order from e.entry.stamp → All (λ f. IsFrom order from f.entry.stamp) (found_between name q es) → All (λ f. IsFrom order from f.entry.stamp) (cond t (found_of name e ∷ found_between name q es) (found_between name q es))
+      step true here rest = All-cons (λ f. IsFrom order from f.entry.stamp) (found_of name e) (found_between name q es) here rest
       step false here rest = rest
 
-pub found_passed : (name : List ℕ) (start end from : ℕ) (es : List Numbered) (b : BestState) → PassesOver from b → All (λ e. IsFrom b.order from e.entry.stamp) es → Offers (found_between name start end es) b b
-found_passed name start end from es b pass h = offers_passed from b (found_between name start end es) pass (found_from b.order from name start end es h)
+pub found_passed : (name : List ℕ) (q : Question) (from : ℕ) (es : List Numbered) (b : BestState) → PassesOver from b → All (λ e. IsFrom b.order from e.entry.stamp) es → Offers (found_between name q es) b b
+found_passed name q from es b pass h = offers_passed from b (found_between name q es) pass (found_from b.order from name q es h)
 
 -- those of a run from one on that is passed over, in the order in which it rises
-module _ (rise : StampsRise) (name : List ℕ) (start end : ℕ) (run : List Numbered) (up : AreInOrder run) (i : ℕ) (e : Numbered) (within : i < length run) (is : e ≡ get_or run i e) where
+module _ (rise : StampsRise) (name : List ℕ) (q : Question) (run : List Numbered) (up : AreInOrder run) (i : ℕ) (e : Numbered) (within : i < length run) (is : e ≡ get_or run i e) where
   split : run ≡ take i run ++ e ∷ drop (i + 1) run
   split = sym (take-append-drop i run) ∙ ap (λ l. take i run ++ l) (left_from run i e within is)
 
   both_sides : All (λ x. x.entry.stamp ≤ e.entry.stamp) (take i run) × All (λ x. e.entry.stamp ≤ x.entry.stamp) (drop (i + 1) run)
   both_sides = rise (take i run) (drop (i + 1) run) e (subst AreInOrder split up)
 
-  pub rest_of_run : (old b : BestState) → b.order ≡ Forward → PassesOver e.entry.stamp b → Offers (found_between name start end (take i run)) old b → Offers (found_between name start end run) old b
+  pub rest_of_run : (old b : BestState) → b.order ≡ Forward → PassesOver e.entry.stamp b → Offers (found_between name q (take i run)) old b → Offers (found_between name q run) old b
   rest_of_run old b forward pass so_far =
       let rest : All (λ (x : Numbered). IsFrom b.order e.entry.stamp x.entry.stamp) (e ∷ drop (i + 1) run) =
       subst (λ o. All (λ (x : Numbered). IsFrom o e.entry.stamp x.entry.stamp) (e ∷ drop (i + 1) run)) (sym forward)
       (All-cons (λ (x : Numbered). e.entry.stamp ≤ x.entry.stamp) e (drop (i + 1) run) (omega arith) both_sides.1) in
-      offers_next name start end (take i run) (e ∷ drop (i + 1) run) run old b b split so_far (found_passed name start end e.entry.stamp (e ∷ drop (i + 1) run) b pass rest)
+      offers_next name q (take i run) (e ∷ drop (i + 1) run) run old b b split so_far (found_passed name q e.entry.stamp (e ∷ drop (i + 1) run) b pass rest)
 
   -- and those up to one, where it falls
-  pub front_of_run : (old b : BestState) → b.order ≡ Backward → PassesOver e.entry.stamp b → Offers (found_between name start end (drop (i + 1) run)) old b → Offers (found_between name start end run) old b
+  pub front_of_run : (old b : BestState) → b.order ≡ Backward → PassesOver e.entry.stamp b → Offers (found_between name q (drop (i + 1) run)) old b → Offers (found_between name q run) old b
   front_of_run old b backward pass so_far =
       let front : All (λ (x : Numbered). IsFrom b.order e.entry.stamp x.entry.stamp) (take i run ++ e ∷ []) =
       subst (λ o. All (λ (x : Numbered). IsFrom o e.entry.stamp x.entry.stamp) (take i run ++ e ∷ [])) (sym backward)
       (All-push (λ (x : Numbered). x.entry.stamp ≤ e.entry.stamp) (take i run) e both_sides.0 (omega arith)) in
-      offers_previous name start end (drop (i + 1) run) (take i run ++ e ∷ []) run old b b (split ∙ sym (append_assoc (take i run) (e ∷ []) (drop (i + 1) run))) so_far
-      (found_passed name start end e.entry.stamp (take i run ++ e ∷ []) b pass front)
+      offers_previous name q (drop (i + 1) run) (take i run ++ e ∷ []) run old b b (split ∙ sym (append_assoc (take i run) (e ∷ []) (drop (i + 1) run))) so_far
+      (found_passed name q e.entry.stamp (take i run ++ e ∷ []) b pass front)
 
 pub holds : (b : Bool) → not b ≡ false → b ≡ true
 holds true h = refl
 holds false h = absurd (cc)
 
 -- none of them is in the range
-pub offers_missed : (name : List ℕ) (start end : ℕ) (es : List Numbered) (b : BestState) → filter (is_between start end) es ≡ [] → Offers (found_between name start end es) b b
-offers_missed name start end es b none = subst (λ l. Offers l b b) (sym (missed start end name es none)) (offers_none b)
+pub offers_missed : (name : List ℕ) (q : Question) (es : List Numbered) (b : BestState) → filter (is_between q.start q.end) es ≡ [] → Offers (found_between name q es) b b
+offers_missed name q es b none = subst (λ l. Offers l b b) (sym (missed q name es none)) (offers_none b)
 
 -- one goes ahead of the others that are left
 pub offers_step : (x : Found) (rest left all : List Found) (old mid new last : BestState) → left ≡ x ∷ rest → Offers (x ∷ []) mid new → ((last : BestState) → Offers left mid last → Offers all old last) → Offers rest new last → Offers all old last

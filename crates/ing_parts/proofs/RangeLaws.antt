@@ -1,5 +1,5 @@
 -- Entries of a range of stamps, as they are and as a query gives them.
-use Rattle.std.proofs.Common.{◌≡◌, refl, ℕ, List, [], ◌∷◌, ◌++◌, map, filter, cond, Bool, true, false, ap, sym, ◌∙◌, subst, append-nil, append_assoc}
+use Rattle.std.proofs.Common.{◌≡◌, refl, ℕ, List, [], ◌∷◌, ◌++◌, map, filter, cond, ◌&&◌, Bool, true, false, ap, sym, ◌∙◌, subst, append-nil, append_assoc}
 use Rattle.std.specs.Prelude.{IsPermutation}
 use Rattle.std.proofs.lemmas.List.{flat_map_more, map-append}
 use Rattle.std.proofs.lemmas.List.Elements.{filter-append}
@@ -10,66 +10,66 @@ use Rattle.ing_parts.specs.declared.snapshot.Part.{Part}
 use Rattle.ing_parts.specs.declared.found.Found.{Found}
 use Rattle.ing_parts.specs.declared.snapshot.Snapshot.{Snapshot}
 use Rattle.ing_parts.specs.Answers.{AreSomeOf, Offers, StandFor}
-use Rattle.ing_parts.specs.Parts.{Adds, found_between, found_of, found_in, found_among, is_within, standing, wanted, within}
+use Rattle.ing_parts.specs.Parts.{Adds, asked, found_between, found_of, found_in, found_among, is_behind, is_within, standing, wanted, within}
+use Rattle.ing_parts.specs.Questions.{Question, question_view}
 use Rattle.ing_parts.proofs.Reordered.{filter_reordered}
 use Rattle.ing_parts.proofs.SomeLaws.{some_alike, some_behind, some_beside, some_first, some_pass, some_still, some_through}
 use Rattle.ing_parts.proofs.StandLaws.{stand_alike, stand_beside, stand_still, stand_through}
 
--- what is wanted of entries is what is found of those in the range
-within_step : (start end : ℕ) (name : List ℕ) (e : Numbered) (es : List Numbered) (b : Bool) → within start end (map (found_of name) es) ≡ map (found_of name) (filter (is_between start end) es)
-    → cond b (found_of name e ∷ within start end (map (found_of name) es)) (within start end (map (found_of name) es)) ≡ map (found_of name) (cond b (e ∷ filter (is_between start end) es) (filter (is_between start end) es))
-within_step start end name e es true h = ap (λ l. found_of name e ∷ l) h
-within_step start end name e es false h = h
+-- what is wanted of entries is what is found of those of its stamps, as far as it stands behind the cursor
+within_step : (q : Question) (name : List ℕ) (e : Numbered) (es : List Numbered) (t : Bool) → within q (map (found_of name) es) ≡ filter (is_behind q.order q.after) (map (found_of name) (filter (is_between q.start q.end) es))
+    → cond (t && is_behind q.order q.after (found_of name e)) (found_of name e ∷ within q (map (found_of name) es)) (within q (map (found_of name) es))
+    ≡ filter (is_behind q.order q.after) (map (found_of name) (cond t (e ∷ filter (is_between q.start q.end) es) (filter (is_between q.start q.end) es)))
+within_step q name e es true h = ap (λ l. cond (is_behind q.order q.after (found_of name e)) (found_of name e ∷ l) l) h
+within_step q name e es false h = h
 
-pub within_of : (start end : ℕ) (name : List ℕ) (es : List Numbered) → within start end (map (found_of name) es) ≡ map (found_of name) (filter (is_between start end) es)
-within_of start end name [] = refl
-within_of start end name (e ∷ es) = within_step start end name e es (is_between start end e) (within_of start end name es)
+pub within_of : (q : Question) (name : List ℕ) (es : List Numbered) → within q (map (found_of name) es) ≡ filter (is_behind q.order q.after) (map (found_of name) (filter (is_between q.start q.end) es))
+within_of q name [] = refl
+within_of q name (e ∷ es) = within_step q name e es (is_between q.start q.end e) (within_of q name es)
 
--- nothing is wanted where no entry is in the range
-pub missed : (start end : ℕ) (name : List ℕ) (es : List Numbered) → filter (is_between start end) es ≡ [] → within start end (map (found_of name) es) ≡ []
-missed start end name es none = within_of start end name es ∙ ap (map (found_of name)) none
+-- nothing is wanted where no entry has a stamp that is wanted
+pub missed : (q : Question) (name : List ℕ) (es : List Numbered) → filter (is_between q.start q.end) es ≡ [] → within q (map (found_of name) es) ≡ []
+missed q name es none = within_of q name es ∙ ap (λ l. filter (is_behind q.order q.after) (map (found_of name) l)) none
 
 -- one more part
 pub found_more : {R : Type 0} (ps : List (Part R)) (p : Part R) → found_among (ps ++ p ∷ []) ≡ found_among ps ++ found_in p
 found_more ps p = sym (flat_map_more found_in [] ps p)
 
-pub within_more : {R : Type 0} (start end : ℕ) (ps : List (Part R)) (p : Part R) → within start end (found_among (ps ++ p ∷ [])) ≡ within start end (found_among ps) ++ within start end (found_in p)
-within_more start end ps p = ap (within start end) (found_more ps p) ∙ filter-append _ (found_among ps) (found_in p)
+pub within_more : {R : Type 0} (q : Question) (ps : List (Part R)) (p : Part R) → within q (found_among (ps ++ p ∷ [])) ≡ within q (found_among ps) ++ within q (found_in p)
+within_more q ps p = ap (within q) (found_more ps p) ∙ filter-append _ (found_among ps) (found_in p)
 
 -- ---- what is added to a snapshot
 
 -- nothing, where nothing of it is wanted
-pub adds_none : {R : Type 0} (name : List ℕ) (es : List Numbered) (s : Snapshot R) → filter (is_between s.start s.end) es ≡ [] → Adds (map (found_of name) es) s s
+pub adds_none : {R : Type 0} (name : List ℕ) (es : List Numbered) (s : Snapshot R) → filter (is_between s.question.start s.question.end) es ≡ [] → Adds (map (found_of name) es) s s
 adds_none name es s none = record {
   front = refl;
-  start = refl;
-  end = refl;
+  question = refl;
   order = refl;
   limit = refl;
   drawn = some_first (standing s) (map (found_of name) es);
-  kept = some_first s.best.held (within s.start s.end (map (found_of name) es));
-  stand = subst (StandFor s.best.order s.best.limit (wanted s)) (sym (append-nil (wanted s)) ∙ ap (λ l. wanted s ++ l) (sym (missed s.start s.end name es none))) (stand_still s.best.order s.best.limit (wanted s));
+  kept = some_first s.best.held (within (asked s) (map (found_of name) es));
+  stand = subst (StandFor s.best.order s.best.limit (wanted s)) (sym (append-nil (wanted s)) ∙ ap (λ l. wanted s ++ l) (sym (missed (asked s) name es none))) (stand_still s.best.order s.best.limit (wanted s));
 }
 
 -- a part
-pub adds_part : {R : Type 0} (p : Part R) (old new : Snapshot R) → new.front ≡ old.front → new.start ≡ old.start → new.end ≡ old.end → new.best ≡ old.best → new.parts.items ≡ old.parts.items ++ p ∷ [] → Adds (found_in p) old new
-adds_part p old new front start end best parts =
-    let more : wanted new ≡ wanted old ++ within old.start old.end (found_in p) =
-    (λ i. (best i).held ++ within (start i) (end i) (found_among (parts i)))
-    ∙ ap (λ l. old.best.held ++ l) (within_more old.start old.end old.parts.items p)
-    ∙ sym (append_assoc old.best.held (within old.start old.end (found_among old.parts.items)) (within old.start old.end (found_in p))) in
+pub adds_part : {R : Type 0} (p : Part R) (old new : Snapshot R) → new.front ≡ old.front → new.question ≡ old.question → new.best ≡ old.best → new.parts.items ≡ old.parts.items ++ p ∷ [] → Adds (found_in p) old new
+adds_part p old new front question best parts =
+    let more : wanted new ≡ wanted old ++ within (asked old) (found_in p) =
+    (λ i. (best i).held ++ within (question_view (question i)) (found_among (parts i)))
+    ∙ ap (λ l. old.best.held ++ l) (within_more (asked old) old.parts.items p)
+    ∙ sym (append_assoc old.best.held (within (asked old) (found_among old.parts.items)) (within (asked old) (found_in p))) in
     let all : standing new ≡ standing old ++ found_in p =
     (λ i. (best i).held ++ found_among (parts i))
     ∙ ap (λ l. old.best.held ++ l) (found_more old.parts.items p)
     ∙ sym (append_assoc old.best.held (found_among old.parts.items) (found_in p)) in
     record {
       front = front;
-      start = start;
-      end = end;
+      question = question;
       order = ap (λ b. b.order) best;
       limit = ap (λ b. b.limit) best;
       drawn = subst (AreSomeOf (standing new)) all (some_still (standing new));
-      kept = subst (λ b. AreSomeOf b.held (old.best.held ++ within old.start old.end (found_in p))) (sym best) (some_first old.best.held (within old.start old.end (found_in p)));
+      kept = subst (λ b. AreSomeOf b.held (old.best.held ++ within (asked old) (found_in p))) (sym best) (some_first old.best.held (within (asked old) (found_in p)));
       stand = subst (StandFor old.best.order old.best.limit (wanted new)) more (stand_still old.best.order old.best.limit (wanted new));
     }
 
@@ -80,15 +80,15 @@ aside us xs ys =
     (subst (λ l. IsPermutation (us ++ (xs ++ ys)) l) (sym (append_assoc us ys xs)) (IsPermutation-append_right us (xs ++ ys) (ys ++ xs) (IsPermutation-append_comm xs ys)))
 
 -- what is offered to those that it keeps
-pub adds_offered : {R : Type 0} (name : List ℕ) (es : List Numbered) (old new : Snapshot R) → new.front ≡ old.front → new.start ≡ old.start → new.end ≡ old.end → new.parts.items ≡ old.parts.items → Offers (found_between name old.start old.end es) old.best new.best → Adds (map (found_of name) es) old new
-adds_offered name es old new front start end parts h =
+pub adds_offered : {R : Type 0} (name : List ℕ) (es : List Numbered) (old new : Snapshot R) → new.front ≡ old.front → new.question ≡ old.question → new.parts.items ≡ old.parts.items → Offers (found_between name (asked old) es) old.best new.best → Adds (map (found_of name) es) old new
+adds_offered name es old new front question parts h =
     let o = old.best.order in
     let n = old.best.limit in
-    let all = found_between name old.start old.end es in
-    let there = within old.start old.end (found_among old.parts.items) in
+    let all = found_between name (asked old) es in
+    let there = within (asked old) (found_among old.parts.items) in
     let beside : StandFor o n (new.best.held ++ there) ((old.best.held ++ all) ++ there) = stand_beside o n new.best.held (old.best.held ++ all) there h.stand in
     let same : IsPermutation ((old.best.held ++ all) ++ there) ((old.best.held ++ there) ++ all) = aside old.best.held all there in
-    let is : new.best.held ++ there ≡ wanted new = λ i. new.best.held ++ within (sym start i) (sym end i) (found_among (sym parts i)) in
+    let is : new.best.held ++ there ≡ wanted new = λ i. new.best.held ++ within (question_view (sym question i)) (found_among (sym parts i)) in
     let among = found_among old.parts.items in
     let found = map (found_of name) es in
     let drawn : AreSomeOf (new.best.held ++ among) ((old.best.held ++ among) ++ found) =
@@ -96,11 +96,10 @@ adds_offered name es old new front start end parts h =
     (some_beside new.best.held (old.best.held ++ all) among h.drawn)
     (some_through ((old.best.held ++ all) ++ among) ((old.best.held ++ among) ++ all) ((old.best.held ++ among) ++ found)
     (some_alike ((old.best.held ++ all) ++ among) ((old.best.held ++ among) ++ all) (aside old.best.held all among))
-    (some_behind (old.best.held ++ among) all found (some_pass (is_within old.start old.end) found))) in
+    (some_behind (old.best.held ++ among) all found (some_pass (is_within (asked old)) found))) in
     record {
       front = front;
-      start = start;
-      end = end;
+      question = question;
       order = h.order;
       limit = h.limit;
       drawn = subst (λ l. AreSomeOf (new.best.held ++ found_among l) (standing old ++ found)) (sym parts) drawn;
@@ -113,8 +112,7 @@ adds_offered name es old new front start end parts h =
 pub adds_nothing : {R : Type 0} (s : Snapshot R) → Adds [] s s
 adds_nothing s = record {
   front = refl;
-  start = refl;
-  end = refl;
+  question = refl;
   order = refl;
   limit = refl;
   drawn = some_first (standing s) [];
@@ -126,19 +124,18 @@ pub adds_both : {R : Type 0} (a b : List Found) (old mid new : Snapshot R) → A
 adds_both a b old mid new h k =
     let o = old.best.order in
     let n = old.best.limit in
-    let here = within old.start old.end a in
-    let there = within old.start old.end b in
+    let here = within (asked old) a in
+    let there = within (asked old) b in
     let later : StandFor o n (wanted new) (wanted mid ++ there) =
-    subst (λ l. StandFor o n (wanted new) (wanted mid ++ l)) (λ i. within (h.start i) (h.end i) b)
-    (subst (λ m. StandFor o m (wanted new) (wanted mid ++ within mid.start mid.end b)) h.limit (subst (λ q. StandFor q mid.best.limit (wanted new) (wanted mid ++ within mid.start mid.end b)) h.order k.stand)) in
+    subst (λ l. StandFor o n (wanted new) (wanted mid ++ l)) (λ i. within (question_view (h.question i)) b)
+    (subst (λ m. StandFor o m (wanted new) (wanted mid ++ within (asked mid) b)) h.limit (subst (λ q. StandFor q mid.best.limit (wanted new) (wanted mid ++ within (asked mid) b)) h.order k.stand)) in
     let sooner : StandFor o n (wanted mid ++ there) ((wanted old ++ here) ++ there) = stand_beside o n (wanted mid) (wanted old ++ here) there h.stand in
-    let all : (us : List Found) → (us ++ here) ++ there ≡ us ++ within old.start old.end (a ++ b) =
+    let all : (us : List Found) → (us ++ here) ++ there ≡ us ++ within (asked old) (a ++ b) =
     λ us. append_assoc us here there ∙ ap (λ l. us ++ l) (sym (filter-append _ a b)) in
-    let last : AreSomeOf new.best.held (mid.best.held ++ there) = subst (λ l. AreSomeOf new.best.held (mid.best.held ++ l)) (λ i. within (h.start i) (h.end i) b) k.kept in
+    let last : AreSomeOf new.best.held (mid.best.held ++ there) = subst (λ l. AreSomeOf new.best.held (mid.best.held ++ l)) (λ i. within (question_view (h.question i)) b) k.kept in
     record {
       front = k.front ∙ h.front;
-      start = k.start ∙ h.start;
-      end = k.end ∙ h.end;
+      question = k.question ∙ h.question;
       order = k.order ∙ h.order;
       limit = k.limit ∙ h.limit;
       drawn = subst (AreSomeOf (standing new)) (append_assoc (standing old) a b) (some_through (standing new) (standing mid ++ b) ((standing old ++ a) ++ b) k.drawn (some_beside (standing mid) (standing old ++ a) b h.drawn));
@@ -151,13 +148,12 @@ pub adds_alike : {R : Type 0} (a b : List Found) (old new : Snapshot R) → IsPe
 adds_alike a b old new same h =
     let o = old.best.order in
     let n = old.best.limit in
-    let here = within old.start old.end a in
-    let there = within old.start old.end b in
-    let ranged : (us : List Found) → IsPermutation (us ++ here) (us ++ there) = λ us. IsPermutation-append_right us here there (filter_reordered (is_within old.start old.end) a b same) in
+    let here = within (asked old) a in
+    let there = within (asked old) b in
+    let ranged : (us : List Found) → IsPermutation (us ++ here) (us ++ there) = λ us. IsPermutation-append_right us here there (filter_reordered (is_within (asked old)) a b same) in
     record {
       front = h.front;
-      start = h.start;
-      end = h.end;
+      question = h.question;
       order = h.order;
       limit = h.limit;
       drawn = some_through (standing new) (standing old ++ a) (standing old ++ b) h.drawn (some_alike (standing old ++ a) (standing old ++ b) (IsPermutation-append_right (standing old) a b same));

@@ -18,7 +18,7 @@ use Rattle.ing_parts.proofs.Insertion.{first_are_same, inserted, inserts, sorted
 
 -- ---- the order of an answer
 
-total : IsTotalOrder (then_cmp (on (λ (f : Found). f.entry.stamp) nat_cmp) (then_cmp (on (λ (f : Found). f.name) (slice_cmp nat_cmp)) (on (λ (f : Found). f.number) nat_cmp)))
+pub total : IsTotalOrder (then_cmp (on (λ (f : Found). f.entry.stamp) nat_cmp) (then_cmp (on (λ (f : Found). f.name) (slice_cmp nat_cmp)) (on (λ (f : Found). f.number) nat_cmp)))
 total = then_total (on_total (λ (f : Found). f.entry.stamp) nat_cmp_total) (then_total (on_total (λ (f : Found). f.name) nat_list_cmp_total) (on_total (λ (f : Found). f.number) nat_cmp_total))
 
 first_is_order : IsStrictWeakOrder comes_first

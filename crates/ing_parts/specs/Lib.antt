@@ -2,3 +2,4 @@ pub mod Answers
 pub mod Kept
 pub mod Listings
 pub mod Parts
+pub mod Questions

@@ -1,7 +1,8 @@
 -- Where entries of streams stand that a query may want, and what a query gives of them.
 -- What names no section of the Loki documentation is own.
-use Rattle.std.specs.Prelude.{◌≡◌, ◌++◌, ℕ, ◌≤◌, Bool, ◌&&◌, nat_le, nat_lt, List, map, filter, IsPermutation}
+use Rattle.std.specs.Prelude.{◌≡◌, ◌++◌, ℕ, ◌≤◌, Bool, true, ◌&&◌, nat_le, nat_lt, List, [], map, filter, Option, None, Some, IsPermutation}
 use Rattle.std.specs.List.{AllPass, flat_map}
+use Rattle.ing_rows.specs.Cursors.{Cursor}
 use Rattle.ing_rows.specs.Rows.{StreamKey, Row}
 use Rattle.ing_chunk.specs.declared.numbered.Numbered.{Numbered}
 use Rattle.ing_chunk.specs.Chunks.{ChunksContents, block_rows, entries_in_memory, greatest_of, in_blocks, least_of, stream_state}
@@ -12,7 +13,8 @@ use Rattle.ing_parts.specs.declared.snapshot.Source.{Source}
 use Rattle.ing_parts.specs.declared.snapshot.Source.TheVariants.{Block, Stored}
 use Rattle.ing_rows.specs.declared.order.Order.{Order}
 use Rattle.ing_rows.specs.declared.order.Order.TheVariants.{Forward, Backward}
-use Rattle.ing_parts.specs.Answers.{AreSomeOf, StandFor}
+use Rattle.ing_parts.specs.Answers.{AreSomeOf, StandFor, precedes}
+use Rattle.ing_parts.specs.Questions.{Question, question_view}
 
 -- the entries of a place
 abbrev pub entries_in : {R : Type 0} → Source R → List Numbered
@@ -35,46 +37,71 @@ found_in p = map (found_of p.name) (entries_in p.source)
 abbrev pub found_among : {R : Type 0} → List (Part R) → List Found
 found_among ps = flat_map found_in ps
 
--- the stamp is at least the start and below the end (Loki documentation: HTTP API, query range: start and end)
-abbrev pub is_within : ℕ → ℕ → Found → Bool
-is_within start end f = nat_le start f.entry.stamp && nat_lt f.entry.stamp end
+-- an entry that stands where a cursor is; its line does not count in an order
+abbrev pub found_there : Cursor → Found
+found_there c = record { name = c.stream; number = c.number; entry = record { stamp = c.stamp; line = [] } }
 
--- those whose stamp is in the range
-abbrev pub within : ℕ → ℕ → List Found → List Found
-within start end = filter (is_within start end)
+-- the place of an entry
+abbrev pub place_of : Found → Cursor
+place_of f = record { stamp = f.entry.stamp; stream = f.name; number = f.number }
 
--- of entries of the stream of this name those whose stamp is in the range
-abbrev pub found_between : List ℕ → ℕ → ℕ → List Numbered → List Found
-found_between name start end es = within start end (map (found_of name) es)
+-- an entry stands behind the cursor in the order, where there is one
+abbrev pub is_behind : Order → Option Cursor → Found → Bool
+is_behind order None f = true
+is_behind order (Some c) f = precedes order (found_there c) f
+
+-- an entry is in the range of a question: its stamp is at least the start and below the end (Loki documentation: HTTP API, query
+-- range: start and end), and it stands behind the cursor
+abbrev pub is_within : Question → Found → Bool
+is_within q f = (nat_le q.start f.entry.stamp && nat_lt f.entry.stamp q.end) && is_behind q.order q.after f
+
+-- those in the range
+abbrev pub within : Question → List Found → List Found
+within q = filter (is_within q)
+
+-- the same question, of what stands behind this entry
+abbrev pub behind : Found → Question → Question
+behind last q = record { start = q.start; end = q.end; order = q.order; limit = q.limit; after = Some (place_of last) }
+
+-- of entries of the stream of this name those in the range
+abbrev pub found_between : List ℕ → Question → List Numbered → List Found
+found_between name q es = within q (map (found_of name) es)
 
 -- the stamp of each of these entries is this one or comes after it in the order
 abbrev pub AreFrom : Order → ℕ → List Numbered → Type 0
 AreFrom Forward from es = from ≤ least_of es
 AreFrom Backward from es = greatest_of es ≤ from
 
--- the entries of a snapshot that are wanted: those that it keeps, and those of its parts whose stamp is in its range
+-- what a snapshot is asked
+abbrev pub asked : {R : Type 0} → Snapshot R → Question
+asked s = question_view s.question
+
+-- the entries of a snapshot that are wanted: those that it keeps, and those of its parts that are in its range
 abbrev pub wanted : {R : Type 0} → Snapshot R → List Found
-wanted s = s.best.held ++ within s.start s.end (found_among s.parts.items)
+wanted s = s.best.held ++ within (asked s) (found_among s.parts.items)
 
 -- the entries that stand in a snapshot: those that it keeps, and all of its parts
 abbrev pub standing : {R : Type 0} → Snapshot R → List Found
 standing s = s.best.held ++ found_among s.parts.items
 
--- the stamp of each entry that a snapshot keeps is in its range
+-- the range of a snapshot is that of a question, whatever it says of stamps that the cursor leaves out
+abbrev pub HasRangeOf : {R : Type 0} → Question → Snapshot R → Type 0
+HasRangeOf q s = (f : Found) → is_within (asked s) f ≡ is_within q f
+
+-- each entry that a snapshot keeps is in its range
 abbrev pub KeepsInRange : {R : Type 0} → Snapshot R → Type 0
-KeepsInRange s = AllPass (is_within s.start s.end) s.best.held
+KeepsInRange s = AllPass (is_within (asked s)) s.best.held
 
 -- what is wanted of these entries is added to a snapshot, as far as it may be in an answer; no other is added,
 -- none twice, and of those out of its range none is kept
 pub record Adds {R : Type 0} (all : List Found) (old new : Snapshot R) : Type 0 where
   pub front : new.front ≡ old.front
-  pub start : new.start ≡ old.start
-  pub end : new.end ≡ old.end
+  pub question : new.question ≡ old.question
   pub order : new.best.order ≡ old.best.order
   pub limit : new.best.limit ≡ old.best.limit
   pub drawn : AreSomeOf (standing new) (standing old ++ all)
-  pub kept : AreSomeOf new.best.held (old.best.held ++ within old.start old.end all)
-  pub stand : StandFor old.best.order old.best.limit (wanted new) (wanted old ++ within old.start old.end all)
+  pub kept : AreSomeOf new.best.held (old.best.held ++ within (asked old) all)
+  pub stand : StandFor old.best.order old.best.limit (wanted new) (wanted old ++ within (asked old) all)
 
 -- the same of these rows
 abbrev pub AddsRows : {R : Type 0} → List Row → Snapshot R → Snapshot R → Type 0
@@ -96,8 +123,8 @@ ListsRows rows old new = AddsParts (map found_at rows) old new
 -- range; and what is wanted of it stands for all of those in its range
 pub record HasRows {R : Type 0} (rows : List Row) (s : Snapshot R) : Type 0 where
   pub drawn : AreSomeOf (standing s) (map found_at rows)
-  pub kept : AreSomeOf s.best.held (within s.start s.end (map found_at rows))
-  pub stand : StandFor s.best.order s.best.limit (wanted s) (within s.start s.end (map found_at rows))
+  pub kept : AreSomeOf s.best.held (within (asked s) (map found_at rows))
+  pub stand : StandFor s.best.order s.best.limit (wanted s) (within (asked s) (map found_at rows))
 
 -- ---- rows of chunks
 

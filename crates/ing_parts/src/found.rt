@@ -3,11 +3,15 @@ ghost use Rattle.std.specs.Prelude.{◌≡◌, IfOk};
 ghost use Rattle.ing_labels.specs.Canonical.{canonical_of};
 ghost use Rattle.std.specs.Cmp.Lexicographic.{slice_cmp};
 ghost use Rattle.std.specs.Ordering.{is_lt, nat_cmp, ordering_then};
+ghost use Rattle.ing_rows.specs.Cursors.{cursor_view};
+ghost use Rattle.ing_parts.specs.declared.found.Found.{Found};
 ghost use Rattle.ing_rows.specs.declared.entry.Entry.{Entry};
 ghost use Rattle.ing_parts.specs.Answers as answers;
+ghost use Rattle.ing_parts.specs.Parts.{found_there, is_within};
+ghost use Rattle.ing_parts.specs.Questions.{question_view};
 
 use ing_labels::Labels;
-use ing_rows::{Entry, Order};
+use ing_rows::{Cursor, Entry, Order};
 use std::alloc::AllocError;
 use std::cmp::Ordering;
 use std::marker::Model;
@@ -76,9 +80,9 @@ impl StreamName {
     }
 }
 
-/// What is asked of entries.
-#[derive(Clone, Copy, Debug, PartialEq, Eq)]
-pub struct Question {
+/// What is asked of entries (Loki documentation: HTTP API, query range; the cursor is own).
+#[derive(Clone, Copy, Debug)]
+pub struct Question<'a> {
     /// The least stamp that is wanted, in nanoseconds.
     pub start: u64,
     /// What each stamp that is wanted is below, in nanoseconds.
@@ -87,25 +91,83 @@ pub struct Question {
     pub order: Order,
     /// How many entries the answer may have.
     pub limit: usize,
+    /// What each entry that is wanted stands behind in that order, where a page goes on.
+    pub after: Option<Cursor<'a>>,
+}
+
+impl<'a> Question<'a> {
+    /// The same question, with no more stamps than its cursor leaves: so what lies before a page is passed over as what lies out of
+    /// the range. Constant.
+    pub fn narrowed(self) -> Question<'a>
+        ensures same { (f : Found) →
+            is_within (question_view result) f ≡ is_within (question_view self.entry) f }
+        ensures order { result.order ≡ self.entry.order }
+        ensures limit { result.limit ≡ self.entry.limit }
+    {
+        let Some(cursor) = self.after else {
+            return self;
+        };
+        match self.order {
+            Order::Forward => {
+                if self.start < cursor.stamp {
+                    return Question {
+                        start: cursor.stamp,
+                        ..self
+                    };
+                }
+            }
+            Order::Backward => {
+                if cursor.stamp < self.end {
+                    return Question {
+                        end: cursor.stamp + 1,
+                        ..self
+                    };
+                }
+            }
+        }
+        self
+    }
+
+    /// Whether an entry of this stamp, name and number is wanted. Constant, but for names of one stamp.
+    #[inline]
+    pub fn wants(&self, stamp: u64, name: &StreamName, number: u64) -> bool
+        ensures { (entry : Entry) → entry.stamp ≡ stamp → result ≡ is_within (question_view self.now)
+            (record { name = name.now; number = number; entry = entry }) }
+    {
+        if stamp < self.start || self.end <= stamp {
+            return false;
+        }
+        match self.after {
+            None => true,
+            Some(cursor) => goes_behind(self.order, cursor, stamp, name, number),
+        }
+    }
 }
 
 /// How one name and number stand to others.
 #[inline(never)]
-fn compare_ties(
-    one_name: &StreamName,
-    one_number: u64,
-    other_name: &StreamName,
-    other_number: u64,
-) -> Ordering
+fn compare_ties(one_name: &str, one_number: u64, other_name: &str, other_number: u64) -> Ordering
     ensures { result ≡ ordering_then (slice_cmp nat_cmp one_name.now other_name.now)
         (nat_cmp one_number other_number) }
 {
-    (one_name.as_str(), one_number).cmp(&(other_name.as_str(), other_number))
+    (one_name, one_number).cmp(&(other_name, other_number))
 }
 
 /// How one stamp, name and number stand to others. Few stamps are the same, so names are compared out of line.
 #[inline(always)]
 fn compare_keys(one: (u64, &StreamName, u64), other: (u64, &StreamName, u64)) -> Ordering
+    ensures { let from = one.entry in let to = other.entry in
+        result ≡ ordering_then (nat_cmp from.0 to.0)
+        (ordering_then (slice_cmp nat_cmp from.1.now to.1.now) (nat_cmp from.2 to.2)) }
+{
+    match one.0.cmp(&other.0) {
+        Ordering::Equal => compare_ties(one.1.as_str(), one.2, other.1.as_str(), other.2),
+        unequal => unequal,
+    }
+}
+
+/// The same of names as they are spelt.
+fn compare_places(one: (u64, &str, u64), other: (u64, &str, u64)) -> Ordering
     ensures { let from = one.entry in let to = other.entry in
         result ≡ ordering_then (nat_cmp from.0 to.0)
         (ordering_then (slice_cmp nat_cmp from.1.now to.1.now) (nat_cmp from.2 to.2)) }
@@ -142,5 +204,19 @@ pub(crate) fn goes_before(
     match order {
         Order::Forward => compare_keys(key, other.key()).is_lt(),
         Order::Backward => compare_keys(other.key(), key).is_lt(),
+    }
+}
+
+/// Whether an answer has an entry of this stamp, name and number behind the place of a cursor.
+fn goes_behind(order: Order, cursor: Cursor<'_>, stamp: u64, name: &StreamName, number: u64) -> bool
+    ensures { (entry : Entry) → entry.stamp ≡ stamp →
+        result ≡ answers.precedes order (found_there (cursor_view cursor.entry))
+        (record { name = name.now; number = number; entry = entry }) }
+{
+    let place = (cursor.stamp, cursor.stream, cursor.number);
+    let key = (stamp, name.as_str(), number);
+    match order {
+        Order::Forward => compare_places(place, key).is_lt(),
+        Order::Backward => compare_places(key, place).is_lt(),
     }
 }

@@ -1,5 +1,5 @@
 //! What holds of all snapshots, for the crates above.
-ghost use Rattle.std.specs.Prelude.{◌≡◌, ◌<◌, ◌≤◌, ◌+◌, ◌++◌, ◌∷◌, ℕ, [], Bool, List, All, IsPermutation, drop, filter, get_or, length, map, take};
+ghost use Rattle.std.specs.Prelude.{◌≡◌, ◌<◌, ◌≤◌, ◌+◌, ◌++◌, ◌∷◌, ℕ, [], Bool, false, List, All, IsPermutation, drop, filter, get_or, length, map, take};
 ghost use Rattle.std.specs.List.{Contains};
 ghost use Rattle.std.specs.List.Sorted.{IsSortedBy};
 ghost use Rattle.ing_rows.specs.Rows.{Row};
@@ -7,10 +7,11 @@ ghost use Rattle.ing_parts.specs.declared.found.Found.{Found};
 ghost use Rattle.ing_rows.specs.declared.order.Order.{Order};
 ghost use Rattle.ing_parts.specs.declared.snapshot.Part.{Part};
 ghost use Rattle.ing_parts.specs.declared.snapshot.Snapshot.{Snapshot};
-ghost use Rattle.ing_parts.specs.Answers.{BestState, IsAnswer, IsFrom, Offers, PassesOver, StandFor, precedes};
+ghost use Rattle.ing_parts.specs.Answers.{BestState, IsAnswer, IsFrom, Offers, PassesOver, StandApart, StandFor, precedes};
 ghost use Rattle.ing_chunk.specs.Chunks.{AreInOrder};
 ghost use Rattle.ing_chunk.specs.declared.numbered.Numbered.{Numbered};
-ghost use Rattle.ing_parts.specs.Parts.{Adds, AddsParts, AddsRows, AreFrom, HasRows, KeepsInRange, ListsRows, RowsAreFound, found_at, found_between, found_of, standing};
+ghost use Rattle.ing_parts.specs.Parts.{Adds, AddsParts, AddsRows, AreFrom, HasRows, KeepsInRange, ListsRows, RowsAreFound, behind, found_at, found_between, found_of, is_within, standing, within};
+ghost use Rattle.ing_parts.specs.Questions.{Question};
 
 use ing_chunk::stamps_rise;
 use ing_store::Receipt;
@@ -30,37 +31,39 @@ pub fn offers_join()
         IsAnswer old.order old.limit (old.held ++ all) answer }
 {}
 
-/// The same of entries of one stream in a range: of those behind others, and of those before them; and of one that changes nothing,
-/// and of those that come from a stamp on from which none does, in the range or out of it. So a run in order ends at the first such
-/// stamp.
+/// The same of entries of one stream in a range: of those behind others, and of those before them; of one that changes nothing, of one
+/// that is not in the range, and of those that come from a stamp on from which none does, in the range or out of it. So a run in order
+/// ends at the first such stamp.
 pub fn offers_of_streams()
-    ensures next { (name : List ℕ) (start end : ℕ) (xs more all : List Numbered)
+    ensures next { (name : List ℕ) (q : Question) (xs more all : List Numbered)
         (old mid new : BestState) → all ≡ xs ++ more →
-        Offers (found_between name start end xs) old mid →
-        Offers (found_between name start end more) mid new →
-        Offers (found_between name start end all) old new }
-    ensures previous { (name : List ℕ) (start end : ℕ) (xs more all : List Numbered)
+        Offers (found_between name q xs) old mid →
+        Offers (found_between name q more) mid new →
+        Offers (found_between name q all) old new }
+    ensures previous { (name : List ℕ) (q : Question) (xs more all : List Numbered)
         (old mid new : BestState) → all ≡ more ++ xs →
-        Offers (found_between name start end xs) old mid →
-        Offers (found_between name start end more) mid new →
-        Offers (found_between name start end all) old new }
-    ensures one { (name : List ℕ) (start end : ℕ) (e : Numbered) (b : BestState) →
-        Offers (found_of name e ∷ []) b b → Offers (found_between name start end (e ∷ [])) b b }
-    ensures from { (name : List ℕ) (start end from : ℕ) (es : List Numbered) (b : BestState) →
+        Offers (found_between name q xs) old mid →
+        Offers (found_between name q more) mid new →
+        Offers (found_between name q all) old new }
+    ensures one { (name : List ℕ) (q : Question) (e : Numbered) (b : BestState) →
+        Offers (found_of name e ∷ []) b b → Offers (found_between name q (e ∷ [])) b b }
+    ensures out { (name : List ℕ) (q : Question) (e : Numbered) (b : BestState) →
+        is_within q (found_of name e) ≡ false → Offers (found_between name q (e ∷ [])) b b }
+    ensures from { (name : List ℕ) (q : Question) (from : ℕ) (es : List Numbered) (b : BestState) →
         PassesOver from b → AreFrom b.order from es →
-        Offers (found_between name start end es) b b }
-    ensures none { (name : List ℕ) (start end : ℕ) (b : BestState) →
-        Offers (found_between name start end []) b b }
-    ensures rest { (name : List ℕ) (start end : ℕ) (run : List Numbered) (i : ℕ) (e : Numbered)
+        Offers (found_between name q es) b b }
+    ensures none { (name : List ℕ) (q : Question) (b : BestState) →
+        Offers (found_between name q []) b b }
+    ensures rest { (name : List ℕ) (q : Question) (run : List Numbered) (i : ℕ) (e : Numbered)
         (old b : BestState) → AreInOrder run → i < length run → e ≡ get_or run i e →
         b.order ≡ Order.Forward → PassesOver e.entry.stamp b →
-        Offers (found_between name start end (take i run)) old b →
-        Offers (found_between name start end run) old b }
-    ensures front { (name : List ℕ) (start end : ℕ) (run : List Numbered) (i : ℕ) (e : Numbered)
+        Offers (found_between name q (take i run)) old b →
+        Offers (found_between name q run) old b }
+    ensures front { (name : List ℕ) (q : Question) (run : List Numbered) (i : ℕ) (e : Numbered)
         (old b : BestState) → AreInOrder run → i < length run → e ≡ get_or run i e →
         b.order ≡ Order.Backward → PassesOver e.entry.stamp b →
-        Offers (found_between name start end (drop (i + 1) run)) old b →
-        Offers (found_between name start end run) old b }
+        Offers (found_between name q (drop (i + 1) run)) old b →
+        Offers (found_between name q run) old b }
 {
     stamps_rise();
 }
@@ -74,6 +77,19 @@ pub fn answers_are_first()
         IsAnswer order limit all answer → IsSortedBy (precedes order) answer }
     ensures among { (order : Order) (limit : ℕ) (all answer : List Found) →
         IsAnswer order limit all answer → (f : Found) → Contains answer f → Contains all f }
+{}
+
+/// Of entries that do not change meanwhile, a full page and the answer that goes on behind its last entry are one answer: so all pages
+/// together have each entry that is wanted, once, in order, however many have one stamp. A page that is not full has all that is wanted.
+/// (Own.)
+pub fn pages_are_one()
+    ensures next { (q : Question) (all page rest front : List Found) (last : Found) (more : ℕ) →
+        StandApart all → page ≡ front ++ last ∷ [] → length page ≡ q.limit →
+        IsAnswer q.order q.limit (within q all) page →
+        IsAnswer q.order more (within (behind last q) all) rest →
+        IsAnswer q.order (q.limit + more) (within q all) (page ++ rest) }
+    ensures last { (order : Order) (limit : ℕ) (all page : List Found) →
+        IsAnswer order limit all page → length page < limit → IsPermutation all page }
 {}
 
 /// Entries stand for those of which they are a rearrangement, and for those for which others stand that they stand for; and

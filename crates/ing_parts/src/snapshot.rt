@@ -1,7 +1,8 @@
 //! What is read off a shard at one moment: parts of streams.
 ghost use Rattle.std.specs.Prelude.{◌≡◌, ℕ, [], List, OnOk, map, true};
 ghost use Rattle.ing_chunk.specs.Chunks.{IsSpanOf, entries_growing, entries_in_memory, entries_of, entries_of_all, in_blocks};
-ghost use Rattle.ing_parts.specs.Parts.{Adds, entries_in, found_of};
+ghost use Rattle.ing_parts.specs.Parts.{Adds, HasRangeOf, entries_in, found_of};
+ghost use Rattle.ing_parts.specs.Questions.{question_view};
 
 use crate::best::Best;
 use crate::found::{Question, StreamName};
@@ -16,32 +17,29 @@ use std::alloc::{AllocError, Global};
 /// What a shard has of the streams of a tenant that a selector picks, at one moment (Loki documentation: architecture,
 /// ingester; own).
 #[derive(Drop)]
-pub struct Snapshot<R: Receipt> {
+pub struct Snapshot<'a, R: Receipt> {
     /// How many entries the shard had accepted.
     pub front: u64,
-    /// The least stamp that is wanted, in nanoseconds.
-    pub start: u64,
-    /// What each stamp that is wanted is below, in nanoseconds.
-    pub end: u64,
+    /// What is asked, with no more stamps than a cursor leaves.
+    pub question: Question<'a>,
     /// Of the wanted entries that cannot be shared the best, as far as they may be in an answer.
     pub best: Best,
     /// Where the other entries stand that are wanted; more may stand there.
     pub parts: Vec<Part<R>>,
 }
 
-impl<R: Receipt> Snapshot<R> {
+impl<'a, R: Receipt> Snapshot<'a, R> {
     /// Of a shard that had accepted so many entries, for an answer to this question; without parts yet. Takes no memory.
-    pub fn new(alloc: Global, front: u64, question: Question) -> Snapshot<R>
+    pub fn new(alloc: Global, front: u64, question: Question<'a>) -> Snapshot<'a, R>
         ensures front { result.front ≡ front }
-        ensures range { (result.start ≡ question.start) × (result.end ≡ question.end) }
+        ensures range { HasRangeOf (question_view question.entry) result }
         ensures best { result.best
-            ≡ record { order = question.order; limit = question.limit; held = [] } }
+            ≡ record { order = question.entry.order; limit = question.entry.limit; held = [] } }
         ensures parts { result.parts.items ≡ [] }
     {
         Snapshot {
             front,
-            start: question.start,
-            end: question.end,
+            question: question.narrowed(),
             best: Best::new(alloc, question.order, question.limit),
             parts: Vec::new(alloc),
         }
@@ -126,7 +124,7 @@ impl<R: Receipt> Snapshot<R> {
         ensures { result ≡ true → (name : List ℕ) (es : List Numbered) → IsSpanOf span es →
             Adds (map (found_of name) es) self.now self.now }
     {
-        is_passed_over(&self.best, span, self.start, self.end)
+        is_passed_over(&self.best, span, &self.question)
     }
 
     /// Adds what is wanted of a chunk in memory, of which its span may show that it is nothing: its closed blocks as they are,
@@ -161,9 +159,8 @@ impl<R: Receipt> Snapshot<R> {
     fn add_head(&mut self, alloc: Global, name: &StreamName, head: &Head) -> Result<(), AllocError>
         ensures { OnOk result (Adds (map (found_of name.now) head.now) self.old self.new) }
     {
-        let start = self.start;
-        let end = self.end;
-        offer_head(&mut self.best, alloc, name, head, start, end)?;
+        let question = self.question;
+        offer_head(&mut self.best, alloc, name, head, &question)?;
         Ok(())
     }
 
@@ -229,9 +226,8 @@ impl<R: Receipt> Snapshot<R> {
     ) -> Result<(), AllocError>
         ensures { OnOk result (Adds (map (found_of name.now) entries.now) self.old self.new) }
     {
-        let start = self.start;
-        let end = self.end;
-        offer_entries(&mut self.best, alloc, name, entries, start, end)?;
+        let question = self.question;
+        offer_entries(&mut self.best, alloc, name, entries, &question)?;
         Ok(())
     }
 
@@ -240,7 +236,7 @@ impl<R: Receipt> Snapshot<R> {
         ensures { OnOk result
             (Adds (map (found_of name.now) (in_blocks listing.now.blocks)) self.old self.new) }
     {
-        if listing.misses(self.start, self.end) {
+        if listing.misses(self.question.start, self.question.end) {
             return Ok(());
         }
         let listing = listing.share()?;

@@ -10,7 +10,9 @@ use Rattle.ing_parts.specs.declared.snapshot.Part.{Part}
 use Rattle.ing_parts.specs.declared.snapshot.Snapshot.{Snapshot}
 use Rattle.ing_parts.specs.declared.snapshot.Source.{Source}
 use Rattle.ing_parts.specs.declared.snapshot.Source.TheVariants.{Block, Stored}
-use Rattle.ing_parts.specs.Parts.{entries_in, found_between, found_in, wanted, within, is_within}
+use Rattle.ing_parts.specs.Parts.{asked, entries_in, found_between, found_in, wanted, within, is_within}
+use Rattle.ing_parts.specs.Questions.{Question, question_view}
+use Rattle.ing_parts.specs.declared.found.Question as code
 use Rattle.ing_query.specs.Answers.{wanted_in}
 use Rattle.ing_query.specs.Gathered.{wanted_there, in_memory, in_store, memory_in, waiting_in, memory_of, waiting_of}
 
@@ -45,24 +47,24 @@ module _ {X W : Type 0} (m : X → List Found) (w : X → List W) where
         (crossed (m x) (flat_map m xs) (flat_map t (w x)) (flat_map t (flat_map w xs))))
         (IsPermutation-append (m x ++ flat_map t (w x)) (f x) (flat_map m xs ++ flat_map t (flat_map w xs)) (flat_map f xs) (each x) (together xs))
 
-within_flat : {X : Type 0} (f : X → List Found) (start end : ℕ) (xs : List X) → within start end (flat_map f xs) ≡ flat_map (λ x. within start end (f x)) xs
-within_flat f start end [] = refl
-within_flat f start end (x ∷ xs) = filter-append (is_within start end) (f x) (flat_map f xs) ∙ ap (λ l. within start end (f x) ++ l) (within_flat f start end xs)
+within_flat : {X : Type 0} (f : X → List Found) (q : Question) (xs : List X) → within q (flat_map f xs) ≡ flat_map (λ x. within q (f x)) xs
+within_flat f q [] = refl
+within_flat f q (x ∷ xs) = filter-append (is_within q) (f x) (flat_map f xs) ∙ ap (λ l. within q (f x) ++ l) (within_flat f q xs)
 
-source_is : {R : Type 0} (name : List ℕ) (start end : ℕ) (source : Source R) → in_memory name start end source ++ flat_map wanted_there (in_store name start end source) ≡ found_between name start end (entries_in source)
-source_is name start end (Block block) = append-nil (found_between name start end block)
-source_is name start end (Stored listing) = append-nil (found_between name start end (in_blocks listing.blocks))
+source_is : {R : Type 0} (name : List ℕ) (q : code.Question) (source : Source R) → in_memory name q source ++ flat_map wanted_there (in_store name q source) ≡ found_between name (question_view q) (entries_in source)
+source_is name q (Block block) = append-nil (found_between name (question_view q) block)
+source_is name q (Stored listing) = append-nil (found_between name (question_view q) (in_blocks listing.blocks))
 
-part_is : {R : Type 0} (start end : ℕ) (p : Part R) → IsPermutation (memory_in start end p ++ flat_map wanted_there (waiting_in start end p)) (within start end (found_in p))
-part_is start end p = subst (IsPermutation (memory_in start end p ++ flat_map wanted_there (waiting_in start end p))) (source_is p.name start end p.source) (IsPermutation-refl (memory_in start end p ++ flat_map wanted_there (waiting_in start end p)))
+part_is : {R : Type 0} (q : code.Question) (p : Part R) → IsPermutation (memory_in q p ++ flat_map wanted_there (waiting_in q p)) (within (question_view q) (found_in p))
+part_is q p = subst (IsPermutation (memory_in q p ++ flat_map wanted_there (waiting_in q p))) (source_is p.name q p.source) (IsPermutation-refl (memory_in q p ++ flat_map wanted_there (waiting_in q p)))
 
 snapshot_is : {R : Type 0} (s : Snapshot R) → IsPermutation (memory_of s ++ flat_map wanted_there (waiting_of s)) (wanted s)
 snapshot_is s =
-    let parts = flat_map (memory_in s.start s.end) s.parts.items in
+    let parts = flat_map (memory_in s.question) s.parts.items in
     let there = flat_map wanted_there (waiting_of s) in
-    let each = subst (IsPermutation (parts ++ there)) (sym (within_flat found_in s.start s.end s.parts.items))
-    (together (memory_in s.start s.end) (waiting_in s.start s.end) (λ p. within s.start s.end (found_in p)) wanted_there (part_is s.start s.end) s.parts.items) in
-    subst (λ l. IsPermutation l (wanted s)) (sym (append_assoc s.best.held parts there)) (IsPermutation-append_right s.best.held (parts ++ there) (within s.start s.end (flat_map found_in s.parts.items)) each)
+    let each = subst (IsPermutation (parts ++ there)) (sym (within_flat found_in (asked s) s.parts.items))
+    (together (memory_in s.question) (waiting_in s.question) (λ p. within (asked s) (found_in p)) wanted_there (part_is s.question) s.parts.items) in
+    subst (λ l. IsPermutation l (wanted s)) (sym (append_assoc s.best.held parts there)) (IsPermutation-append_right s.best.held (parts ++ there) (within (asked s) (flat_map found_in s.parts.items)) each)
 
 pub all_wanted : {R : Type 0} (snapshots : List (Snapshot R)) → IsPermutation (flat_map memory_of snapshots ++ flat_map wanted_there (flat_map waiting_of snapshots)) (wanted_in snapshots)
 all_wanted snapshots = together memory_of waiting_of wanted wanted_there snapshot_is snapshots

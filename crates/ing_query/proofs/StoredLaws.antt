@@ -8,7 +8,9 @@ use Rattle.std.proofs.lemmas.Bool.{le-ltb, lt-leb}
 use Rattle.ing_chunk.specs.declared.numbered.Numbered.{Numbered}
 use Rattle.ing_chunk.specs.Chunks.{least_of, greatest_of}
 use Rattle.ing_parts.specs.Listings.{Listed}
-use Rattle.ing_parts.specs.Parts.{found_between, found_of}
+use Rattle.ing_parts.specs.declared.found.Found.{Found}
+use Rattle.ing_parts.specs.Parts.{found_between, found_of, is_behind}
+use Rattle.ing_parts.specs.Questions.{Question}
 use Rattle.ing_query.specs.declared.fault.QueryFault.{QueryFault}
 use Rattle.ing_query.specs.declared.fault.QueryFault.TheVariants.{NoMemory, StoreFault, BadObject}
 use Rattle.ing_query.specs.Fetched.{BadIs, KeyIs, NotBad, WasBad, WasBadIn}
@@ -17,26 +19,26 @@ outside : (a b : Bool) → b ≡ false → (a && b) ≡ false
 outside true b h = h
 outside false b h = refl
 
--- all stamps are at the end of the range or later
-pub none_late : (name : List ℕ) (start end : ℕ) (es : List Numbered) → end ≤ least_of es → found_between name start end es ≡ []
-none_late name start end [] h = refl
-none_late name start end (e ∷ es) h =
-    let late : nat_lt e.entry.stamp end ≡ false = le-ltb e.entry.stamp end (omega arith) in
-    ap (λ b. cond b (found_of name e ∷ found_between name start end es) (found_between name start end es)) (outside (nat_le start e.entry.stamp) (nat_lt e.entry.stamp end) late)
-    ∙ none_late name start end es (omega arith)
+module _ (name : List ℕ) (q : Question) where
+  -- the entries of one and of more, where it is known whether the one has a stamp that is wanted
+  one_more : Numbered → List Numbered → Bool → List Found
+  one_more e es t = cond (t && is_behind q.order q.after (found_of name e)) (found_of name e ∷ found_between name q es) (found_between name q es)
 
--- all stamps are before the range
-pub none_early : (name : List ℕ) (start end : ℕ) (es : List Numbered) → greatest_of es < start → found_between name start end es ≡ []
-none_early name start end [] h = refl
-none_early name start end (e ∷ es) h =
-    let early : nat_le start e.entry.stamp ≡ false = lt-leb start e.entry.stamp (omega arith) in
-    ap (λ b. cond (b && nat_lt e.entry.stamp end) (found_of name e ∷ found_between name start end es) (found_between name start end es)) early
-    ∙ none_early name start end es (omega arith)
+  -- all stamps are at the end of the range or later
+  pub none_late : (es : List Numbered) → q.end ≤ least_of es → found_between name q es ≡ []
+  unfolding one_more
+  none_late [] h = refl
+  none_late (e ∷ es) h =
+      let late : nat_lt e.entry.stamp q.end ≡ false = le-ltb e.entry.stamp q.end (omega arith) in
+      ap (one_more e es) (outside (nat_le q.start e.entry.stamp) (nat_lt e.entry.stamp q.end) late) ∙ none_late es (omega arith)
 
--- one that is not in the range
-pub none_between : (name : List ℕ) (start end : ℕ) (e : Numbered) → ((start ≤ e.entry.stamp) × (end ≤ e.entry.stamp)) ⊎ (e.entry.stamp < start) → found_between name start end (e ∷ []) ≡ []
-none_between name start end e (inl late) = ap (λ b. cond b (found_of name e ∷ []) []) (outside (nat_le start e.entry.stamp) (nat_lt e.entry.stamp end) (le-ltb e.entry.stamp end late.1))
-none_between name start end e (inr early) = ap (λ b. cond (b && nat_lt e.entry.stamp end) (found_of name e ∷ []) []) (lt-leb start e.entry.stamp early)
+  -- all stamps are before the range
+  pub none_early : (es : List Numbered) → greatest_of es < q.start → found_between name q es ≡ []
+  unfolding one_more
+  none_early [] h = refl
+  none_early (e ∷ es) h =
+      let early : nat_le q.start e.entry.stamp ≡ false = lt-leb q.start e.entry.stamp (omega arith) in
+      ap (λ b. one_more e es (b && nat_lt e.entry.stamp q.end)) early ∙ none_early es (omega arith)
 
 pub holds : (b : Bool) → not b ≡ false → b ≡ true
 holds true h = refl

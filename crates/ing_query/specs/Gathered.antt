@@ -3,7 +3,9 @@ use Rattle.std.specs.Prelude.{◌≡◌, ℕ, true, List, [], ◌∷◌, ◌++�
 use Rattle.std.specs.List.{flat_map, AllByRecursion, Contains}
 use Rattle.ing_chunk.specs.Chunks.{in_blocks}
 use Rattle.ing_parts.specs.declared.found.Found.{Found}
-use Rattle.ing_parts.specs.Parts.{found_between, found_of, is_within, standing}
+use Rattle.ing_parts.specs.Parts.{asked, found_between, found_of, is_within, standing}
+use Rattle.ing_parts.specs.Questions.{question_view}
+use Rattle.ing_parts.specs.declared.found.Question as code
 use Rattle.ing_parts.specs.declared.snapshot.Part.{Part}
 use Rattle.ing_parts.specs.declared.snapshot.Snapshot.{Snapshot}
 use Rattle.ing_parts.specs.declared.snapshot.Source.{Source}
@@ -17,35 +19,35 @@ use Rattle.ing_query.specs.Fetched.{IsTaken}
 
 -- what is wanted of a part that waits
 abbrev pub wanted_there : {R : Type 0} → Waiting R → List Found
-wanted_there w = found_between w.name w.start w.end (in_blocks w.listing.blocks)
+wanted_there w = found_between w.name (question_view w.question) (in_blocks w.listing.blocks)
 
 -- its key
 abbrev pub key_there : {R : Type 0} → Waiting R → List ℕ
 key_there w = w.listing.key
 
 -- what is wanted of a place in memory
-abbrev pub in_memory : {R : Type 0} → List ℕ → ℕ → ℕ → Source R → List Found
-in_memory name start end (Block block) = found_between name start end block
-in_memory name start end (Stored listing) = []
+abbrev pub in_memory : {R : Type 0} → List ℕ → code.Question → Source R → List Found
+in_memory name q (Block block) = found_between name (question_view q) block
+in_memory name q (Stored listing) = []
 
 -- what waits of a place in a store
-abbrev pub in_store : {R : Type 0} → List ℕ → ℕ → ℕ → Source R → List (Waiting R)
-in_store name start end (Block block) = []
-in_store name start end (Stored listing) =
-    record { name = name; listing = listing; start = start; end = end } ∷ []
+abbrev pub in_store : {R : Type 0} → List ℕ → code.Question → Source R → List (Waiting R)
+in_store name q (Block block) = []
+in_store name q (Stored listing) =
+    record { name = name; listing = listing; question = q } ∷ []
 
-abbrev pub memory_in : {R : Type 0} → ℕ → ℕ → Part R → List Found
-memory_in start end p = in_memory p.name start end p.source
+abbrev pub memory_in : {R : Type 0} → code.Question → Part R → List Found
+memory_in q p = in_memory p.name q p.source
 
-abbrev pub waiting_in : {R : Type 0} → ℕ → ℕ → Part R → List (Waiting R)
-waiting_in start end p = in_store p.name start end p.source
+abbrev pub waiting_in : {R : Type 0} → code.Question → Part R → List (Waiting R)
+waiting_in q p = in_store p.name q p.source
 
 -- the same of a snapshot: what it keeps stands in memory too
 abbrev pub memory_of : {R : Type 0} → Snapshot R → List Found
-memory_of s = s.best.held ++ flat_map (memory_in s.start s.end) s.parts.items
+memory_of s = s.best.held ++ flat_map (memory_in s.question) s.parts.items
 
 abbrev pub waiting_of : {R : Type 0} → Snapshot R → List (Waiting R)
-waiting_of s = flat_map (waiting_in s.start s.end) s.parts.items
+waiting_of s = flat_map (waiting_in s.question) s.parts.items
 
 -- the keys of the stored parts of snapshots
 abbrev pub keys_in : {R : Type 0} → List (Snapshot R) → List (List ℕ)
@@ -70,7 +72,7 @@ Read R = Waiting R × ChunkObject
 
 -- what is wanted of it
 abbrev pub read_there : {R : Type 0} → Read R → List Found
-read_there r = found_between r.0.name r.0.start r.0.end (in_blocks r.1.blocks)
+read_there r = found_between r.0.name (question_view r.0.question) (in_blocks r.1.blocks)
 
 -- a chunk is taken for each
 abbrev pub AreTaken : {R : Type 0} → List (Read R) → Type 0
@@ -97,11 +99,11 @@ pub record IsAnswerOf {R : Type 0} (order : Order) (limit : ℕ) (snapshots : Li
   pub taken : AreTaken reads
   pub is : IsAnswer order limit (flat_map memory_of snapshots ++ flat_map read_there reads) answer
 
--- its stamp is in the range of one of the snapshots, and one of its name and number stands in that snapshot
+-- it is in the range of one of the snapshots, and one of its name and number stands in that snapshot
 pub record IsOf {R : Type 0} (snapshots : List (Snapshot R)) (f : Found) : Type 0 where
   pub snapshot : Snapshot R
   pub there : Contains snapshots snapshot
-  pub in_range : is_within snapshot.start snapshot.end f ≡ true
+  pub in_range : is_within (asked snapshot) f ≡ true
   pub entry : Found
   pub stands : Contains (standing snapshot) entry
   pub name : entry.name ≡ f.name

@@ -6,5 +6,5 @@ pub mod QueryFaults
 pub use Rattle.ing_parts.specs.Answers as PartAnswers
 pub use Rattle.ing_parts.specs.Parts
 pub use Rattle.ing_parts.specs.declared.found.Found
-pub use Rattle.ing_parts.specs.declared.found.Question
+pub use Rattle.ing_parts.specs.Questions
 pub use Rattle.ing_parts.specs.declared.snapshot.Snapshot

@@ -1,4 +1,5 @@
 pub mod Claims
+pub mod Cursors
 pub mod Defaults
 pub mod Events
 pub mod Facets

@@ -1,6 +1,7 @@
 //! The model of the store's rows, and the types that it speaks of.
 #![tactic(auto)]
 
+mod cursor;
 mod entry;
 mod facet;
 mod fault;
@@ -13,6 +14,7 @@ mod rules;
 mod tenant;
 mod verdict;
 
+pub use cursor::Cursor;
 pub use entry::{Entry, Line, Stamp, value_of_digits, window_limit};
 pub use facet::Facet;
 pub use fault::RowFault;

@@ -9,13 +9,14 @@ use Rattle.ing_labels.specs.Selectors.{Match}
 use Rattle.ing_rows.specs.Rows.{Row, StreamKey}
 use Rattle.ing_rows.specs.declared.order.Order.{Order}
 use Rattle.ing_query.specs.Found.{Found}
-use Rattle.ing_query.specs.Question.{Question}
+use Rattle.ing_query.specs.Questions.{Question}
 use Rattle.ing_query.specs.Snapshot.{Snapshot}
 use Rattle.ing_query.specs.PartAnswers.{IsAnswer, StandFor}
 use Rattle.ing_query.specs.Parts.{found_at, is_within, wanted, within}
 use Rattle.ing_query.specs.Answers.{wanted_in}
 use Rattle.ing_durable.specs.Picked.{Picks}
 use Rattle.ing_commands.specs.QueryCommands.{QueryCommand}
+use Rattle.ing_session.specs.Selecting.{question_of}
 use Rattle.ing_service.specs.Queries.{IsFound}
 use Rattle.ing_service.specs.ByShards.{fronts_of, rows_of}
 use Rattle.ing_service.specs.Held.{ShardHeld}
@@ -37,23 +38,22 @@ module _ {R : Type 0} (tenant : List ℕ) (ms : List Match) (q : Question) where
 
 -- what is wanted of rows whose streams are picked
 abbrev wanted_of : (StreamKey → Bool) → Question → List Row → List Found
-wanted_of picked q rows = within q.start q.end (map found_at (filter (λ (r : Row). picked r.stream) rows))
+wanted_of picked q rows = within q (map found_at (filter (λ (r : Row). picked r.stream) rows))
 
 both_wanted : (picked : StreamKey → Bool) (q : Question) (rows others : List Row) → wanted_of picked q (rows ++ others) ≡ wanted_of picked q rows ++ wanted_of picked q others
 both_wanted picked q rows others =
     let p = λ (r : Row). picked r.stream in
-    ap (λ l. within q.start q.end (map found_at l)) (filter-append p rows others)
-    ∙ ap (within q.start q.end) (map-append found_at (filter p rows) (filter p others))
-    ∙ filter-append (is_within q.start q.end) (map found_at (filter p rows)) (map found_at (filter p others))
+    ap (λ l. within q (map found_at l)) (filter-append p rows others)
+    ∙ ap (within q) (map-append found_at (filter p rows) (filter p others))
+    ∙ filter-append (is_within q) (map found_at (filter p rows)) (map found_at (filter p others))
 
 one_stands : {R : Type 0} (tenant : List ℕ) (ms : List Match) (q : Question) (s : Snapshot R) (shard : ShardHeld) → IsAsked tenant ms q s shard → (picked : StreamKey → Bool) → Picks tenant ms picked
     → StandFor q.order q.limit (wanted s) (wanted_of picked q shard.state.rows)
 one_stands tenant ms q s shard asked picked picks =
     let all = map found_at (filter (λ (r : Row). picked r.stream) shard.state.rows) in
-    subst (λ o. StandFor o q.limit (wanted s) (within q.start q.end all)) asked.order
-    (subst (λ n. StandFor s.best.order n (wanted s) (within q.start q.end all)) asked.limit
-    (subst (λ n. StandFor s.best.order s.best.limit (wanted s) (within n q.end all)) asked.start
-    (subst (λ n. StandFor s.best.order s.best.limit (wanted s) (within s.start n all)) asked.end (asked.rows picked picks).stand)))
+    subst (λ o. StandFor o q.limit (wanted s) (within q all)) asked.order
+    (subst (λ n. StandFor s.best.order n (wanted s) (within q all)) asked.limit
+    (subst (λ l. StandFor s.best.order s.best.limit (wanted s) l) (λ i. filter (λ f. asked.range f i) all) (asked.rows picked picks).stand))
 
 module _ (alike : (order : Order) (limit : ℕ) (some all : List Found) → IsPermutation some all → StandFor order limit some all)
     (through : (order : Order) (limit : ℕ) (some mid all : List Found) → StandFor order limit some mid → StandFor order limit mid all → StandFor order limit some all)
@@ -80,17 +80,14 @@ module _ (alike : (order : Order) (limit : ℕ) (some all : List Found) → IsPe
 
   -- the answer from the snapshots is that of the rows
   pub is_found : {R : Type 0} (answered : (order : Order) (limit : ℕ) (some all answer : List Found) → StandFor order limit some all → IsAnswer order limit some answer → IsAnswer order limit all answer)
-      (query : QueryCommand) (ms : List Match) (q : Question) → q.start ≡ query.start → q.end ≡ query.end → q.order ≡ query.order → q.limit ≡ query.limit → (ss : List (Snapshot R)) (shards : List ShardHeld) → AreAsked query.tenant ms q ss shards
-      → (found : List Found) → IsAnswer q.order q.limit (wanted_in ss) found → (picked : StreamKey → Bool) → Picks query.tenant ms picked
+      (query : QueryCommand) (ms : List Match) (ss : List (Snapshot R)) (shards : List ShardHeld) → AreAsked query.tenant ms (question_of query) ss shards
+      → (found : List Found) → IsAnswer query.order query.limit (wanted_in ss) found → (picked : StreamKey → Bool) → Picks query.tenant ms picked
       → IsFound query (filter (λ (r : Row). picked r.stream) (rows_of shards)) found
-  is_found answered query ms q start end order limit ss shards are found answer picked picks =
+  is_found answered query ms ss shards are found answer picked picks =
+      let q = question_of query in
       let all = map found_at (filter (λ (r : Row). picked r.stream) (rows_of shards)) in
-      let whole = answered q.order q.limit (wanted_in ss) (wanted_of picked q (rows_of shards)) found (all_stand query.tenant ms q ss shards are picked picks) answer in
       record {
         all = all;
         same = IsPermutation-refl all;
-        answer = subst (λ o. IsAnswer o query.limit (within query.start query.end all) found) order
-            (subst (λ n. IsAnswer q.order n (within query.start query.end all) found) limit
-            (subst (λ n. IsAnswer q.order q.limit (within n query.end all) found) start
-            (subst (λ n. IsAnswer q.order q.limit (within q.start n all) found) end whole)));
+        answer = answered q.order q.limit (wanted_in ss) (wanted_of picked q (rows_of shards)) found (all_stand query.tenant ms q ss shards are picked picks) answer;
       }

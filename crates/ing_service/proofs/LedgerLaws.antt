@@ -29,6 +29,7 @@ use Rattle.ing_rows.specs.Steps.{accepted, accepted_as, added_as, after_entry, c
 use Rattle.ing_rows.specs.Verdicts.{accepted_number}
 use Rattle.ing_rows.specs.Events as events
 use Rattle.ing_rows.specs.Events.{Event, SealAll, is_full}
+use Rattle.ing_session.specs.Selecting.{page_of}
 use Rattle.ing_session.specs.Refusal.{Refusal}
 use Rattle.ing_session.specs.Refusal.TheVariants.{CounterFull, TooManyEntries}
 use Rattle.ing_limits.specs.Settings.{StoreSettings}
@@ -284,11 +285,11 @@ module _ (rules : List ℕ → Rules) where
 quiet : (olds news : List ShardHeld) (reply : Data) → accepted_in reply ≡ 0 → Grow 0 olds news → Grow (accepted_in reply) olds news
 quiet olds news reply none stay = subst (λ n. Grow n olds news) (sym none) stay
 
-answer_is_no_push : (answer : Answer) (shards : List ShardHeld) → accepted_in (by.query_reply answer shards) ≡ 0
-answer_is_no_push (Refused fault) shards = fault_is_no_push (text_refusal_of fault) (text_fault_place fault)
-answer_is_no_push (Given found) shards = refl
-answer_is_no_push Failed shards = refl
-answer_is_no_push Damaged shards = refl
+answer_is_no_push : (page : Option ℕ) (answer : Answer) (shards : List ShardHeld) → accepted_in (by.query_reply page answer shards) ≡ 0
+answer_is_no_push page (Refused fault) shards = fault_is_no_push (text_refusal_of fault) (text_fault_place fault)
+answer_is_no_push page (Given found) shards = refl
+answer_is_no_push page Failed shards = refl
+answer_is_no_push page Damaged shards = refl
 
 catalog_is_no_push : (facet : Facet) (texts : List (List ℕ)) → accepted_in (catalog_data facet texts) ≡ 0
 catalog_is_no_push Series texts = refl
@@ -320,7 +321,7 @@ module _ (honest : Type 0) (logged : Bool) (settings : StoreSettings) (old new :
   obeyed commands.Board (by.AsksBoard it) = unchanged (ap accepted_in it.told) it.left
   obeyed commands.Checkpoint (by.Checkpoints it) =
       quiet old.shards new.shards reply (ap accepted_in it.told) (each_stays (Publishes logged) it.published old.shards new.shards (published_stay logged) it.each)
-  obeyed (commands.Query query) (by.Queries it) = unchanged (ap accepted_in it.told ∙ answer_is_no_push it.answer old.shards) it.left
+  obeyed (commands.Query query) (by.Queries it) = unchanged (ap accepted_in it.told ∙ answer_is_no_push (page_of query) it.answer old.shards) it.left
   obeyed (commands.Catalog catalog) (by.Lists it) = unchanged (ap accepted_in it.told ∙ listing_is_no_push catalog it.listing) it.left
 
 -- ---- all lines

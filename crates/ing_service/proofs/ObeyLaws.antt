@@ -29,7 +29,7 @@ use Rattle.ing_service.specs.Flushes.{IsFlushed}
 use Rattle.ing_service.specs.Drafts.{PushesEach}
 use Rattle.ing_service.specs.Held.{Begun, Held, ShardHeld, held_in}
 use Rattle.ing_service.specs.Queries.{Answer, Refused, Failed, Damaged, QueryMayBe, failed_of}
-use Rattle.ing_session.specs.Selecting.{Reads}
+use Rattle.ing_session.specs.Selecting.{Reads, page_of}
 
 module _ (honest : Type 0) (begun : Begun) (settings : StoreSettings) (old new : Held) where
   -- what works nothing off and asks no store, from what is held
@@ -78,7 +78,7 @@ obeys_each honest begun settings ops (p ∷ ps) olds news replies each = (
 module _ (honest : Type 0) (begun : Begun) (settings : StoreSettings) (query : QueryCommand) (held : Held) where
   -- it came to this
   pub obeys_query : (answer : Answer) (before after : ℕ) (reply : Data) → QueryMayBe honest query answer (rows_of held.shards)
-      → reply ≡ query_reply answer held.shards → HaveCause before after (failed_of answer)
+      → reply ≡ query_reply (page_of query) answer held.shards → HaveCause before after (failed_of answer)
       → IsObeyed (by_shards honest begun) settings (Ok (Query query)) held (λ left. left ≡ held) before after reply
   obeys_query answer before after reply may_be told causes =
       record {

@@ -1,5 +1,5 @@
 -- What each command does to shards that nobody shares, by the model alone.
-use Rattle.std.specs.Prelude.{◌≡◌, ℕ, ◌+◌, ◌-◌, ◌^◌, List, [], ◌∷◌, ◌++◌, length, map, min, sum_by, take, Bool, false, not, nat_lt, if◌then◌else◌, MatchBool, None, Result, Ok, Err}
+use Rattle.std.specs.Prelude.{◌≡◌, ℕ, ◌+◌, ◌-◌, ◌^◌, List, [], ◌∷◌, ◌++◌, length, map, min, sum_by, take, Bool, false, not, nat_lt, if◌then◌else◌, MatchBool, None, Result, Ok, Err, Option}
 use Rattle.std.specs.List.{flat_map}
 use Rattle.serde_json.specs.Data.{Data}
 use Rattle.ing_labels.specs.declared.fault.LabelFault.{LabelFault}
@@ -21,6 +21,7 @@ use Rattle.ing_durable.specs.Contents.{stream_of, stored_count, listed_after}
 use Rattle.ing_durable.specs.Sealing.{ops_from}
 use Rattle.ing_tally.specs.declared.counts.Counts.{Counts}
 use Rattle.ing_tally.specs.declared.report.ShardReport.{ShardReport}
+use Rattle.ing_session.specs.Selecting.{page_of}
 use Rattle.ing_session.specs.Refusal.TheVariants.{TooManyEntries, CounterFull}
 use Rattle.ing_session.specs.Refusal.TheVariants as refusals
 use Rattle.ing_commands.specs.Commands.{Command, Push, Sweep, Flush, Gauges, Board, Checkpoint, Query, Catalog}
@@ -218,18 +219,18 @@ rows_of shards = flat_map (λ (shard : ShardHeld). shard.state.rows) shards
 abbrev pub fronts_of : List ShardHeld → List ℕ
 fronts_of shards = map (λ (shard : ShardHeld). length shard.state.rows) shards
 
--- the reply to a query that came to this
-abbrev pub query_reply : Answer → List ShardHeld → Data
-query_reply (Refused fault) shards = fault_data (text_refusal_of fault) (text_fault_place fault)
-query_reply (Given found) shards = query_data found (fronts_of shards)
-query_reply Failed shards = fault_data refusals.StoreFault None
-query_reply Damaged shards = fault_data refusals.BadObject None
+-- the reply to a query that came to this, where pages are asked for or not
+abbrev pub query_reply : Option ℕ → Answer → List ShardHeld → Data
+query_reply page (Refused fault) shards = fault_data (text_refusal_of fault) (text_fault_place fault)
+query_reply page (Given found) shards = query_data page found (fronts_of shards)
+query_reply page Failed shards = fault_data refusals.StoreFault None
+query_reply page Damaged shards = fault_data refusals.BadObject None
 
 -- a query is obeyed: it came to this answer, over an end of the store that is honest or not, and changes nothing
 pub record ObeysQuery (honest : Type 0) (query : QueryCommand) (old new : Held) (failed : ℕ) (reply : Data) : Type 0 where
   pub answer : Answer
   pub may_be : QueryMayBe honest query answer (rows_of old.shards)
-  pub told : reply ≡ query_reply answer old.shards
+  pub told : reply ≡ query_reply (page_of query) answer old.shards
   pub left : new ≡ old
   pub failures : failed ≡ failed_of answer
 

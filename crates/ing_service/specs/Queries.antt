@@ -10,7 +10,7 @@ use Rattle.ing_query.specs.Parts.{found_at, within}
 use Rattle.ing_rows.specs.Rows.{Row, StreamKey}
 use Rattle.ing_durable.specs.Picked.{Picks}
 use Rattle.ing_commands.specs.QueryCommands.{QueryCommand}
-use Rattle.ing_session.specs.Selecting.{Reads}
+use Rattle.ing_session.specs.Selecting.{Reads, question_of}
 
 -- What a query comes to: its text is refused; these entries are given; the store failed; or an object of the store is not the
 -- chunk that is listed.
@@ -31,7 +31,7 @@ failed_of Damaged = 0
 pub record IsFound (query : QueryCommand) (rows : List Row) (found : List Found) : Type 0 where
   pub all : List Found
   pub same : IsPermutation (map found_at rows) all
-  pub answer : IsAnswer query.order query.limit (within query.start query.end all) found
+  pub answer : IsAnswer query.order query.limit (within (question_of query) all) found
 
 -- the same, of those among these rows whose streams the text selects
 abbrev pub IsFoundAmong : QueryCommand → List Match → List Row → List Found → Type 0

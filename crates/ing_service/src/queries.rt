@@ -14,8 +14,8 @@ use crate::owned::OwnShards;
 use crate::seats::snapshots_of_each;
 use ing_commands::Query;
 use ing_labels::Selector;
-use ing_query::{Question, Snapshot, run_query, standing_joins};
-use ing_session::{Reply, query_fault, selector_fault};
+use ing_query::{Snapshot, run_query, standing_joins};
+use ing_session::{Reply, page_of, query_fault, question_of, selector_fault};
 use ing_store::{Receipt, StoreEnd};
 use ing_wal::LogDisk;
 use std::alloc::{AllocError, Global};
@@ -52,12 +52,7 @@ impl<N: Beginning, D: LogDisk + Drop, R: Receipt> OwnShards<N, D, R> {
             held (λ (left : Held). left ≡ held) (S.failure_count end.old) (S.failure_count end.new) (reply_data reply)) }
         ensures end { GoesOn S.never_fails S.failure_count end.old end.new }
     {
-        let question = Question {
-            start: query.start,
-            end: query.end,
-            order: query.order,
-            limit: query.limit,
-        };
+        let question = question_of(query);
         standing_joins();
         let snapshots = snapshots_of_each(
             self.alloc,
@@ -68,14 +63,21 @@ impl<N: Beginning, D: LogDisk + Drop, R: Receipt> OwnShards<N, D, R> {
         )?;
         let fronts = fronts_in(self.alloc, &snapshots)?;
         match run_query(self.alloc, snapshots, end, question) {
-            Ok(found) => Ok(Reply::Query { found, fronts }),
+            Ok(found) => Ok(Reply::Query {
+                found,
+                fronts,
+                page: page_of(query),
+            }),
             Err(fault) => query_fault(fault),
         }
     }
 }
 
 /// How many entries each snapshot's shard had accepted.
-fn fronts_in<R: Receipt>(alloc: Global, snapshots: &[Snapshot<R>]) -> Result<Vec<u64>, AllocError>
+fn fronts_in<R: Receipt>(
+    alloc: Global,
+    snapshots: &[Snapshot<'_, R>],
+) -> Result<Vec<u64>, AllocError>
     ensures { IfOk result (λ fronts. fronts.items ≡ map (λ snapshot. snapshot.front) snapshots.now) }
 {
     let mut fronts = Vec::with_capacity(alloc, snapshots.len())?;

@@ -1,6 +1,7 @@
 //! Shards that nobody shares, one after another.
 ghost use Rattle.std.specs.Prelude.{◌≡◌, ◌<◌, [], All, IfOk, List, Bool, false, is_some, length, map, OnOk};
 ghost use Rattle.ing_limits.specs.Settings.{StoreSettings};
+ghost use Rattle.ing_query.specs.Questions.{question_view};
 ghost use Rattle.ing_rows.specs.Gauges.{gauges_of};
 ghost use Rattle.ing_durable.specs.Catalog.{AddsCatalog, asked_view};
 ghost use Rattle.ing_durable.specs.Kept.{whose};
@@ -164,14 +165,14 @@ pub(crate) fn reports_of_each<D: LogDisk + Drop, R: Receipt>(
 }
 
 /// A snapshot of each shard for a question.
-pub(crate) fn snapshots_of_each<D: LogDisk + Drop, R: Receipt>(
+pub(crate) fn snapshots_of_each<'q, D: LogDisk + Drop, R: Receipt>(
     alloc: Global,
     seats: &[Seat<D, R>],
     tenant: &Tenant,
     selector: &Selector,
-    question: Question,
-) -> Result<Vec<Snapshot<R>>, AllocError>
-    ensures { IfOk result (λ snapshots. AreAsked tenant.now selector.now question snapshots.items
+    question: Question<'q>,
+) -> Result<Vec<Snapshot<'q, R>>, AllocError>
+    ensures { IfOk result (λ snapshots. AreAsked tenant.now selector.now (question_view question.entry) snapshots.items
         (map (λ seat. shard_held seat.shard) seats.now)) }
 {
     let mut snapshots = Vec::with_capacity(alloc, seats.len())?;

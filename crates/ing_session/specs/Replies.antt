@@ -1,6 +1,6 @@
 -- The JSON values that are written as replies.
-use Rattle.std.specs.Prelude.{ℕ, List, [], ◌∷◌, ◌++◌, map, codes, decimal, Bool, Option, Some, None}
-use Rattle.serde_json.specs.Data.{Data, boolean, number, unsigned, string, array, object, no_members, member}
+use Rattle.std.specs.Prelude.{ℕ, ◌-◌, List, [], ◌∷◌, ◌++◌, map, codes, decimal, Bool, Option, Some, None, slice_get}
+use Rattle.serde_json.specs.Data.{Data, boolean, number, unsigned, string, array, object, Members, no_members, member}
 use Rattle.serde_json.specs.View.{items_of}
 use Rattle.serde_json.specs.Written.{compact_text}
 use Rattle.ing_tally.specs.declared.report.ShardReport.{ShardReport}
@@ -99,12 +99,30 @@ entry_data found =
     member (codes "stamp") (string (decimal found.entry.stamp)) (
     member (codes "stream") (string found.name) no_members)))
 
--- of a query: the entries, and how many entries each shard had accepted
-abbrev pub query_data : List Found → List ℕ → Data
-query_data found fronts =
+-- the place of an entry, as a query names it that wants what stands behind it
+abbrev pub place_data : Found → Data
+place_data found =
+    object (member (codes "number") (count found.number) (
+    member (codes "stamp") (string (decimal found.entry.stamp)) (
+    member (codes "stream") (string found.name) no_members)))
+
+-- the last entry of a page that has as many as it may, where a page is asked for: more may stand behind it
+abbrev pub last_of : Option ℕ → List Found → Option Found
+last_of None found = None
+last_of (Some most) found = slice_get found (most - 1)
+
+abbrev pub next_members : Option Found → Members
+next_members None = no_members
+next_members (Some last) = member (codes "next") (place_data last) no_members
+
+-- of a query: the entries, how many entries each shard had accepted, and where a page of so many entries is asked for and has them, the
+-- place behind which the next one begins
+abbrev pub query_data : Option ℕ → List Found → List ℕ → Data
+query_data page found fronts =
     object (member (codes "query") (object (
     member (codes "entries") (array (items_of (map entry_data found))) (
-    member (codes "fronts") (array (items_of (map count fronts))) no_members))) no_members)
+    member (codes "fronts") (array (items_of (map count fronts))) (
+    next_members (last_of page found))))) no_members)
 
 -- texts, under the name of what they are
 abbrev pub texts_data : List ℕ → List (List ℕ) → Data

@@ -5,6 +5,7 @@
 #![tactic(auto)]
 
 mod answer;
+mod asking;
 mod concluding;
 mod ending;
 mod faults;
@@ -15,6 +16,7 @@ mod reply;
 mod service;
 mod transport;
 
+pub use asking::{page_of, question_of};
 pub use concluding::conclude;
 pub use ending::Ending;
 pub use faults::{label_fault, label_limits, push_fault, query_fault, selector_fault};

@@ -1,10 +1,10 @@
 //! The replies, and the lines that they are written as.
-ghost use Rattle.std.specs.Prelude.{◌≡◌, ◌++◌, OnOk, OnErr, codes, decimal, map, string_bytes};
+ghost use Rattle.std.specs.Prelude.{◌≡◌, ◌++◌, OnOk, OnErr, codes, decimal, map, option_map, string_bytes};
 ghost use Rattle.ing_rows.specs.Facets.{facet_view};
-ghost use Rattle.ing_session.specs.Replies.{catalog_data, verdict_data, verdicts_data, fault_data, judged_data, push_data, sweep_data, flush_data, gauge_data, gauges_data, tenant_data, board_data, counts_data, checkpoint_data, entry_data, query_data, texts_data, shard_data, report_data, channels_data, line_text, count};
+ghost use Rattle.ing_session.specs.Replies.{catalog_data, verdict_data, verdicts_data, fault_data, judged_data, push_data, sweep_data, flush_data, gauge_data, gauges_data, tenant_data, board_data, counts_data, checkpoint_data, entry_data, last_of, next_members, place_data, query_data, texts_data, shard_data, report_data, channels_data, line_text, count};
 ghost use Rattle.ing_session.specs.Runs.{lines_text};
 ghost use Rattle.ing_session.specs.Views.{stream_data, text_data, reply_data};
-ghost use Rattle.ing_session.specs.Written.{Adds, member_tokens, data_tokens, tokens_of_each};
+ghost use Rattle.ing_session.specs.Written.{Adds, last_tokens, member_tokens, data_tokens, tokens_of_each};
 ghost use Rattle.serde_json.specs.Data.{array, boolean, string, object, no_members, member};
 ghost use Rattle.serde_json.specs.View.{items_of};
 ghost use Rattle.ing_labels.specs.Canonical.{canonical_of};
@@ -46,10 +46,12 @@ pub enum Reply {
         refusal: Refusal,
         at: Option<usize>,
     },
-    /// What a query gives, and how many entries each shard had accepted, by the shard's number.
+    /// What a query gives, how many entries each shard had accepted, by the shard's number, and how many entries a page has at most,
+    /// where one is asked for.
     Query {
         found: Vec<Found>,
         fronts: Vec<u64>,
+        page: Option<usize>,
     },
     /// The names of streams.
     Series(Vec<String>),
@@ -146,7 +148,11 @@ fn write_reply(alloc: Global, out: &mut Writer, reply: &Reply) -> Result<(), All
         Reply::Board(shards) => write_board(out, shards),
         Reply::Checkpoint(shards) => write_checkpoint(out, shards),
         Reply::Refused { refusal, at } => write_fault(out, *refusal, *at),
-        Reply::Query { found, fronts } => write_query(out, found, fronts),
+        Reply::Query {
+            found,
+            fronts,
+            page,
+        } => write_query(out, found, fronts, *page),
         Reply::Series(names) => write_texts(out, "series", names),
         Reply::Labels(texts) => write_texts(out, "labels", texts),
         Reply::Report(shards) => write_report(out, shards),
@@ -476,9 +482,14 @@ fn write_each_boolean(out: &mut Writer, booleans: &[bool]) -> Result<(), AllocEr
 }
 
 /// Writes what a query gives.
-fn write_query(out: &mut Writer, found: &[Found], fronts: &[u64]) -> Result<(), AllocError>
+fn write_query(
+    out: &mut Writer,
+    found: &[Found],
+    fronts: &[u64],
+    page: Option<usize>,
+) -> Result<(), AllocError>
     ensures tokens { OnOk result
-        (Adds out.old out.new (data_tokens (query_data found.now fronts.now))) }
+        (Adds out.old out.new (data_tokens (query_data page found.now fronts.now))) }
     ensures before { out.new.before ≡ out.old.before }
 {
     out.begin_object()?;
@@ -486,7 +497,44 @@ fn write_query(out: &mut Writer, found: &[Found], fronts: &[u64]) -> Result<(), 
     out.begin_object()?;
     write_entries(out, found)?;
     write_fronts(out, fronts)?;
+    end_with_next(out, last_of(found, page))?;
     out.end_object()?;
+    Ok(())
+}
+
+/// The last entry of a page that has as many as it may, where one is asked for.
+fn last_of(found: &[Found], page: Option<usize>) -> Option<&Found>
+    ensures { option_map (λ last. last.now) result ≡ last_of page found.now }
+{
+    match page {
+        Some(most) => found.get(most.saturating_sub(1)),
+        None => None,
+    }
+}
+
+/// Writes the place behind which the next page begins, where there is one, and ends the object.
+fn end_with_next(out: &mut Writer, last: Option<&Found>) -> Result<(), AllocError>
+    ensures tokens { OnOk result (Adds out.old out.new
+        (last_tokens (next_members (option_map (λ found. found.now) last.entry)))) }
+    ensures before { out.new.before ≡ out.old.before }
+{
+    if let Some(found) = last {
+        out.key("next")?;
+        write_place(out, found)?;
+    }
+    out.end_object()?;
+    Ok(())
+}
+
+/// Writes the place of an entry.
+fn write_place(out: &mut Writer, found: &Found) -> Result<(), AllocError>
+    ensures tokens { OnOk result (Adds out.old out.new (data_tokens (place_data found.now))) }
+    ensures before { out.new.before ≡ out.old.before }
+{
+    out.begin_object()?;
+    write_count(out, "number", found.number)?;
+    write_digits(out, "stamp", found.entry.stamp.nanoseconds())?;
+    write_text(out, "stream", found.name.as_str())?;
     out.end_object()?;
     Ok(())
 }

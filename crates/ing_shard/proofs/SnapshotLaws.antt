@@ -11,7 +11,8 @@ use Rattle.ing_rows.specs.declared.order.Order.TheVariants.{Forward, Backward}
 use Rattle.ing_rows.specs.Rows.{StreamKey, Row}
 use Rattle.ing_parts.specs.declared.snapshot.Snapshot.{Snapshot}
 use Rattle.ing_parts.specs.Answers.{AreSomeOf, StandFor}
-use Rattle.ing_parts.specs.Parts.{AddsRows, HasRows, found_among, found_at, standing, wanted, within}
+use Rattle.ing_parts.specs.Parts.{AddsRows, HasRows, asked, found_among, found_at, standing, wanted, within}
+use Rattle.ing_parts.specs.Questions.{question_view}
 use Rattle.ing_shard.specs.OneStream.{Stream}
 use Rattle.ing_shard.specs.Picked.{numbers_of_picked}
 use Rattle.ing_shard.specs.Snapshots.{in_turn, rows_at, rows_of}
@@ -88,12 +89,12 @@ rows_in_turn sts Backward numbers = rows_reversed sts numbers
 pub has_rows : {R : Type 0} (rows : List Row) (old new : Snapshot R) → standing old ≡ [] → wanted old ≡ [] → AddsRows rows old new → HasRows rows new
 has_rows rows old new bare none h =
     let all = map found_at rows in
-    let stand : StandFor old.best.order old.best.limit (wanted new) (within old.start old.end all) = subst (λ l. StandFor old.best.order old.best.limit (wanted new) (l ++ within old.start old.end all)) none h.stand in
-    let there : within old.start old.end all ≡ within new.start new.end all = λ i. within (sym h.start i) (sym h.end i) all in
+    let stand : StandFor old.best.order old.best.limit (wanted new) (within (asked old) all) = subst (λ l. StandFor old.best.order old.best.limit (wanted new) (l ++ within (asked old) all)) none h.stand in
+    let there : within (asked old) all ≡ within (asked new) all = ap (λ q. within (question_view q) all) (sym h.question) in
     record {
       drawn = subst (λ l. AreSomeOf (standing new) (l ++ all)) bare h.drawn;
-      kept = subst (AreSomeOf new.best.held) there (subst (λ l. AreSomeOf new.best.held (l ++ within old.start old.end all)) (nothing_first old.best.held (found_among old.parts.items) bare) h.kept);
+      kept = subst (AreSomeOf new.best.held) there (subst (λ l. AreSomeOf new.best.held (l ++ within (asked old) all)) (nothing_first old.best.held (found_among old.parts.items) bare) h.kept);
       stand = subst (StandFor new.best.order new.best.limit (wanted new)) there
-          (subst (λ o. StandFor o new.best.limit (wanted new) (within old.start old.end all)) (sym h.order)
-          (subst (λ n. StandFor old.best.order n (wanted new) (within old.start old.end all)) (sym h.limit) stand));
+          (subst (λ o. StandFor o new.best.limit (wanted new) (within (asked old) all)) (sym h.order)
+          (subst (λ n. StandFor old.best.order n (wanted new) (within (asked old) all)) (sym h.limit) stand));
     }

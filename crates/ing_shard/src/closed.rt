@@ -1,7 +1,8 @@
 //! A shard whose books are gathered.
 ghost use Rattle.std.specs.Prelude.{◌≡◌, Bool, All, IfOk, filter, length};
 ghost use Rattle.ing_parts.specs.Answers.{StandApart};
-ghost use Rattle.ing_parts.specs.Parts.{HasRows, standing};
+ghost use Rattle.ing_parts.specs.Parts.{HasRangeOf, HasRows, standing};
+ghost use Rattle.ing_parts.specs.Questions.{question_view};
 ghost use Rattle.ing_rows.specs.Gauges.{StandsOnce, gauges_of};
 ghost use Rattle.ing_rows.specs.Placement.{shard_of};
 ghost use Rattle.ing_rows.specs.Rows.{StreamKey, count_of};
@@ -89,18 +90,17 @@ impl<R: Receipt> ClosedShard<R> {
     /// What the shard has of a tenant's streams whose labels the selector matches, as `Shard::snapshot`.
     ///
     /// `AllocError` where memory runs out.
-    pub fn snapshot(
+    pub fn snapshot<'q>(
         &self,
         alloc: Global,
         tenant: &Tenant,
         selector: &Selector,
-        question: Question,
-    ) -> Result<Snapshot<R>, AllocError>
+        question: Question<'q>,
+    ) -> Result<Snapshot<'q, R>, AllocError>
         ensures front { IfOk result (λ snapshot. snapshot.front ≡ length self.now.state.rows) }
-        ensures range { IfOk result (λ snapshot.
-            (snapshot.start ≡ question.start) × (snapshot.end ≡ question.end)) }
+        ensures range { IfOk result (HasRangeOf (question_view question.entry)) }
         ensures best { IfOk result (λ snapshot.
-            (snapshot.best.order ≡ question.order) × (snapshot.best.limit ≡ question.limit)) }
+            (snapshot.best.order ≡ question.entry.order) × (snapshot.best.limit ≡ question.entry.limit)) }
         // Exactly the rows of the streams that are picked, wherever they stand, as far as an answer may have them.
         ensures rows { IfOk result (λ snapshot. (picked : StreamKey → Bool) →
             Picks tenant.now selector.now picked →

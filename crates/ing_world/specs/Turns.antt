@@ -7,9 +7,9 @@ use Rattle.ing_codec.specs.ChunkObjects.{chunk_text}
 use Rattle.ing_labels.specs.Canonical.{canonical_of}
 use Rattle.ing_labels.specs.Selectors.{Match}
 use Rattle.ing_parts.specs.declared.found.Found.{Found}
-use Rattle.ing_parts.specs.declared.found.Question.{Question}
 use Rattle.ing_parts.specs.Answers.{IsAnswer}
 use Rattle.ing_parts.specs.Parts.{within}
+use Rattle.ing_parts.specs.Questions.{Question, question_view}
 use Rattle.ing_rows.specs.declared.entry.Entry.{Entry}
 use Rattle.ing_rows.specs.declared.rules.Rules.{Rules}
 use Rattle.ing_rows.specs.Events as events
@@ -106,7 +106,7 @@ abbrev pub TellsQuery : List ℕ → List Match → Question → Tale
 TellsQuery tenant ms q (reply.Found found) old new step =
     (step ≡ None) × TicketsStay old new
     × ((picked : StreamKey → Bool) → Picks tenant ms picked
-    → IsAnswer q.order q.limit (within q.start q.end (map found_told (filter (λ n. picked n.stream) old.accepted))) found.items)
+    → IsAnswer q.order q.limit (within q (map found_told (filter (λ n. picked n.stream) old.accepted))) found.items)
 TellsQuery tenant ms q _ old new step = ⊥
 
 -- without a log no checkpoint has replaced it, and nothing changes
@@ -122,7 +122,7 @@ Tells (event.Claim n) = TellsClaim n
 Tells (event.Put t object out) = TellsPut t object out
 Tells (event.Finish t) = TellsFinish t
 Tells (event.GiveBack t) = TellsGiveBack t
-Tells (event.Query tenant ms q) = TellsQuery tenant ms q
+Tells (event.Query tenant ms q) = TellsQuery tenant ms (question_view q)
 Tells event.Checkpoint = TellsCheckpoint
 
 -- ---- one turn, and all of them

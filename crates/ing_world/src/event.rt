@@ -30,7 +30,7 @@ pub enum Outcome {
 
 /// What may happen to a world. A ticket is named by the position of its claim among the claims that gave one, from 0. (Own.)
 #[derive(Drop)]
-pub enum WorldEvent {
+pub enum WorldEvent<'a> {
     /// Entries of one stream are pushed.
     Push {
         /// Whose stream it is.
@@ -80,7 +80,7 @@ pub enum WorldEvent {
         /// Which of them.
         selector: Selector,
         /// Which of their entries, and in which order.
-        question: Question,
+        question: Question<'a>,
     },
     /// A checkpoint is to replace the log of the shard, which has none.
     Checkpoint,
@@ -89,7 +89,7 @@ pub enum WorldEvent {
 /// How many bytes a canonical name may have that is to be written.
 const MAX_NAME: u64 = 0xffff_ffff;
 
-impl WorldEvent {
+impl WorldEvent<'_> {
     /// Whether it is no push, or the canonical name of its stream can be written.
     fn is_short(&self) -> bool
         ensures yes { result ≡ true → IsShort self.now }
@@ -104,7 +104,7 @@ impl WorldEvent {
 
 /// Whether the canonical name of each stream that is pushed to has fewer than 2^32 bytes, so that its chunks can be written. Takes
 /// no memory. (Own.)
-pub fn names_are_short(events: &[WorldEvent]) -> bool
+pub fn names_are_short(events: &[WorldEvent<'_>]) -> bool
     ensures yes { result ≡ true → All IsShort events.now }
     ensures no { result ≡ false → All IsShort events.now → ⊥ }
 {

@@ -32,7 +32,7 @@ pub fn run_world<'a, W: Wait>(
     alloc: Global,
     store: &'a MemoryStore,
     settings: Settings,
-    events: &[WorldEvent],
+    events: &[WorldEvent<'_>],
 ) -> Result<(World<MemoryReceipt<'a>>, Vec<Reply>), AllocError>
     requires one { settings.shards ≡ 1 }
     requires names { All IsShort events.now }
@@ -56,7 +56,7 @@ fn run_on<'a, W: Wait>(
     rt: &'a W,
     alloc: Global,
     store: &'a MemoryStore,
-    events: &[WorldEvent],
+    events: &[WorldEvent<'_>],
 ) -> Result<Vec<Reply>, AllocError>
     requires names { All IsShort events.now }
     requires held { AreHeld world.old }
@@ -80,7 +80,7 @@ fn turn<'a, W: Wait>(
     rt: &'a W,
     alloc: Global,
     store: &'a MemoryStore,
-    event: &WorldEvent,
+    event: &WorldEvent<'_>,
 ) -> Result<Reply, AllocError>
     requires name { IsShort event.now }
     requires held { AreHeld world.old }

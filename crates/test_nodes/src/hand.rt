@@ -32,11 +32,12 @@ const LIMITS: LabelLimits = LabelLimits {
 };
 
 /// All entries, the oldest first.
-const ALL: Question = Question {
+const ALL: Question<'static> = Question {
     start: 0,
     end: 0x8000_0000_0000_0000,
     order: Order::Forward,
     limit: 1_000_000,
+    after: None,
 };
 
 /// The lines that are pushed by lot.

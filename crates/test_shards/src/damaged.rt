@@ -38,7 +38,7 @@ fn part_line<S: StoreEnd>(
 /// The lines of each part that a snapshot shares, by their numbers.
 fn part_lines<S: StoreEnd>(
     alloc: Global,
-    snapshot: &Snapshot<S::Receipt>,
+    snapshot: &Snapshot<'_, S::Receipt>,
     end: &mut S,
 ) -> Result<String, QueryFault> {
     let mut lines = String::new(alloc);

@@ -4,7 +4,7 @@ use crate::owned::Owned;
 use crate::tasks::{Task, do_in_shard};
 use ing_labels::Selector;
 use ing_parts::{Found, Question, Snapshot};
-use ing_rows::Order;
+use ing_rows::{Cursor, Order};
 use ing_store::{Fuse, MemoryReceipt, MemoryStore, Receipt, StoreEnd};
 use ing_world::{QueryFault, run_query};
 use std::alloc::{AllocError, Global};
@@ -13,11 +13,12 @@ use std::sync::Wait;
 use std::test::Fail;
 
 /// All entries of the streams with label `a`, the oldest first.
-pub(crate) const ALL: Question = Question {
+pub(crate) const ALL: Question<'static> = Question {
     start: 0,
     end: 0x8000_0000_0000_0000,
     order: Order::Forward,
     limit: 100,
+    after: None,
 };
 
 /// Pushes lines of four bytes at these times to the stream `{a="1"}`, one at a time.
@@ -37,8 +38,8 @@ pub(crate) fn snapshots<R: Receipt>(
     one: &Owned<R>,
     alloc: Global,
     selector: &Selector,
-    question: Question,
-) -> Result<Vec<Snapshot<R>>, AllocError> {
+    question: Question<'static>,
+) -> Result<Vec<Snapshot<'static, R>>, AllocError> {
     let mut snapshots = Vec::new(alloc);
     snapshots.push(one.shard.snapshot(alloc, &one.tenant, selector, question)?)?;
     Ok(snapshots)
@@ -49,7 +50,7 @@ pub(crate) fn found<R: Receipt, S: StoreEnd<Receipt = R>>(
     one: &Owned<R>,
     alloc: Global,
     selector: &Selector,
-    question: Question,
+    question: Question<'static>,
     end: &mut S,
 ) -> Result<Vec<Found>, QueryFault> {
     run_query(
@@ -74,7 +75,7 @@ pub(crate) fn lines<R: Receipt, S: StoreEnd<Receipt = R>>(
     one: &Owned<R>,
     alloc: Global,
     selector: &Selector,
-    question: Question,
+    question: Question<'static>,
     end: &mut S,
 ) -> Result<String, QueryFault> {
     let found = found(one, alloc, selector, question, end)?;
@@ -82,7 +83,10 @@ pub(crate) fn lines<R: Receipt, S: StoreEnd<Receipt = R>>(
 }
 
 /// How many blocks and chunks a snapshot shares, and the lines that it copies.
-fn parts<R: Receipt>(alloc: Global, snapshot: Snapshot<R>) -> Result<(usize, String), AllocError> {
+fn parts<R: Receipt>(
+    alloc: Global,
+    snapshot: Snapshot<'static, R>,
+) -> Result<(usize, String), AllocError> {
     let count = snapshot.parts.len();
     let kept = snapshot.best.into_answer();
     Ok((count, joined(alloc, &kept)?))
@@ -93,7 +97,7 @@ fn shared<R: Receipt>(
     one: &Owned<R>,
     alloc: Global,
     selector: &Selector,
-    question: Question,
+    question: Question<'static>,
 ) -> Result<(usize, String), AllocError> {
     parts(
         alloc,
@@ -139,7 +143,7 @@ fn closed_blocks_are_shared(rt: HostRuntime) -> Result<(), Fail> {
 }
 
 /// From here on, the newest first where it is backward, so many.
-fn from(start: u64, order: Order, limit: usize) -> Question {
+fn from(start: u64, order: Order, limit: usize) -> Question<'static> {
     Question {
         start,
         order,
@@ -148,11 +152,23 @@ fn from(start: u64, order: Order, limit: usize) -> Question {
     }
 }
 
+/// What stands behind the entry of this stamp and number.
+fn behind(stamp: u64, number: u64, order: Order, limit: usize) -> Question<'static> {
+    Question {
+        after: Some(Cursor {
+            stamp,
+            stream: "{a=\"1\"}",
+            number,
+        }),
+        ..from(0, order, limit)
+    }
+}
+
 /// What is asked, after how many calls the store fails, and the lines that are found then; none where it is called oftener.
-type Row = (u64, Question, Option<&'static str>);
+type Row = (u64, Question<'static>, Option<&'static str>);
 
 /// The rows of a shard with two stored chunks, from time 1 to 4 and from 4 to 7, and an entry at time 9 in memory.
-fn rows() -> [Row; 10] {
+fn rows() -> [Row; 14] {
     [
         // What is in memory is enough; so is the last chunk beside it; the first is wanted at its greatest stamp.
         (0, from(0, Order::Backward, 1), Some("iiii")),
@@ -166,6 +182,11 @@ fn rows() -> [Row; 10] {
         // A chunk that lies outside the range is not fetched.
         (1, from(5, Order::Forward, 100), Some("ffffgggghhhhiiii")),
         (0, from(8, Order::Forward, 100), Some("iiii")),
+        // Two entries have time 4: a page goes on between them, and reads no chunk that lies before it.
+        (2, behind(4, 3, Order::Forward, 3), Some("eeeeffffgggg")),
+        (2, behind(4, 4, Order::Backward, 2), Some("ddddcccc")),
+        (1, behind(9, 8, Order::Backward, 2), Some("hhhhgggg")),
+        (0, behind(7, 7, Order::Forward, 2), Some("iiii")),
     ]
 }
 
@@ -177,7 +198,7 @@ fn found_after<'a, R: Wait + Abort>(
     store: &'a MemoryStore,
     selector: &Selector,
     calls: u64,
-    question: Question,
+    question: Question<'static>,
 ) -> Result<Option<String>, QueryFault> {
     let mut end = store.end(rt, Fuse::FailedFrom(calls));
     match lines(one, alloc, selector, question, &mut end) {

@@ -90,7 +90,7 @@ const STORED_YET_FAILED: [(Act, Told); 14] = [
 ];
 
 /// The push of one entry with a line of one byte, at this time.
-fn push_at(alloc: Global, time: u64) -> Result<WorldEvent, Fail> {
+fn push_at(alloc: Global, time: u64) -> Result<WorldEvent<'static>, Fail> {
     let tenant = Tenant::of_text(alloc, "t")?;
     let labels = Labels::of_pairs(alloc, &[("a", "1")], &LIMITS)?;
     let now = stamp(time)?;
@@ -109,7 +109,7 @@ fn push_at(alloc: Global, time: u64) -> Result<WorldEvent, Fail> {
 }
 
 /// A query of everything.
-fn query(alloc: Global) -> Result<WorldEvent, Fail> {
+fn query(alloc: Global) -> Result<WorldEvent<'static>, Fail> {
     let tenant = Tenant::of_text(alloc, "t")?;
     let selector = Selector::parse(alloc, "{a=\"1\"}")?;
     Ok(WorldEvent::Query {
@@ -119,7 +119,7 @@ fn query(alloc: Global) -> Result<WorldEvent, Fail> {
     })
 }
 
-fn event_of(alloc: Global, act: Act) -> Result<WorldEvent, Fail> {
+fn event_of(alloc: Global, act: Act) -> Result<WorldEvent<'static>, Fail> {
     Ok(match act {
         Act::Push(time) => return push_at(alloc, time),
         Act::Query => return query(alloc),
@@ -139,7 +139,7 @@ fn event_of(alloc: Global, act: Act) -> Result<WorldEvent, Fail> {
 }
 
 /// The events of rows.
-fn events_of(alloc: Global, rows: &[(Act, Told)]) -> Result<Vec<WorldEvent>, Fail> {
+fn events_of(alloc: Global, rows: &[(Act, Told)]) -> Result<Vec<WorldEvent<'static>>, Fail> {
     let mut events = Vec::new(alloc);
     for (act, _) in rows {
         events.push(event_of(alloc, *act)?)?;
@@ -169,7 +169,7 @@ fn run<R: Wait>(
     alloc: Global,
     store: &MemoryStore,
     settings: Settings,
-    events: &[WorldEvent],
+    events: &[WorldEvent<'static>],
 ) -> Result<(Vec<Reply>, Gauges), Fail> {
     let tenant = Tenant::of_text(alloc, "t")?;
     if !names_are_short(events) {

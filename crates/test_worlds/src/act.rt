@@ -72,7 +72,7 @@ pub enum Act {
     Query {
         tenant: usize,
         selector: usize,
-        question: Question,
+        question: Question<'static>,
     },
     Checkpoint,
 }
@@ -114,7 +114,7 @@ pub fn size_of(one: Logged) -> u64 {
 
 impl Act {
     /// The event.
-    pub fn event(self, alloc: Global) -> Result<WorldEvent> {
+    pub fn event(self, alloc: Global) -> Result<WorldEvent<'static>> {
         Ok(match self {
             Act::Push {
                 tenant: of,

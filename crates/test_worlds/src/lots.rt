@@ -100,6 +100,7 @@ impl Lots {
                 _ => Order::Backward,
             },
             limit: self.below(12) as usize,
+            after: None,
         };
         Act::Query {
             tenant: self.below(self.tenants) as usize,

@@ -277,7 +277,7 @@ impl Slow {
     }
 
     /// Filter, order and cut of what was accepted.
-    fn query(&self, tenant: usize, selector: usize, question: Question) -> Result<Wanted> {
+    fn query(&self, tenant: usize, selector: usize, question: Question<'static>) -> Result<Wanted> {
         let picks = SELECTORS.get(selector).context("a selector")?.1;
         let mut found = Vec::new(self.alloc);
         for kept in &self.tenants.get(tenant).context("a tenant")?.kept {

@@ -10,8 +10,8 @@ use super::Lane;
 use super::faults::answer_fault;
 use ing_commands::Query;
 use ing_labels::Selector;
-use ing_node::{NodeName, Question};
-use ing_session::{Reply, selector_fault};
+use ing_node::NodeName;
+use ing_session::{Reply, page_of, question_of, selector_fault};
 use ing_store::{Receipt, StoreEnd};
 use ing_wal::LogDisk;
 use std::alloc::AllocError;
@@ -61,12 +61,7 @@ impl<'r, N: NodeName, D: LogDisk + Drop, R: Receipt, F: StoreEnd<Receipt = R> + 
         ensures workers { self.new.workers ≡ self.old.workers }
         ensures end { GoesOn S.never_fails S.failure_count end.old end.new }
     {
-        let question = Question {
-            start: query.start,
-            end: query.end,
-            order: query.order,
-            limit: query.limit,
-        };
+        let question = question_of(query);
         match self.shared.ingester.query_after(
             self.rt,
             self.alloc,
@@ -79,6 +74,7 @@ impl<'r, N: NodeName, D: LogDisk + Drop, R: Receipt, F: StoreEnd<Receipt = R> + 
             Ok(answer) => Ok(Reply::Query {
                 found: answer.entries,
                 fronts: answer.fronts,
+                page: page_of(query),
             }),
             Err(fault) => answer_fault(fault),
         }

@@ -9,6 +9,7 @@ use Rattle.ing_node.specs.Names.{AreAcceptedIn}
 use Rattle.ing_node.specs.Queries.{AreBelow, AreNoLess, IsAskedOf}
 use Rattle.ing_diary.specs.PartAnswers.{StandApart}
 use Rattle.ing_diary.specs.Parts.{standing}
+use Rattle.ing_diary.specs.Questions.{question_view}
 use Rattle.ing_diary.specs.Answers.{standing_in}
 use Rattle.ing_node.proofs.Once.{once_more, standing_push}
 use Rattle.ing_node.proofs.PusherLaws.{amount_there, no_less_push, same_set}
@@ -32,7 +33,7 @@ loop-place-preserved g c =
     let count : place ≡ length c.loop-place.fronts.items = sym at.made.1 ∙ c.loop-place.fronts.ok.0 in
     let here : amount_at (length c.loop-place.fronts.items) told ≤ new.front =
     subst (λ i. amount_at i told ≤ new.front) count (subst (λ (ts : List ShareState). amount_at place ts ≤ new.front) at.same less) in
-    let P = λ (x : Snapshot g.row.R.Denot). IsAskedOf c.args.tenant.now c.args.selector.now c.args.question x in
+    let P = λ (x : Snapshot g.row.R.Denot). IsAskedOf c.args.tenant.now c.args.selector.now (question_view c.args.question) x in
     let shards = g.N.NodeName.settings.shards in
     let tenant = c.args.tenant.now in
     let more : standing_in (c.loop-place.snapshots.items ++ new ∷ []) ≡ standing_in c.loop-place.snapshots.items ++ standing new = standing_push c.loop-place.snapshots.items new in

@@ -5,6 +5,7 @@ use Rattle.ing_node.specs.Names.{AreAcceptedIn}
 use Rattle.ing_node.specs.Queries.{AreBelow, AreNoLess, IsAskedOf}
 use Rattle.ing_node.specs.Diaries.{notes_in}
 use Rattle.ing_diary.specs.PartAnswers.{StandApart}
+use Rattle.ing_diary.specs.Questions.{question_view}
 use Rattle.ing_diary.specs.Answers.{standing_in}
 use Rattle.ing_node.proofs.ingester.Ingester.look_after.Given as goal
 
@@ -15,7 +16,7 @@ invariant-loop-place g l = record {
   all : vec_len l.pusher-inside.told ≡ g.N.NodeName.settings.shards;
   own : AreAcceptedIn g.N.NodeName.books l.pusher-inside.told.items;
   places : l.pusher-inside.places ≡ g.N.NodeName.settings.shards;
-  snapshots : All (IsAskedOf l.tenant l.selector l.question) l.snapshots.items;
+  snapshots : All (IsAskedOf l.tenant l.selector (question_view l.question)) l.snapshots.items;
   fronts : AreNoLess l.fn.pusher.told l.fronts.items;
   told : l.fronts.items ≡ map (λ s. s.front) l.snapshots.items;
   once : StandApart (standing_in l.snapshots.items);

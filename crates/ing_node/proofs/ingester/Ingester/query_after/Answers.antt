@@ -1,4 +1,5 @@
 use Rattle.std.proofs.Common.{◌∙◌}
+use Rattle.ing_diary.specs.Questions.{question_view}
 use Rattle.ing_node.proofs.AnswerLaws.{rows_of}
 use Rattle.ing_node.proofs.ingester.Ingester.query_after.Goals as goal
 
@@ -6,7 +7,7 @@ pub returns-clause-selected : goal.returns-clause-selected
 returns-clause-selected g c =
     let tenant = c.args.tenant.now in
     let ms = c.args.selector.now in
-    let question = c.args.question in
+    let question = question_view c.args.question in
     let snapshots = c.in_ok-snapshots.snapshots.items in
     let asked = c.in_ok-snapshots.ensures.snapshots in
     let drawn = c.in_ok-entries.ensures.drawn (c.answers_are_of_snapshots.ensures.kept tenant ms question snapshots asked) in
@@ -16,7 +17,7 @@ pub returns-clause-found : goal.returns-clause-found
 returns-clause-found g c honest =
     let tenant = c.args.tenant.now in
     let ms = c.args.selector.now in
-    let q = c.args.question in
+    let q = question_view c.args.question in
     let joins = c.standing_joins.ensures in
     let looked = c.in_ok-snapshots.ensures in
     let entries = c.in_ok-entries.entries.items in

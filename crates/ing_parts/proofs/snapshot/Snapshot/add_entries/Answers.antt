@@ -3,4 +3,4 @@ use Rattle.ing_parts.proofs.RangeLaws.{adds_offered}
 use Rattle.ing_parts.proofs.snapshot.Snapshot.add_entries.Goals as goal
 
 pub returns : goal.returns
-returns g c = adds_offered c.args.name.now c.args.entries.now c.args.self.now _ refl refl refl refl c.in_ok-offer_entries.ensures
+returns g c = adds_offered c.args.name.now c.args.entries.now c.args.self.now _ refl refl refl c.in_ok-offer_entries.ensures
