@@ -101,8 +101,11 @@ class Speech:
         return self.series() | ({"name": self.draw.choice(["app", "id", "none"])} if self.draw.random() < 0.6 else {})
 
     def query(self):
-        among = {"start": [str(self.now - 10**9), "0"], "end": [str(self.now), str(2**63)], "limit": [1, 5, 5000], "direction": ["forward", "backward"]}
+        among = {"start": [str(self.now - 10**9), "0"], "end": [str(self.now), str(2**63)], "limit": [1, 5, 5000], "direction": ["forward", "backward"], "pages": [True, False]}
         options = {name: self.draw.choice(choices) for name, choices in among.items() if self.draw.random() < 0.5}
+        if self.draw.random() < 0.3:
+            stamp = self.draw.choice([self.last[0], str(self.now), str(self.now - 10**8)])
+            options["after"] = {"number": self.draw.choice([0, 1, 2, 5]), "stamp": stamp, "stream": canonical_name(self.labels())}
         return self.tenant() | {"query": self.draw.choice([BROAD, canonical_name(self.labels())])} | options
 
 

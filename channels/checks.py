@@ -230,13 +230,17 @@ class Listener:
         assert {*told} <= texts({*self.seen.before, *self.seen.sent}), f"{command} was answered what nobody pushed: {told}"
 
     def query(self, command, told):
-        assert set(told) == {"entries", "fronts"}, f"a query was answered {told}"
+        asked = Asked.of(command)
+        is_full = asked.pages and len(told["entries"]) == asked.limit
+        assert set(told) == {"entries", "fronts"} | ({"next"} if is_full else set()), f"a query was answered {told}"
         for front, before in zip(told["fronts"], [max(both) for both in zip(self.fronts, self.counts)], strict=True):
             assert is_count(front) and front >= before, f"a front is {front}, and this channel was told {before}"
         self.fronts = told["fronts"]
         found = [(int(entry["stamp"]), entry["stream"].encode(), entry["line"]) for entry in told["entries"]]
         assert all(set(entry) == {"line", "stamp", "stream"} for entry in told["entries"]), f"entries are {told['entries']}"
-        check_answer(self.seen, Asked.of(command), found, self.told)
+        check_answer(self.seen, asked, found, self.told)
+        if is_full:
+            check_next(self.seen, asked, found[-1], told["next"])
 
 
 @dataclass
@@ -248,17 +252,28 @@ class Asked:
     end: int
     limit: int
     is_backward: bool
+    after: tuple | None
+    pages: bool
 
     @classmethod
     def of(cls, command):
         start, end = int(command.get("start", "0")), int(command.get("end", str(2**63)))
-        return cls(command["tenant"], command["query"], start, end, command.get("limit", 100), command.get("direction") != "forward")
+        place = command.get("after")
+        after = place and (int(place["stamp"]), place["stream"].encode(), place["number"])
+        is_backward, pages = command.get("direction") != "forward", command.get("pages", False)
+        return cls(command["tenant"], command["query"], start, end, command.get("limit", 100), is_backward, after, pages)
 
     def picks(self, stream):
         return stream[0] == self.tenant and self.selector in (BROAD, stream[1])
 
-    def has(self, stamp):
-        return self.start <= stamp < self.end
+    def has(self, stamp, name, number):
+        """Whether an entry of this number is wanted, of a stream of this canonical name; `number` is None where it is not known."""
+        if not self.start <= stamp < self.end:
+            return False
+        if self.after is None:
+            return True
+        place, edge = ((stamp, name, number), self.after) if number is not None else ((stamp, name), self.after[:2])
+        return (place < edge if self.is_backward else place > edge) or (number is None and place == edge)
 
 
 def texts_of(command, name):
@@ -281,7 +296,7 @@ def check_answer(seen, asked, found, told):
     """What a query found: in order, pushed by someone, with what this channel was told, and of each stream a front of its entries."""
     keys = [entry[:2] for entry in found]
     assert keys == sorted(keys, reverse=asked.is_backward), f"{asked} has an answer out of order: {found}"
-    assert len(found) <= asked.limit and all(asked.has(stamp) for stamp, _ in keys), f"{asked} has an answer of others: {found}"
+    assert len(found) <= asked.limit and all(asked.has(*key, None) for key in keys), f"{asked} has an answer of others: {found}"
     counted = collections.defaultdict(collections.Counter)
     for stamp, name, line in found:
         counted[asked.tenant, name.decode()][stamp, line] += 1
@@ -290,19 +305,32 @@ def check_answer(seen, asked, found, told):
         assert asked.picks(stream) and not more, f"{asked} found what was not pushed, or more often: {stream}, {more}"
     whole = len(found) < asked.limit
     for stream in filter(asked.picks, {*told, *seen.before}):
-        entries = collections.Counter(seen.before.get(stream, [])) + collections.Counter((stamp, line) for stamp, _, line in told.get(stream, []))
+        numbered = [(stamp, number, line) for number, (stamp, line) in enumerate(seen.before.get(stream, []))] + told.get(stream, [])
+        name = stream[1].encode()
+        entries = collections.Counter((stamp, line) for stamp, number, line in numbered if asked.has(stamp, name, number))
         for (stamp, line), count in entries.items():
-            key = stamp, stream[1].encode()
-            is_sure = asked.has(stamp) and (whole or (key > keys[-1] if asked.is_backward else key < keys[-1]))
+            key = stamp, name
+            is_sure = whole or (key > keys[-1] if asked.is_backward else key < keys[-1])
             assert not is_sure or counted[stream][stamp, line] >= count, f"{asked} lacks {(stamp, line)} of {stream}: {found}"
     for stream in filter(asked.picks, seen.after):
         if whole or asked.selector != BROAD:
             check_front(seen, asked, stream, [(stamp, line) for stamp, name, line in found if name.decode() == stream[1]])
 
 
+def check_next(seen, asked, last, place):
+    """The next page is told to begin behind the last entry of a full one."""
+    stamp, name, line = last
+    told = int(place["stamp"]), place["stream"].encode()
+    assert set(place) == {"number", "stamp", "stream"} and is_count(place["number"]) and told == (stamp, name), f"{asked} goes on behind {place}, and not {last}"
+    entries = seen.after.get((asked.tenant, name.decode()))
+    is_there = entries is None or entries[place["number"] : place["number"] + 1] == [(stamp, line)]
+    assert is_there, f"{asked} goes on behind {place}, which is no number of {last}"
+
+
 def check_front(seen, asked, stream, found):
     """Of a stream whose entries are known by number, the first so many as accepted were answered for."""
-    wanted = [(stamp, number) for number, (stamp, _) in enumerate(seen.after[stream]) if asked.has(stamp)]
+    name = stream[1].encode()
+    wanted = [(stamp, number) for number, (stamp, _) in enumerate(seen.after[stream]) if asked.has(stamp, name, number)]
     ordered = []
     for count in range(len(wanted) + 1):
         answer = (ordered[::-1] if asked.is_backward else ordered)[: asked.limit] if len(ordered) >= len(found) else []

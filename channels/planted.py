@@ -248,6 +248,14 @@ def unlisted(kind):
     return plant
 
 
+def paged(change):
+    """A full page tells nothing of the next one, or that it begins elsewhere."""
+    def plant(seen, draw):
+        found = drawn(draw, [each for each in answered(seen, "query") if "next" in each[3]])
+        return bool(found) and put(found[2], "query", change(found[3]))
+    return plant
+
+
 def no_gauges(told):
     return [shard | {name: {"bytes": "0", "entries": 0} for name in ("block", "flight", "head", "stored")} for shard in told]
 
@@ -309,6 +317,8 @@ PLANTS |= {"disordered": entries(disordered), "lacking": entries(lacking), "hole
 PLANTS |= {"board": nothing("board", lambda told: [{"accepted": 0, "stored": 0} for _ in told]), "gauges": nothing("gauges", no_gauges)}
 PLANTS |= {"fronts": nothing("query", lambda told: told | {"fronts": [0 for _ in told["fronts"]]})}
 PLANTS |= {"series": unlisted("series"), "labels": unlisted("labels"), "listed": listed("series", '{zzz="1"}'), "named": listed("labels", "zzz")}
+PLANTS |= {"unpaged": paged(lambda told: {name: told[name] for name in ("entries", "fronts")})}
+PLANTS |= {"next": paged(lambda told: told | {"next": told["next"] | {"stamp": str(int(told["next"]["stamp"]) + 1)}})}
 PLANTS |= {"accepted": reported(lambda shard: {"accepted": shard["accepted"] + 1, "kept": shard["kept"] + 1}), "broken": breaks}
 PLANTS |= {"recovered": reported(lambda shard: {"accepted": shard["accepted"] - 1, "recovered": shard["recovered"] + 1})}
 PLANTS |= {"kept": reported(lambda shard: {"kept": shard["kept"] + 1, "stored": shard["stored"] - 1}), "sum": reported(lambda shard: {"kept": shard["kept"] + 1})}

@@ -32,6 +32,9 @@ BAD_LABELS = [{}, {"a": ""}, {"1a": "x", "b": "1"}, {"b": "1", "ä": "x"}, {"a":
 LINES = ["", "x", "hello", 'quote " and \\', "line\nfeed\r\t\x01\x7f", "ä€😀", "a longer line, of forty bytes or so there"]
 BAD_LINES = ["{", "[]", "null", '{"cmd":"nope"}', '{"cmd":1}', '{"cmd":"push"}', '{"cmd":"sweep","now":5}', '{"cmd":"sweep","now":"1x"}']
 BAD_LINES += ['{"cmd":"flush","forced":0}', '{"cmd":"gauges","tenant":".."}', '{"cmd":"gauges"}', '{"cmd":"sweep","now":"9223372036854775808"}']
+BAD_LINES += ['{"cmd":"query","tenant":"t","query":"{a=\\"1\\"}","after":{"number":1,"stamp":"1"}}']
+BAD_LINES += ['{"cmd":"query","tenant":"t","query":"{a=\\"1\\"}","after":{"number":-1,"stamp":"1","stream":""}}']
+BAD_LINES += ['{"cmd":"query","tenant":"t","query":"{a=\\"1\\"}","after":{"number":1,"stamp":"x","stream":""}}']
 BAD_LINES += ['{"cmd":"series"}', '{"cmd":"series","tenant":"t","query":null}', '{"cmd":"labels","tenant":"..","name":1}']
 BAD_LINES += ['{"cmd":"query","tenant":"t","query":"{a=\\"1\\"}","limit":0}', '{"cmd":"query","tenant":"t","query":"{}"}']
 BAD_LINES += ['{"cmd":"push","tenant":"t","now":"1","streams":[{"stream":{"a":"1"},"values":[["1","x",{}]]}]}']
@@ -124,9 +127,16 @@ class Drawing:
         return self.series() | ({"name": self.draw.choice([*NAMES, "none", ""])} if self.draw.random() < 0.6 else {})
 
     def query(self):
-        among = {"start": [str(self.now - 100), "0"], "end": [str(self.now), str(2**63)], "limit": [2, 5, 5000], "direction": ["forward", "backward"]}
+        among = {"start": [str(self.now - 100), "0"], "end": [str(self.now), str(2**63)], "limit": [2, 5, 5000], "direction": ["forward", "backward"], "pages": [True, True, False]}
         options = {name: self.draw.choice(choices) for name, choices in among.items() if self.draw.random() < 0.4}
+        if self.draw.random() < 0.3:
+            options["after"] = self.cursor()
         return self.tenant() | self.selector() | options
+
+    def cursor(self):
+        """The place of an entry that may stand there, or may not."""
+        place = {"number": self.draw.choice([0, 0, 1, 1, 2, 3, 5, 2**64 - 1]), "stamp": str(max(0, self.now + self.draw.choice([0, 0, 1, -1, -4, -20])))}
+        return place | {"stream": self.draw.choice(['{a="1"}', '{a="1"}', '{a="2"}', '{app="web"}', "", "no name"])}
 
 
 def compare(lines, written, expected):

@@ -141,6 +141,11 @@ def stamp_of(text, below=2**63):
     return int(text)
 
 
+def require_cursor(after):
+    require(isinstance(after, dict) and all(isinstance(after.get(name), str) for name in ("stamp", "stream")))
+    require(type(after.get("number")) is int and 0 <= after["number"] < 2**64)
+
+
 def require_tenant(text):
     require(TENANT.fullmatch(text) and text not in (".", ".."), "BadTenant")
 
@@ -323,12 +328,25 @@ class Model:
         direction = command.get("direction", "backward")
         require(isinstance(start, str) and isinstance(end, str) and direction in ("forward", "backward"))
         require(type(limit) is int and 1 <= limit <= 5000)
+        after = command.get("after")
+        if "after" in command:
+            require_cursor(after)
+        pages = command.get("pages", False)
+        require(isinstance(pages, bool))
         require_tenant(command["tenant"])
         start, end = stamp_of(start), stamp_of(end, 2**63 + 1)
+        after = (stamp_of(after["stamp"]), after["stream"].encode(), after["number"]) if "after" in command else None
         found = self.wanted(command["tenant"], matchers_of(command["query"]), start, end)
         found.sort(key=lambda each: each[:3], reverse=direction == "backward")
-        entries = [{"line": line, "stamp": str(stamp), "stream": name.decode()} for stamp, name, _, line in found[:limit]]
-        return {"query": {"entries": entries, "fronts": self.fronts()}}
+        if after is not None:
+            found = [each for each in found if (each[:3] < after if direction == "backward" else each[:3] > after)]
+        found = found[:limit]
+        entries = [{"line": line, "stamp": str(stamp), "stream": name.decode()} for stamp, name, _, line in found]
+        answer = {"entries": entries, "fronts": self.fronts()}
+        if pages and len(found) == limit:
+            stamp, name, number, _ = found[-1]
+            answer["next"] = {"number": number, "stamp": str(stamp), "stream": name.decode()}
+        return {"query": answer}
 
     def wanted(self, tenant, matchers, start, end):
         """Of each entry its stamp, canonical name, number and line."""

@@ -191,6 +191,6 @@ CASES |= {"show_a_damaged_log": 1, "check_the_room": 0, "check_a_changed_chunk":
 CASES |= {"check_a_damaged_log": 1, "check_forged_logs": 1}
 CASES |= {"mend_zeros_cut": 0, "export_two_shards": 0, "export_beside_a_missing_chunk": 1, "export_more_streams_than_may_live": 0}
 CASES |= {"refusal_by_name": 0, "tick_with_a_checkpoint": 0, "query_of_words": 0, "query_since": 0, "query_refused": 2}
-CASES |= {"entries_as_json": 0, "entries_of_equal_stamps_over_a_border": 0, "next_forward": 0, "next_of_one_stamp": 0}
+CASES |= {"entries_as_json": 0, "next_forward": 0, "next_of_one_stamp_second": 0}
 
 BODIES = [*in_memory(), *IN_FOLDERS, *OF_FOLDERS, *(OfCase(name, status) for name, status in CASES.items())]
