@@ -84,10 +84,28 @@ def test_filters_look_through_all_pages(front):
         assert client.push({"a": "1"}, *lines[first : first + 5000]) == (204, "")
     assert client.found('{a="1"} |= "999"') == [one for one in lines if "999" in one[1]]
     assert client.found('{a="1"} |= "999"', direction="backward") == [one for one in lines if "999" in one[1]][::-1]
-    assert client.push({"b": "1"}, *((5, f"line {number}") for number in range(6000))) == (204, "")
-    assert len(client.found('{b="1"}')) == 5000
-    status, answer = client.ask("/loki/api/v1/query_range", query='{b="1"} |= "none"', start="0")
-    assert status == 400 and "5000 entries or more have the stamp 5" in answer
+
+
+@pytest.mark.parametrize("channels", ["1", "3"])
+def test_more_of_one_stamp_than_an_answer_holds_come_in_pages(front, channels):
+    client = front("shards = 2\n", "--channels", channels)
+    lines = {name: [(5, f"{name} line {number}") for number in range(6000)] for name in "12"}
+    for first in (0, 3000):
+        for name in "12":
+            assert client.push({"a": "1", "b": name}, *lines[name][first : first + 3000]) == (204, "")
+        # The first halves are stored, the others in memory.
+        assert first or json.loads(client.ask("/flush", b"")[1])["flush"]["stored"] == 2
+    whole = lines["1"] + lines["2"]
+    wanted = [one for one in whole if "99" in one[1]]
+    assert client.found('{a="1"} |= "99"') == wanted and client.found('{a="1"} |= "none"') == []
+    assert client.found('{a="1"} |= "99"', direction="backward") == wanted[::-1]
+    assert client.found('{a="1"}') == whole[:5000] and client.found('{a="1"}', direction="backward") == whole[:-5001:-1]
+    # Behind a start they are looked through for what is sent again.
+    client.run.kill()
+    client.run.start()
+    assert client.push({"a": "1", "b": "2"}, (5, "2 line 0"), (5, "2 line 5999"), (5, "new")) == (204, "")
+    assert client.counts()["front_lines_already_there_total"] == 2
+    assert client.found('{a="1"} != "line"') == [(5, "new")]
 
 
 def test_wrong_queries_are_refused(front):

@@ -43,7 +43,6 @@ class Metrics:
         self.already_there = self._counter("lines_already_there", "Lines left out: they stood before this start.")
         self.refused = self._counter("lines_refused", "Lines that were not accepted.", "reason")
         self.not_durable = self._counter("lines_not_durable", "Lines accepted, but not in a log.")
-        self.unchecked = self._counter("lines_unchecked", "Lines pushed though it could not be told whether they stood before.")
         self.mended = self._counter("texts_mended", "What was no text and became U+FFFD.")
         self.metadata = self._counter("metadata_dropped", "Entries whose structured metadata was dropped.")
         self.remembered = self._counter("answers_remembered", "Pushes that were sent again, and answered without a push.")

@@ -1,9 +1,8 @@
 """Entries page by page, none lost between two pages and none twice."""
-import collections
 from collections.abc import AsyncIterator, Awaitable, Callable
-from dataclasses import dataclass
+from dataclasses import dataclass, replace
 
-from .faults import refused
+from .faults import Fault, refused
 from .stamps import STAMP_LIMIT
 
 # The most entries of one answer of the program.
@@ -15,92 +14,50 @@ PAGE_BYTES = 1 << 23
 Ask = Callable[[dict], Awaitable[dict]]
 
 
-class OneStamp(Exception):
-    """More entries may have the stamp `stamp` than one answer holds."""
-
-    def __init__(self, stamp: int):
-        super().__init__(stamp)
-        self.stamp = stamp
-
-    def __str__(self) -> str:
-        return f"{MOST} entries or more have the stamp {self.stamp}, of which an answer holds no more; ask for fewer streams"
-
-
 @dataclass
 class Range:
-    """What is asked for: a tenant's entries of a selector with stamps from `start` to below `end`."""
+    """What is asked for: a tenant's entries of a selector with stamps from `start` to below `end`.
+
+    With `after`, the place that a reply gives as `next`, those alone that stand behind it in their order.
+    """
 
     tenant: str
     selector: str
     start: int = 0
     end: int = STAMP_LIMIT
     backward: bool = False
+    after: dict | None = None
 
     def command(self, limit: int) -> dict:
-        """The command for the first `limit` entries."""
+        """The command for a page, the first `limit` entries."""
         direction = "backward" if self.backward else "forward"
         command = {"cmd": "query", "tenant": self.tenant, "query": self.selector, "limit": limit, "direction": direction}
-        return command | {"start": str(self.start), "end": str(self.end)}
-
-    def go_on(self, stamp: int) -> None:
-        """Begins with this stamp, whole."""
-        if self.backward:
-            self.end = stamp + 1
-        else:
-            self.start = stamp
-
-
-async def first(ask: Ask, wanted: Range, limit: int) -> list[dict]:
-    """The first entries, at most `limit`, which is at most MOST.
-
-    Raises Fault: 400 for a selector that the program does not read, 500 as where the store did not give what is stored.
-    """
-    if wanted.start >= wanted.end:
-        return []
-    reply = await ask(wanted.command(limit))
-    if "error" in reply:
-        raise refused("query", reply)
-    return reply["query"]["entries"]
+        command |= {"start": str(self.start), "end": str(self.end), "pages": True}
+        return command if self.after is None else command | {"after": self.after}
 
 
 async def walk(ask: Ask, wanted: Range, limit: int = FIRST_PAGE) -> AsyncIterator[list[dict]]:
-    """All entries that are wanted, in order, in pages, the first of at most `limit`. `wanted` is changed.
+    """All entries that are wanted, in order, in pages, the first of at most `limit`, which is at most MOST.
 
-    The last stamp of a page is asked for again whole, and what was seen of it is left out, by stream and line: so what is
-    pushed meanwhile moves no entry out of sight. Raises OneStamp where a stamp may have more entries than an answer holds,
-    and what `first` raises.
+    Each page goes on exactly behind the last entry of the one before, however many have its stamp: none comes twice. Of what is
+    accepted meanwhile, what stands behind that entry is found, and what stands before it is not.
+
+    Raises Fault: 400 for a selector that the program does not read, 500 as where the store did not give what is stored, or where
+    the program does not tell where the next page begins.
     """
-    edge: int | None = None
-    seen: collections.Counter = collections.Counter()
+    if wanted.start >= wanted.end:
+        return
     while True:
-        page = await first(ask, wanted, limit)
-        fresh = list(_not_seen(page, edge, seen))
-        yield fresh
-        if len(page) < limit:
+        reply = await ask(wanted.command(limit))
+        if "error" in reply:
+            raise refused("query", reply)
+        page, after = reply["query"]["entries"], reply["query"].get("next")
+        yield page
+        if after is None and len(page) == limit:
+            raise Fault(500, "the program does not tell where the next page begins; it is older than the front\n")
+        if after is None:
             return
-        last = int(page[-1]["stamp"])
-        if int(page[0]["stamp"]) == last:
-            # The page has one stamp alone: only a longer one shows whether there is more of it.
-            if limit == MOST:
-                raise OneStamp(last)
-            limit = MOST
-        else:
-            limit = _next_limit(page)
-        if last != edge:
-            edge, seen = last, collections.Counter()
-        seen.update((entry["stream"], entry["line"]) for entry in fresh if int(entry["stamp"]) == edge)
-        wanted.go_on(last)
-
-
-def _not_seen(page: list[dict], edge: int | None, seen: collections.Counter):
-    """The entries of a page without those of the stamp `edge` that were seen; each of these stands for one."""
-    left = seen.copy()
-    for entry in page:
-        key = (entry["stream"], entry["line"])
-        if left[key] > 0 and int(entry["stamp"]) == edge:
-            left[key] -= 1
-        else:
-            yield entry
+        wanted, limit = replace(wanted, after=after), _next_limit(page)
 
 
 def _next_limit(page: list[dict]) -> int:

@@ -55,10 +55,7 @@ class Queries:
         backward, limit = _direction(words), self._limit(words)
         wanted = pages.Range(tenant_of(request), query.selector(), start, end, backward)
         async with self._turn():
-            try:
-                found, looked_at, size = await self._collect(wanted, query, limit)
-            except pages.OneStamp as fault:
-                raise Fault(400, f"{fault}\n") from None
+            found, looked_at, size = await self._collect(wanted, query, limit)
         return answers.success(answers.streams(found, looked_at, size, began))
 
     @contextlib.asynccontextmanager

@@ -14,7 +14,6 @@ from . import pages
 from .bodies import Stream
 from .faults import Fault, unavailable
 from .labels import canonical_name
-from .metrics import Metrics
 
 BAD_SELECTOR, TOO_WIDE = 8, 9
 # Of how many streams the stamps of before are kept.
@@ -32,7 +31,6 @@ class Resent:
 
     ask: pages.Ask
     checkpoint: Callable[[], Awaitable[None]]
-    metrics: Metrics
     fresh: bool = False
     doubts: int = 0
     settled: int = 0
@@ -81,12 +79,11 @@ class Resent:
         old = [int(stamp) for stamp, _ in stream.values if int(stamp) <= before]
         if not old:
             return stream
-        stands = set()
+        sent = {(int(stamp), line) for stamp, line in stream.values}
+        stands: set[tuple[int, str]] = set()
         try:
             async for page in pages.walk(self.ask, pages.Range(tenant, name, min(old), max(old) + 1)):
-                stands |= {(int(entry["stamp"]), entry["line"]) for entry in page if entry["stream"] == name}
-        except pages.OneStamp:
-            self.metrics.unchecked.inc(len(old))
+                stands |= sent & {(int(entry["stamp"]), entry["line"]) for entry in page if entry["stream"] == name}
         except Fault as fault:
             raise unavailable(f"whether these entries stand already cannot be told: {fault.text}") from None
         return Stream(stream.labels, [[stamp, line] for stamp, line in stream.values if (int(stamp), line) not in stands])

@@ -36,7 +36,7 @@ class Front:
         self.metrics = Metrics(lambda: self.child.pid)
         self.child = Child([settings.program, settings.settings_file, settings.folder], self.metrics, settings.channels)
         self.housekeeping = Housekeeping(self.child, self.metrics, settings)
-        self.resent = Resent(self.child.ask, self.housekeeping.checkpoint, self.metrics)
+        self.resent = Resent(self.child.ask, self.housekeeping.checkpoint)
         self.pushes = Pushes(self.child, limits, self.resent, self.metrics, settings)
         self.queries = Queries(self.child.ask, settings)
         self.counting = asyncio.Lock()

@@ -83,20 +83,41 @@ def streams_of(tenant, selector):
     return [(name, labels) for name, labels in found if matches(selector, labels)]
 
 
+def fault_of_page(command):
+    """How a query is refused whose `pages` or `after` is none, or None."""
+    match command:
+        case {"pages": pages} if not isinstance(pages, bool):
+            return {"error": "BadCommand", "number": 33}
+        case {"after": {"number": number, "stamp": str(stamp), "stream": str()}} if type(number) is int and 0 <= number < 2**64:
+            is_stamp = re.fullmatch("[0-9]{1,19}", stamp) and int(stamp) < 2**63
+            return None if is_stamp else {"error": "BadStamp", "number": 31}
+        case {"after": _}:
+            return {"error": "BadCommand", "number": 33}
+    return None
+
+
 def query(command, names):
+    backward, limit = command.get("direction", "backward") == "backward", command.get("limit", 100)
     found = []
     for name in names:
         entries = streams[command["tenant"], name]
         found += [(int(stamp), name, number, line) for number, (stamp, line) in enumerate(entries)]
     found = [one for one in found if int(command.get("start", 0)) <= one[0] < int(command.get("end", 2**63))]
-    found.sort(reverse=command.get("direction", "backward") == "backward")
-    found = found[: command.get("limit", 100)]
-    entries = [{"line": line, "stamp": str(stamp), "stream": name} for stamp, name, _, line in found]
-    return {"query": {"entries": entries, "fronts": [0]}}
+    if "after" in command:
+        after = int(command["after"]["stamp"]), command["after"]["stream"], command["after"]["number"]
+        found = [one for one in found if (one[:3] < after if backward else one[:3] > after)]
+    found = sorted(found, reverse=backward)[:limit]
+    answer = {"entries": [{"line": line, "stamp": str(stamp), "stream": name} for stamp, name, _, line in found], "fronts": [0]}
+    if command.get("pages", False) and len(found) == limit:
+        stamp, name, number, _ = found[-1]
+        answer["next"] = {"number": number, "stamp": str(stamp), "stream": name}
+    return {"query": answer}
 
 
 def question(command):
     selector = command.get("query", "{}")
+    if command["cmd"] == "query" and (fault := fault_of_page(command)):
+        return fault
     if command["tenant"] == "lost":
         return {"error": "Misplaced", "number": 43}
     if not re.fullmatch(rf"\{{({PAIR}(, {PAIR})*)?\}}", selector):

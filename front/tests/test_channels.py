@@ -15,7 +15,6 @@ import pytest
 
 from sarymbeu_front import child
 from sarymbeu_front.bodies import Stream
-from sarymbeu_front.metrics import Metrics
 from sarymbeu_front.resent import Resent
 from sarymbeu_front.server import serve
 from sarymbeu_front.settings import read_settings
@@ -187,7 +186,7 @@ def test_a_stamp_that_comes_into_doubt_while_it_is_asked_for_is_not_kept(doubted
             left_out.doubt("t", streams)
         return {"query": {"entries": []}}
 
-    left_out = Resent(ask, None, Metrics(lambda: None))
+    left_out = Resent(ask, None)
     assert asyncio.run(left_out.without_standing("t", streams)) == streams
     assert left_out.may_stand("t", streams) == doubted
 

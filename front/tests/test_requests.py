@@ -6,7 +6,7 @@ import json
 import pytest
 import snappy
 
-from sarymbeu_front import push_pb2, resent
+from sarymbeu_front import pages, push_pb2, resent
 from sarymbeu_front.faults import refused
 
 PUSH, RANGE = "/loki/api/v1/push", "/loki/api/v1/query_range"
@@ -162,6 +162,24 @@ def test_many_entries_of_a_stream_go_in_parts(with_front):
         values = [(str(number), f"line {number}") for number in range(5)]
         assert await push(client, {"a": "1"}, *values, tenant="small") == (204, "")
         assert [line for _, _, line in await found(client, '{a="1"}', tenant="small")] == [line for _, line in values]
+
+    with_front(work)
+
+
+@pytest.mark.parametrize("direction", ["forward", "backward"])
+def test_pages_go_on_within_a_stamp(with_front, monkeypatch, direction):
+    monkeypatch.setattr(pages, "FIRST_PAGE", 2)
+    monkeypatch.setattr(pages, "MOST", 3)
+
+    async def work(client, _):
+        whole = [({"a": "1", "b": name}, "5", f"{'xy'[number % 2]} {number}") for name in "12" for number in range(10)]
+        for at in (0, 10):
+            assert await push(client, whole[at][0], *(entry[1:] for entry in whole[at : at + 10])) == (204, "")
+        whole = whole if direction == "forward" else whole[::-1]
+        for text, limit in (("", 100), ("", 7), ("", 1), ("x", 100), ("x", 6), ("y 9", 1), ("z", 1)):
+            wanted = [entry for entry in whole if text in entry[2]][:limit]
+            query = '{a="1"}' + (f' |= "{text}"' if text else "")
+            assert await found(client, query, direction=direction, limit=str(limit)) == wanted, (text, limit)
 
     with_front(work)
 
