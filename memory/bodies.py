@@ -119,6 +119,10 @@ QUERIES = [
 ]
 # What is queried stands in heads and blocks, and then in the store.
 FLUSHES = [*PUSHES[:2], *QUERIES, sweep(1100), sweep(4002 * SECOND), DUE, *PUSHES[3:], FLUSH, *QUERIES, GAUGES, BOARD, CHECKPOINT]
+# Names of streams and labels, and a query page by page.
+NAMES = ['{"cmd":"series","tenant":"t"}', '{"cmd":"series","tenant":"t","query":"{a=\\"1\\", b=\\"2\\"}"}', '{"cmd":"labels","tenant":"t"}']
+NAMES += ['{"cmd":"labels","tenant":"t","name":"a"}', '{"cmd":"labels","tenant":"t","query":"{a!=\\"1\\"}"}', '{"cmd":"series","tenant":"t","query":"{a"}']
+PAGES = [query("t", '{a="1"}', limit=2, pages=True, **after) for after in ({}, {"after": {"number": 0, "stamp": "1001", "stream": '{a="1", b="2"}'}})]
 LONG = [push("t", 5, ({"a": "1"}, [(5, "x" * 40000), (5, "y" * 40000)])), query("t", '{a="1"}', limit=1)]
 
 
@@ -129,6 +133,7 @@ def in_memory():
         InMemory("in memory: pushes", words, given_of([*PUSHES, ESCAPES, OTHER_FORM]), files),
         InMemory("in memory: faults", words, given_of(FAULTS), files),
         InMemory("in memory: flushes and queries", words, given_of(FLUSHES), files),
+        InMemory("in memory: names and pages", words, given_of([*PUSHES[:2], *NAMES, *PAGES, FLUSH, *NAMES, *PAGES]), files),
         InMemory("in memory: other settings", ["others.toml"], given_of([ESCAPES]), files),
         InMemory("in memory: a line of 80,000 bytes, without a line feed", [], given_of(LONG)[:-1]),
         InMemory("in memory: standard input closed", [], closed=0),
@@ -153,6 +158,8 @@ LIFE = [
     push("t", T + 4 * SECOND, (ZERO, [(T + 4 * SECOND + at, "gggg") for at in range(6)]), (WEB, [(T + 4 * SECOND, "hhhh")])),
     query("t", '{id="0"}', direction="backward", **ENDS),
 ]
+ASKED = ['{"cmd":"series","tenant":"t"}', '{"cmd":"labels","tenant":"t"}', '{"cmd":"labels","tenant":"t","name":"id"}']
+ASKED += [query("t", '{id="0"}', direction="forward", start="0", end=str(2**63), limit=2, pages=True)]
 MORE = [LIFE[-2], FLUSH, LIFE[-1]]
 
 
@@ -175,6 +182,7 @@ IN_FOLDERS = [
     InFolder("a folder behind a checkpoint, one shard, two flushers", sizes(1, 2), MORE[:1], [*LIFE, CHECKPOINT]),
     InFolder("a channel over a new folder, two shards", sizes(2, 1), LIFE, is_channel=True),
     InFolder("a channel over a folder with stored, waiting and growing chunks, two shards", sizes(2, 1), MORE, LIFE, is_channel=True),
+    InFolder("a channel that asks for names and pages, two shards", sizes(2, 1), [*LIFE[:2], *ASKED], is_channel=True),
     InFolder("a folder of an earlier version, which was stopped, one shard, one flusher", sizes(1, 1), MORE[:1], LIFE[:5], as_stopped),
 ]
 

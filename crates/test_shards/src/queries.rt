@@ -186,7 +186,7 @@ fn rows() -> [Row; 14] {
         (2, behind(4, 3, Order::Forward, 3), Some("eeeeffffgggg")),
         (2, behind(4, 4, Order::Backward, 2), Some("ddddcccc")),
         (1, behind(9, 8, Order::Backward, 2), Some("hhhhgggg")),
-        (0, behind(7, 7, Order::Forward, 2), Some("iiii")),
+        (0, behind(8, 0, Order::Forward, 2), Some("iiii")),
     ]
 }
 
