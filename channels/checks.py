@@ -3,6 +3,7 @@ import bisect
 import collections
 import json
 import pathlib
+import re
 import subprocess
 import sys
 from dataclasses import dataclass
@@ -12,12 +13,13 @@ sys.path += [str(TOP / "kills"), str(TOP / "inputs"), str(TOP / "forged")]
 from clients import BROKEN  # noqa: E402
 from kills import GROWING, SEALED, canonical_name, entries_of  # noqa: E402
 from kills import Model as Kept  # noqa: E402
-from model import Chunk, Entry, Model, Refused, Settings, Stream, labels_of, matchers_of, text_of  # noqa: E402
+from model import MATCHER, Chunk, Entry, Model, Refused, Settings, Stream, labels_of, matchers_of, text_of  # noqa: E402
 
 DURATIONS = {"1s": 10**9, "10s": 10**10, "30m": 1800 * 10**9, "2h": 7200 * 10**9}
 OF_CHANNELS = ("flush_check_period", "checkpoint_log_size", "diaries")  # the settings that the model has not
 PLACES = ["block", "flight", "head", "stored"]
 BROAD = '{app="web"}'  # picks all streams of a tenant
+SPELT = re.compile(rf"{{{MATCHER.pattern}(,{MATCHER.pattern})*}}", re.ASCII)  # the canonical name of a stream
 
 
 def is_count(value):
@@ -277,7 +279,9 @@ class Asked:
 
 
 def texts_of(command, name):
-    """What a stream of this canonical name tells of what a question for a catalog asks for."""
+    """What a stream of this canonical name tells of what a question for a catalog asks for; nothing, if its labels are refused."""
+    if not SPELT.fullmatch(name):
+        return set()
     labels = {label: value for label, _, value in matchers_of(name)}
     if command["cmd"] == "series":
         return {name}

@@ -44,8 +44,9 @@ pub fn are_summed(alloc: Global, one: &[u8], several: &[u8]) -> Result<bool> {
 fn is_summed(alloc: Global, one: &str, several: &str) -> Result<bool> {
     let one = Value::from_str(alloc, one)?;
     let several = Value::from_str(alloc, several)?;
-    let entries = "/query/entries";
-    if text_at(alloc, &one, entries)? != text_at(alloc, &several, entries)? {
+    if !is_same(alloc, &one, &several, "/query/entries")?
+        || !is_same(alloc, &one, &several, "/query/next")?
+    {
         return Ok(false);
     }
     let mut found = false;
@@ -60,6 +61,11 @@ fn is_summed(alloc: Global, one: &str, several: &str) -> Result<bool> {
         }
     }
     Ok(found)
+}
+
+/// Whether both have the same member at a place, or none.
+fn is_same(alloc: Global, one: &Value, several: &Value, place: &str) -> Result<bool> {
+    Ok(text_at(alloc, one, place)? == text_at(alloc, several, place)?)
 }
 
 /// The text of a member, or none.
