@@ -24,7 +24,7 @@ import tempfile
 import time
 from dataclasses import asdict
 
-from model import BAD_SELECTORS, Model, Rules, Settings, text_of
+from model import BAD_SELECTORS, Model, Rules, Settings, canonical_name, text_of
 
 TENANTS = ["t", "acme", "a-b.c_d"]
 NAMES, VALUES = ["a", "b", "app"], ["1", "2", "web", 'x"\\\n', "äö"]
@@ -79,6 +79,7 @@ class Drawing:
 
     def __init__(self, draw):
         self.draw, self.now, self.last = draw, 1000, ["1000", "x"]
+        self.counts, self.places = collections.Counter(), []
 
     def line(self):
         kind = self.draw.choices(list(COMMANDS), COMMANDS.values())[0]
@@ -113,7 +114,19 @@ class Drawing:
     def push(self):
         streams = [{"stream": self.labels(), "values": [self.value() for _ in range(self.draw.choice([0, 1, 1, 2, 3, 4]))]}
                    for _ in range(self.draw.choice([0, 1, 1, 1, 2, 3]))]
-        return self.tenant() | self.time() | {"streams": streams}
+        tenant = self.tenant()
+        for stream in streams:
+            self.note(tenant["tenant"], stream)
+        return tenant | self.time() | {"streams": streams}
+
+    def note(self, tenant, stream):
+        """Where its entries stand, if each of them, and all before, are accepted."""
+        labels = {label: value for label, value in stream["stream"].items() if value}
+        if labels and {*labels} <= {*NAMES}:
+            name = canonical_name(labels)
+            for stamp, _ in stream["values"]:
+                self.places.append((tenant, {"number": self.counts[tenant, name], "stamp": stamp, "stream": name}))
+                self.counts[tenant, name] += 1
 
     def selector(self):
         selectors = ['{a="1"}', '{a="2"}', '{app="web"}', '{ a = "1" , b != "1" }', '{b="1", a=""}', '{a!="1", app="1"}', '{a="x\\"\\\\\\n"}']
@@ -129,7 +142,10 @@ class Drawing:
     def query(self):
         among = {"start": [str(self.now - 100), "0"], "end": [str(self.now), str(2**63)], "limit": [2, 5, 5000], "direction": ["forward", "backward"], "pages": [True, True, False]}
         options = {name: self.draw.choice(choices) for name, choices in among.items() if self.draw.random() < 0.4}
-        if self.draw.random() < 0.3:
+        if self.places and self.draw.random() < 0.3:
+            tenant, options["after"] = self.draw.choice(self.places[-30:])
+            return {"tenant": tenant} | (self.selector() if self.draw.random() < 0.5 else {"query": options["after"]["stream"]}) | options
+        if self.draw.random() < 0.2:
             options["after"] = self.cursor()
         return self.tenant() | self.selector() | options
 
