@@ -38,20 +38,20 @@ most_of pusher workers board held (inl is) = record { told = λ i. (let same = i
 most_of pusher workers board held (inr is) = record { told = is.told; chunks = is.chunks }
 
 module _ (honest : Type 0) (logs : Bool) (settings : StoreSettings) (before after : ℕ) (old new : Option (List ℕ)) where
-  lines_weaker : (P Q : Held → Type 0) (known : Option (List ℕ)) → ((h : Held) → P h → Q h) → IfSome known (λ input. AnswersLines (by_lane honest logs) settings P input before after old new)
-      → IfSome known (λ input. AnswersLines (by_lane honest logs) settings Q input before after old new)
+  lines_weaker : (P Q : Held → Type 0) (known : Option (List ℕ)) → ((h : Held) → P h → Q h) → IfSome known (λ input. AnswersLines (by_lane honest logs) settings (Some []) P input before after old new)
+      → IfSome known (λ input. AnswersLines (by_lane honest logs) settings (Some []) Q input before after old new)
   lines_weaker P Q None f lines = tt
-  lines_weaker P Q (Some input) f lines = record { turns = lines.turns; all = lines.all; holds = f _ lines.holds; may_be = lines.may_be; answered = lines.answered }
+  lines_weaker P Q (Some input) f lines = record { turns = lines.turns; all = lines.all; holds = f _ lines.holds; heard = lines.heard; may_be = lines.may_be; answered = lines.answered }
 
-  breaks_weaker : (P Q : Held → Type 0) (known : Option (List ℕ)) → ((h : Held) → P h → Q h) → IfSome known (λ input. BreaksOff (by_lane honest logs) settings P input before after (AppendsFront old new))
-      → IfSome known (λ input. BreaksOff (by_lane honest logs) settings Q input before after (AppendsFront old new))
+  breaks_weaker : (P Q : Held → Type 0) (known : Option (List ℕ)) → ((h : Held) → P h → Q h) → IfSome known (λ input. BreaksOff (by_lane honest logs) settings (Some []) P input before after (AppendsFront old new))
+      → IfSome known (λ input. BreaksOff (by_lane honest logs) settings (Some []) Q input before after (AppendsFront old new))
   breaks_weaker P Q None f broken = tt
-  breaks_weaker P Q (Some input) f broken = record { turns = broken.turns; others = broken.others; first = broken.first; may_be = broken.may_be; answered = broken.answered; left = f _ broken.left }
+  breaks_weaker P Q (Some input) f broken = record { turns = broken.turns; others = broken.others; first = broken.first; heard = broken.heard; may_be = broken.may_be; answered = broken.answered; left = f _ broken.left }
 
   -- a channel that was served
   pub served_of : {S G R : Type 0} (pusher : PusherState) (workers : List (Worker S G R)) (board : List ReaderState) (known : Option (List ℕ)) (ended : Result (Unit {0}) Ending)
-      → OnOk ended (IfSome known (λ input. AnswersLines (by_lane honest logs) settings (λ held. IsHeld pusher (counted_by workers) board held) input before after old new))
-      → OnErr ended (IfSome known (λ input. BreaksOff (by_lane honest logs) settings (λ held. IsHeld pusher (counted_by workers) board held ⊎ IsHeldAtLeast pusher (counted_by workers) held) input before after (AppendsFront old new)))
+      → OnOk ended (IfSome known (λ input. AnswersLines (by_lane honest logs) settings (Some []) (λ held. IsHeld pusher (counted_by workers) board held) input before after old new))
+      → OnErr ended (IfSome known (λ input. BreaksOff (by_lane honest logs) settings (Some []) (λ held. IsHeld pusher (counted_by workers) board held ⊎ IsHeldAtLeast pusher (counted_by workers) held) input before after (AppendsFront old new)))
       → IsServed honest logs settings known before after old new (account_of pusher workers) ended
   served_of pusher workers board known (Ok done) lines broken =
       lines_weaker (λ held. IsHeld pusher (counted_by workers) board held) (AreTold (account_of pusher workers)) known (told_of pusher workers board) lines
@@ -67,6 +67,7 @@ unopened honest logs settings n contents pusher workers board e none (Some input
       turns = [];
       others = lines_of input;
       first = refl;
+      heard = ([], refl);
       may_be = record { flushes = tt; causes = no_failure n };
       answered = record { front = []; rest = []; whole = refl; added = Appends-nil contents };
       left = most_of pusher workers board nothing_held (inl none);

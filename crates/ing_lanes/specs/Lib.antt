@@ -18,4 +18,6 @@ pub use Rattle.ing_session.specs.Endings
 pub use Rattle.ing_session.specs.Manners
 pub use Rattle.ing_session.specs.Replies
 pub use Rattle.ing_session.specs.Runs
+pub use Rattle.ing_session.specs.Ticks
 pub use Rattle.ing_session.specs.declared.ending.Ending
+pub use Rattle.ing_session.specs.declared.ticks.Tick

@@ -45,12 +45,12 @@ pub record AreToldAtMost (account : Account) (held : Held) : Type 0 where
   pub chunks : held.chunks ≤ account.counted
 
 -- what is written to a channel for what was read of it, by how it ended: all lines are answered, or a front of the answers to the first
--- ones is written
+-- ones is written; no clock says anything between them
 abbrev pub IsServed : Type 0 → Bool → StoreSettings → Option (List ℕ) → ℕ → ℕ → Option (List ℕ) → Option (List ℕ) → Account → Result (Unit {0}) Ending → Type 0
 IsServed honest logs settings known before after old new account (Ok done) =
-    IfSome known (λ input. AnswersLines (by_lane honest logs) settings (AreTold account) input before after old new)
+    IfSome known (λ input. AnswersLines (by_lane honest logs) settings (Some []) (AreTold account) input before after old new)
 IsServed honest logs settings known before after old new account (Err e) =
-    IfSome known (λ input. BreaksOff (by_lane honest logs) settings (AreToldAtMost account) input before after (AppendsFront old new))
+    IfSome known (λ input. BreaksOff (by_lane honest logs) settings (Some []) (AreToldAtMost account) input before after (AppendsFront old new))
 
 -- channel by channel
 abbrev pub AreServed : {L : Type 0} → (L → L → Account → Type 0) → List L → List L → List Account → Type 0

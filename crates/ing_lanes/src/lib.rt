@@ -21,4 +21,4 @@ pub use running::{Ended, Ends, run_lanes};
 
 // What its callers meet of the crates below.
 pub use ing_node::{Begun, CloseRefusal, Mismatch, NodeName, RecoverFault, Shards, Unsettled};
-pub use ing_session::{Ending, Reply, conclude, put_reply};
+pub use ing_session::{Ending, NoTicker, Reply, Tick, Ticker, conclude, put_reply};

@@ -1,10 +1,12 @@
 //! A run over the logs and the store in a folder.
-ghost use Rattle.std.specs.Prelude.{◌≡◌, ◌≢◌, ◌⊎◌, IfErr, IfSome, Err, Ok};
+ghost use Rattle.std.specs.Prelude.{◌≡◌, ◌≢◌, ◌⊎◌, [], IfErr, IfSome, Err, Ok};
 ghost use Rattle.ing_limits.specs.Settings.{StoreSettings};
 ghost use Rattle.ing_program.specs.Starting.{IsOverFolder, started_by};
 ghost use Rattle.ing_lanes.specs.Endings.{refusal_of};
+ghost use Rattle.ing_service.specs.Clocks.{heard_by};
 ghost use Rattle.ing_lanes.specs.Runs.{HasWritten, IsUnbegun};
 
+use crate::clocked::Clocked;
 use crate::folders::{Folders, begin, conclude_folder, end_in, ends_in, hold_of, logs_in};
 use crate::own::run_over;
 use crate::program::{settings_of_file, worker_count};
@@ -32,6 +34,7 @@ pub fn start_over<
     X: Folders<D, E>,
     R: Read,
     W: Write,
+    P: Clocked,
 >(
     rt: &H,
     folders: &X,
@@ -39,12 +42,15 @@ pub fn start_over<
     file: &[u8],
     reader: &mut R,
     writer: &mut W,
+    ticker: &mut P,
 ) -> Result<(), Ending>
+    requires unsaid { IfSome (P.said ticker.old) (λ said. said ≡ []) }
     // Either nothing was begun, or what is written is, over what lies in the folder, as `run` says.
     ensures written { IsUnbegun writer.old writer.new result ⊎ ((settings : StoreSettings)
         × (started_by file.now ≡ Ok settings) × IsOverFolder E.is_honest (λ manner failed. HasWritten manner settings record {
           input = R.remaining reader.old;
           rest = R.remaining reader.new;
+          ticks = heard_by settings (P.said ticker.new);
           before = 0;
           after = failed;
           old = W.contents writer.old;
@@ -64,9 +70,10 @@ pub fn start_over<
     let others = ends_in(alloc, folders, objects.as_str(), 1, workers)?;
     let finders = ends_in(alloc, folders, objects.as_str(), workers + 1, shards)?;
     let mut ends = Ends::of(own, others);
+    ticker.set_periods(&settings)?;
     begin(folders, &mut hold)?;
     let ended = run_over(
-        rt, alloc, reader, writer, &mut ends, settings, logs, finders,
+        rt, alloc, reader, writer, &mut ends, ticker, settings, logs, finders,
     );
     conclude_folder(folders, &mut hold, &ended);
     ended

@@ -1,8 +1,9 @@
 //! Runs over shards that nobody shares, as their logs say.
-ghost use Rattle.std.specs.Prelude.{◌≡◌, ◌≤◌, ◌⊎◌, All, IfErr, IsErrOf, IsTrue, List, OnOk, map, reverse, true, vec_capacity, vec_len};
+ghost use Rattle.std.specs.Prelude.{◌≡◌, ◌≤◌, ◌⊎◌, [], All, IfErr, IfSome, IsErrOf, IsTrue, List, OnOk, map, reverse, true, vec_capacity, vec_len};
 ghost use Rattle.ing_lanes.specs.RecoverFault.{RecoverFault};
 ghost use Rattle.ing_lanes.specs.Recovering.{AreOwnLogs, IsLowestRefused};
 ghost use Rattle.ing_service.specs.ByShards.{by_shards};
+ghost use Rattle.ing_service.specs.Clocks.{heard_by};
 ghost use Rattle.ing_service.specs.Ends.{NeverFail, failures_in};
 ghost use Rattle.ing_service.specs.Held as held;
 ghost use Rattle.ing_service.specs.Held.{BeginsOver, shard_held};
@@ -10,7 +11,7 @@ ghost use Rattle.ing_lanes.specs.Causes.{GoesOn};
 ghost use Rattle.ing_lanes.specs.Endings.{IsNotRecovered, is_of_run};
 ghost use Rattle.ing_lanes.specs.Runs.{HasWritten, IsUnbegun};
 
-use ing_lanes::{Begun, Ending, Shards};
+use ing_lanes::{Begun, Ending, Shards, Ticker};
 use ing_limits::Settings;
 use ing_service::{Beginning, Ends, Seat, run_own};
 use ing_store::{Receipt, StoreEnd};
@@ -32,16 +33,19 @@ pub fn run_over<
     R: Receipt + Send + Sync,
     S: StoreEnd<Receipt = R> + Send,
     F: StoreEnd<Receipt = R> + Drop + Send,
+    P: Ticker,
 >(
     rt: &H,
     alloc: Global,
     reader: &mut I,
     writer: &mut W,
     ends: &mut Ends<S>,
+    ticker: &mut P,
     settings: Settings,
     logs: Vec<D>,
     finders: Vec<F>,
 ) -> Result<(), Ending>
+    requires unsaid { IfSome (P.said ticker.old) (λ said. said ≡ []) }
     requires logs { vec_len logs ≡ settings.shards }
     requires finders { vec_len finders ≡ settings.shards }
     // Either nothing was begun, or what is written is, over what the logs replay to, as `run` says.
@@ -50,6 +54,7 @@ pub fn run_over<
         × HasWritten (by_shards S.is_honest begun) settings record {
           input = I.remaining reader.old;
           rest = I.remaining reader.new;
+          ticks = heard_by settings (P.said ticker.new);
           before = failures_in S.failure_count ends.old;
           after = failures_in S.failure_count ends.new;
           old = W.contents writer.old;
@@ -64,7 +69,7 @@ pub fn run_over<
 {
     match Shards::recover(rt, alloc, settings, logs, finders) {
         Ok(shards) => {
-            run_begun::<Brand, H, I, W, D, R, S>(rt, alloc, reader, writer, ends, shards)
+            run_begun::<Brand, H, I, W, D, R, S, P>(rt, alloc, reader, writer, ends, ticker, shards)
         }
         Err((fault, _logs)) => Err(Ending::from(fault)),
     }
@@ -79,19 +84,23 @@ fn run_begun<
     D: LogDisk + Drop,
     R: Receipt + Send + Sync,
     S: StoreEnd<Receipt = R> + Send,
+    P: Ticker,
 >(
     rt: &H,
     alloc: Global,
     reader: &mut I,
     writer: &mut W,
     ends: &mut Ends<S>,
+    ticker: &mut P,
     shards: Shards<D, R>,
 ) -> Result<(), Ending>
+    requires unsaid { IfSome (P.said ticker.old) (λ said. said ≡ []) }
     requires logged { N.begun.logged ≡ true }
     requires held { N.begun.shards ≡ map (λ begun. shard_held begun.shard) (reverse shards.last_first.items) }
     ensures written { HasWritten (by_shards S.is_honest N.begun) shards.settings record {
       input = I.remaining reader.old;
       rest = I.remaining reader.new;
+      ticks = heard_by shards.settings (P.said ticker.new);
       before = failures_in S.failure_count ends.old;
       after = failures_in S.failure_count ends.new;
       old = W.contents writer.old;
@@ -105,7 +114,9 @@ fn run_begun<
     };
     let (settings, last_first) = shards.into_parts();
     let seats = seats_of(room, last_first);
-    run_own::<N, H, I, W, D, R, S>(rt, alloc, reader, writer, ends, settings, seats, true)
+    run_own::<N, H, I, W, D, R, S, P>(
+        rt, alloc, reader, writer, ends, ticker, settings, seats, true,
+    )
 }
 
 /// Puts shards in the order of their numbers into a list that has room for them. Takes no memory.

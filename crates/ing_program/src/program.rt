@@ -1,13 +1,15 @@
 //! From argument words and a settings file to a run.
-ghost use Rattle.std.specs.Prelude.{◌≡◌, ◌≢◌, ◌↔◌, ◌<◌, ◌≤◌, ◌⊎◌, All, List, sum_by, ℕ, IfOk, IfErr, OnOk, IsErrOf, IfSome, Ok, Err, None, map, length};
+ghost use Rattle.std.specs.Prelude.{◌≡◌, ◌≢◌, ◌↔◌, ◌<◌, ◌≤◌, ◌⊎◌, [], All, List, sum_by, ℕ, IfOk, IfErr, OnOk, IsErrOf, IfSome, Ok, Err, None, map, length};
 ghost use Rattle.std.specs.String.{string_bytes};
 ghost use Rattle.ing_limits.specs.Settings.{StoreSettings};
 ghost use Rattle.ing_store.specs.declared.memory_end.Fuse.{Fuse};
 ghost use Rattle.ing_store.specs.declared.memory_end.Fuse.TheVariants as fuses;
 ghost use Rattle.ing_lanes.specs.Endings.{refusal_of};
+ghost use Rattle.ing_service.specs.Clocks.{heard_by};
 ghost use Rattle.ing_lanes.specs.Runs.{HasWritten, IsUnbegun};
 ghost use Rattle.ing_program.specs.Starting.{AreBad, GiveSettings, IsOfFolder, NamesFile, manner_of, started_by};
 
+use crate::clocked::Clocked;
 use crate::folders::Folders;
 use crate::over::start_over;
 use ing_lanes::Ending;
@@ -24,7 +26,7 @@ use std::thread::Threads;
 
 /// Reads the argument words, `[SETTINGS [FOLDER]]`, and runs: with the settings of the TOML file at the first path, or without a word
 /// with all defaults; and over the logs and the store in the folder at the second, or without it over a store in memory, which ends with
-/// the run.
+/// the run. The periods of the clock beside the input are those of the settings.
 ///
 /// `BadArguments` where there are more words or the one for the folder is empty, then `NoSettings` where the file cannot be read; the others as `start_on` and `start_over`
 /// say. `NoMemory` may stand in place of any. (Own.)
@@ -36,12 +38,22 @@ pub fn start<
     X: Folders<D, E>,
     R: Read,
     W: Write,
->(rt: &H, folders: &X, words: &[String], reader: &mut R, writer: &mut W) -> Result<(), Ending>
+    P: Clocked,
+>(
+    rt: &H,
+    folders: &X,
+    words: &[String],
+    reader: &mut R,
+    writer: &mut W,
+    ticker: &mut P,
+) -> Result<(), Ending>
+    requires unsaid { IfSome (P.said ticker.old) (λ said. said ≡ []) }
     // Either nothing was begun, or what is written is, by the settings in the file, as `run` says.
     ensures written { IsUnbegun writer.old writer.new result ⊎ GiveSettings E.is_honest (map string_bytes words.now)
         (λ manner settings failed. HasWritten manner settings record {
           input = R.remaining reader.old;
           rest = R.remaining reader.new;
+          ticks = heard_by settings (P.said ticker.new);
           before = 0;
           after = failed;
           old = W.contents writer.old;
@@ -55,9 +67,17 @@ pub fn start<
 {
     let file = settings_file(rt, words)?;
     if words.len() < 2 {
-        return start_on(rt, &file, reader, writer);
+        return start_on(rt, &file, reader, writer, ticker);
     }
-    start_over(rt, folders, words[1].as_str(), &file, reader, writer)
+    start_over(
+        rt,
+        folders,
+        words[1].as_str(),
+        &file,
+        reader,
+        writer,
+        ticker,
+    )
 }
 
 /// The bytes of the settings file that the argument words name; none without a word.
@@ -93,17 +113,20 @@ pub(crate) fn read_file<F: Files + AllocGlobal>(rt: &F, path: &str) -> Result<Ve
 ///
 /// `NotToml` where they are not UTF-8 or no TOML, `UnknownSetting` and `BadSetting` as `Settings::from_toml` says; these in
 /// this order, and nothing is written. The others as `run` says. `NoMemory` may stand in place of any. (Own.)
-pub fn start_on<T: AllocGlobal + Threads + Wait + Sync, R: Read, W: Write>(
+pub fn start_on<T: AllocGlobal + Threads + Wait + Sync, R: Read, W: Write, P: Clocked>(
     rt: &T,
     file: &[u8],
     reader: &mut R,
     writer: &mut W,
+    ticker: &mut P,
 ) -> Result<(), Ending>
+    requires unsaid { IfSome (P.said ticker.old) (λ said. said ≡ []) }
     // Either nothing was begun, or what is written is, by the settings that the bytes give, as `run` says.
     ensures written { IsUnbegun writer.old writer.new result ⊎ ((settings : StoreSettings)
         × (started_by file.now ≡ Ok settings) × HasWritten (manner_of settings) settings record {
           input = R.remaining reader.old;
           rest = R.remaining reader.new;
+          ticks = heard_by settings (P.said ticker.new);
           before = 0;
           after = 0;
           old = W.contents writer.old;
@@ -118,7 +141,8 @@ pub fn start_on<T: AllocGlobal + Threads + Wait + Sync, R: Read, W: Write>(
     let store = MemoryStore::new(rt.alloc())?;
     let others = ends_of(rt, &store, worker_count(&settings))?;
     let mut ends = Ends::of(store.end(rt, Fuse::None), others);
-    run(rt, rt.alloc(), reader, writer, &mut ends, settings)
+    ticker.set_periods(&settings)?;
+    run(rt, rt.alloc(), reader, writer, &mut ends, ticker, settings)
 }
 
 /// How many ends of the store a run has besides its own, through which it uploads side by side: one for each flusher, and none where there

@@ -1,4 +1,4 @@
-//! What the clock says in the place of a client.
+//! What the clock says in the place of a client, as a channel beside others.
 use crate::lengths::Lengths;
 use ing_limits::Settings;
 use std::alloc::{AllocError, Global};
@@ -81,7 +81,7 @@ impl<'a, C: Clock, R: Files> Ticks<'a, C, R> {
         let Ok(since) = SystemTime::now(self.clock)?.duration_since(UNIX_EPOCH) else {
             return Err(Error::from(ErrorKind::InvalidData));
         };
-        self.is_replaced = self.logs.have_grown()?;
+        self.is_replaced = self.logs.have_grown();
         let now = since.as_nanos();
         let checkpoint = if self.is_replaced { CHECKPOINT } else { "" };
         Ok(format!(in self.alloc; "{{\"cmd\":\"sweep\",\"now\":\"{now}\"}}\n{FLUSH}{checkpoint}")?)
@@ -103,7 +103,7 @@ impl<'a, C: Clock, R: Files> Read for Ticks<'a, C, R> {
             return Ok(count);
         }
         if self.is_replaced {
-            self.logs.note()?;
+            self.logs.note();
         }
         if !self.wait()? {
             return Ok(0);

@@ -45,9 +45,12 @@ use Rattle.ing_durable.specs.Flights.{Flown}
 use Rattle.ing_durable.specs.Op.{Op}
 use Rattle.ing_tally.specs.declared.report.ShardReport.{ShardReport}
 use Rattle.ing_session.specs.Faults.{limits_of}
-use Rattle.ing_session.specs.Manners.{IsAnswered, IsSkipped, MayBeFrom, Obeys, Turn, answers_of, held_after, said_in}
+use Rattle.ing_session.specs.Manners.{IsAnswered, IsSkipped, IsUntold, Line, MayBeFrom, MayBeSaid, Obeys, Saying, Ticks, Turn, answers_of, held_after, said_in}
 use Rattle.ing_session.specs.Replies.{catalog_data, fault_data, judged_data, line_text, verdict_data}
 use Rattle.ing_session.specs.Runs.{AnswersAll}
+use Rattle.ing_session.specs.Ticks.{command_of_tick}
+use Rattle.ing_session.specs.declared.ticks.Tick.{Tick}
+use Rattle.ing_session.specs.declared.ticks.Tick.TheVariants.{Sweep, Flush, Checkpoint}
 use Rattle.ing_service.specs.ByShards.{BeginsFlush, JudgesStream, ObeysCommand, ObeysFlush, Publishes, PushesIn, PushesLabelled, PushesStream, PushesStreams, RefusesStream, SealEach, Seals, SealsAll, are_too_many, by_shards, fronts_of, reports_of, shard_report}
 use Rattle.ing_service.specs.ByShards as by
 use Rattle.ing_service.specs.Catalogs.{Listed, Listing, NoSelector, listing_reply}
@@ -336,24 +339,43 @@ alone : (reply : Data) → sum_by accepted_in (reply ∷ []) ≡ accepted_in rep
 alone reply = (let sum = sum_by-cons accepted_in reply [] in omega (arith, sum))
 
 module _ (honest : Type 0) (begun : Begun) (settings : StoreSettings) where
+  -- no reply to what a clock says has verdicts
+  tick_accepts : (tick : Tick) (left : Held) (failed : ℕ) (old : Held) (reply : Data) → ObeysCommand honest begun.logged settings old left failed reply (command_of_tick tick) → accepted_in reply ≡ 0
+  tick_accepts (Sweep now) left failed old reply (by.Sweeps it) = ap accepted_in it.told
+  tick_accepts Flush left failed old reply (by.Flushes it) = ap accepted_in it.told
+  tick_accepts Checkpoint left failed old reply (by.Checkpoints it) = ap accepted_in it.told
+
   obeyed_or_refused : (said : Result Command LineFault) (t : Turn Held) (old : Held) (reply : Data) → Obeys (by_shards honest begun) settings old t.left t.failed reply said → Grow (accepted_in reply) old.shards t.left.shards
   obeyed_or_refused (Err fault) t old reply it = unchanged honest begun.logged settings old t.left t.failed reply (ap accepted_in it.told) it.left
   obeyed_or_refused (Ok command) t old reply it = obeyed honest begun.logged settings old t.left t.failed reply command it
 
-  one_turn : (said : Option (Result Command LineFault)) (t : Turn Held) (old : Held)
+  one_line : (said : Option (Result Command LineFault)) (t : Turn Held) (old : Held)
       → MatchOption said (IsSkipped t old) (λ it. IsAnswered (by_shards honest begun) settings it t old) → Told old.shards t.left.shards t.answer
-  one_turn None t old it = record { replies = []; written = it.written; grow = equal_stay old.shards t.left.shards (ap (λ (h : Held). h.shards) it.left) }
-  one_turn (Some said) t old it =
+  one_line None t old it = record { replies = []; written = it.written; grow = equal_stay old.shards t.left.shards (ap (λ (h : Held). h.shards) it.left) }
+  one_line (Some said) t old it =
       record {
         replies = it.reply ∷ [];
         written = it.written ∙ sym (append-nil (line_text it.reply));
         grow = subst (λ n. Grow n old.shards t.left.shards) (sym (alone it.reply)) (obeyed_or_refused said t old it.reply it.obeys);
       }
 
+  -- what a clock says, of which nobody is told
+  one_tick : (tick : Tick) (t : Turn Held) (old : Held) → IsUntold (by_shards honest begun) settings tick t old → Told old.shards t.left.shards t.answer
+  one_tick tick t old it =
+      record {
+        replies = [];
+        written = it.silent;
+        grow = subst (λ n. Grow n old.shards t.left.shards) (tick_accepts tick t.left t.failed old it.reply it.obeys) (obeyed honest begun.logged settings old t.left t.failed it.reply (command_of_tick tick) it.obeys);
+      }
+
+  one_turn : (said : Saying) (t : Turn Held) (old : Held) → MayBeSaid (by_shards honest begun) settings t old said → Told old.shards t.left.shards t.answer
+  one_turn (Line line) t old it = one_line (said_in line) t old it
+  one_turn (Ticks tick) t old it = one_tick tick t old it
+
   all_turns : (turns : List (Turn Held)) (held : Held) → MayBeFrom (by_shards honest begun) settings held turns → Told held.shards (held_after held turns).shards (answers_of turns)
   all_turns [] held it = record { replies = []; written = refl; grow = as_they_were held.shards }
   all_turns (t ∷ turns) held it =
-      let one = one_turn (said_in t.line) t held it.0 in
+      let one = one_turn t.said t held it.0 in
       let others = all_turns turns t.left it.1 in
       record {
         replies = one.replies ++ others.replies;
@@ -392,9 +414,9 @@ reported n [] (s ∷ shards) grow = absurd grow
 reported n (b ∷ begun) [] grow = absurd grow
 
 -- all of it
-pub adds_up : (honest : Type 0) (begun : Begun) (settings : StoreSettings) (input : List ℕ) (before after : ℕ) (old new : Option (List ℕ))
-    → AnswersAll (by_shards honest begun) settings input before after old new → AddsUp begun old new
-adds_up honest begun settings input before after old new it =
+pub adds_up : (honest : Type 0) (begun : Begun) (settings : StoreSettings) (ticks : Option (List Tick)) (input : List ℕ) (before after : ℕ) (old new : Option (List ℕ))
+    → AnswersAll (by_shards honest begun) settings ticks input before after old new → AddsUp begun old new
+adds_up honest begun settings ticks input before after old new it =
     let told = all_turns honest begun settings it.turns (first_held begun) it.may_be.flushes in
     let ends = reported _ begun.shards (held_after (first_held begun) it.turns).shards told.grow in
     record {

@@ -7,5 +7,6 @@ pub mod Snapshots
 pub mod Queries
 pub mod ByShards
 pub mod Catalogs
+pub mod Clocks
 pub mod Drafts
 pub mod Ledger

@@ -6,6 +6,7 @@ pub mod FrontsLaws
 pub mod RunsLaws
 pub mod ObeyLaws
 mod PushedLaws
+mod TicksLaws
 pub mod TakenLaws
 pub mod EndingsLaws
 pub mod FaultsLaws

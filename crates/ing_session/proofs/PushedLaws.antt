@@ -8,7 +8,7 @@ use Rattle.serde_json.specs.Data.{Data}
 use Rattle.ing_commands.specs.Commands.{Push}
 use Rattle.ing_commands.specs.PushCommands.{PushCommand}
 use Rattle.ing_session.specs.Lines.{with_feed}
-use Rattle.ing_session.specs.Manners.{Manner, Obeys, Turn, turn, MayBe, MayBeFrom, answers_of, failed_in, held_after, lines_in}
+use Rattle.ing_session.specs.Manners.{Manner, Obeys, Turn, turn, MayBe, MayBeFrom, answers_of, failed_in, held_after, lines_in, ticks_in}
 use Rattle.ing_session.specs.Parts.{HasNoFeed}
 use Rattle.ing_session.specs.PushLines.{SaysPush, TakesPushes}
 use Rattle.ing_session.specs.Replies.{line_text}
@@ -46,6 +46,7 @@ taken (p ∷ ps) bytes rest takes =
 record AreAnswered (m : Manner) (settings : StoreSettings) (lines : List (List ℕ)) (old left : m.Held) (replies : List Data) : Type 0 where
   turns : List (Turn m.Held)
   are : lines_in turns ≡ lines
+  quiet : ticks_in turns ≡ []
   may_be : MayBeFrom m settings old turns
   told : answers_of turns ≡ lines_text replies
   none : failed_in turns ≡ 0
@@ -59,7 +60,7 @@ module _ (m : Manner) (settings : StoreSettings) where
   answered : (lines : List (List ℕ)) (pushes : List PushCommand) (old left : m.Held) (replies : List Data) → AllSay lines pushes → ObeysEach m settings pushes old left replies
       → AreAnswered m settings lines old left replies
   answered [] [] old left replies say obeys =
-      record { turns = []; are = refl; may_be = tt; told = sym (ap lines_text obeys.1); none = refl; leave = sym obeys.0 }
+      record { turns = []; are = refl; quiet = refl; may_be = tt; told = sym (ap lines_text obeys.1); none = refl; leave = sym obeys.0 }
   answered [] (p ∷ ps) old left replies say obeys = absurd say
   answered (l ∷ ls) [] old left replies say obeys = absurd say
   answered (l ∷ ls) (p ∷ ps) old left replies say obeys =
@@ -69,6 +70,7 @@ module _ (m : Manner) (settings : StoreSettings) where
       record {
         turns = t ∷ others.turns;
         are = ap (λ (lines : List (List ℕ)). l ∷ lines) others.are;
+        quiet = others.quiet;
         may_be = (says_so l p old obeys.0 obeys.1 say.0 obeys.3, others.may_be);
         told = ap (λ (text : List ℕ). line_text obeys.1 ++ text) others.told ∙ sym (ap lines_text obeys.5);
         none = omega (arith, more, others.none);
@@ -89,6 +91,7 @@ module _ (m : Manner) (settings : StoreSettings) where
         turns = turns.turns;
         others = lines.lines;
         lines = turns.are;
+        quiet = turns.quiet;
         no_feeds = lines.no_feeds;
         front = lines.front ∙ ap (λ (l : List ℕ). flat_map with_feed lines.lines ++ l) (sym behind);
         may_be = turns.may_be;

@@ -5,7 +5,7 @@ use Rattle.std.specs.List.{AllByRecursion, flat_map}
 use Rattle.std.specs.Io.KnownBytes.{Appends, Keeps, Consumes, IsAtEnd, prepend_known}
 use Rattle.std.proofs.KnownBytes.{Appends-nil}
 use Rattle.std.proofs.lemmas.Grind.{flat_map-append}
-use Rattle.std.proofs.lemmas.List.{length-append, map-append}
+use Rattle.std.proofs.lemmas.List.{length-append}
 use Rattle.std.proofs.lemmas.List.Concat.{flat_map-cons}
 use Rattle.std.proofs.lemmas.List.Sums.{sum_by-append, sum_by-cons}
 use Rattle.std.proofs.lemmas.Bool.Decides.{nat_tests}
@@ -19,9 +19,10 @@ use Rattle.ing_session.specs.Fronts.{AppendsFront, Grows}
 use Rattle.ing_session.specs.Lines.{lines_of, with_feed, EndsLine, TakesLine}
 use Rattle.ing_session.specs.Parts.{HasNoFeed, max_line}
 use Rattle.ing_session.specs.Replies.{line_text}
-use Rattle.ing_session.specs.Manners.{Manner, Turn, turn, MayBeFrom, is_long, line_fault, answers_of, failed_in, held_after, lines_in, output_of}
+use Rattle.ing_session.specs.Manners.{Manner, Turn, turn, MayBeFrom, is_long, line_fault, answers_of, failed_in, held_after, line_in, lines_in, output_of, tick_in, ticks_in}
 use Rattle.ing_session.specs.Causes.{HaveCause}
-use Rattle.ing_session.specs.Runs.{AnswersAll, AnswersWhatWasRead, AnswersFirstLines, AnswersFront, Answers, AnswersAhead, AnswersLines, BreaksOff, HasWritten, IsUnbegun, Reports, Seen, Serves, ServesKnown, with_replies}
+use Rattle.ing_session.specs.declared.ticks.Tick.{Tick}
+use Rattle.ing_session.specs.Runs.{HearsAll, HearsFirst, AnswersAll, AnswersWhatWasRead, AnswersFirstLines, AnswersFront, Answers, AnswersAhead, AnswersLines, BreaksOff, HasWritten, IsUnbegun, Reports, Seen, Serves, ServesKnown, with_replies}
 use Rattle.ing_session.proofs.CausesLaws.{no_failure, causes_on, causes_more}
 use Rattle.ing_session.proofs.FrontsLaws.{all_written, front_held, front_of}
 use Rattle.ing_session.proofs.LinesLaws.{lines_of-ended, lines_of-open_last, lines_of-rest}
@@ -65,27 +66,49 @@ keeps_same (Some x) = refl
 
 -- ---- lines more
 
-held_on : {H : Type 0} (turns more : List (Turn H)) (held : H) → held_after held (turns ++ more) ≡ held_after (held_after held turns) more
+pub held_on : {H : Type 0} (turns more : List (Turn H)) (held : H) → held_after held (turns ++ more) ≡ held_after (held_after held turns) more
 held_on [] more held = refl
 held_on (u ∷ us) more held = held_on us more u.left
 
-answers_on : {H : Type 0} (turns more : List (Turn H)) → answers_of (turns ++ more) ≡ answers_of turns ++ answers_of more
+pub answers_on : {H : Type 0} (turns more : List (Turn H)) → answers_of (turns ++ more) ≡ answers_of turns ++ answers_of more
 answers_on [] more = refl
 answers_on (u ∷ us) more = ap (λ (text : List ℕ). u.answer ++ text) (answers_on us more) ∙ sym (append_assoc u.answer (answers_of us) (answers_of more))
 
-may_be_on : (m : Manner) (settings : StoreSettings) (turns more : List (Turn m.Held)) (held : m.Held) → MayBeFrom m settings held turns → MayBeFrom m settings (held_after held turns) more
+pub may_be_on : (m : Manner) (settings : StoreSettings) (turns more : List (Turn m.Held)) (held : m.Held) → MayBeFrom m settings held turns → MayBeFrom m settings (held_after held turns) more
     → MayBeFrom m settings held (turns ++ more)
 may_be_on m settings [] more held before these = these
 may_be_on m settings (u ∷ us) more held before these = (before.0, may_be_on m settings us more u.left before.1 these)
 
-failed_on : {H : Type 0} (turns more : List (Turn H)) → failed_in (turns ++ more) ≡ failed_in turns + failed_in more
+pub failed_on : {H : Type 0} (turns more : List (Turn H)) → failed_in (turns ++ more) ≡ failed_in turns + failed_in more
 failed_on {H = H} turns more = sum_by-append (λ (u : Turn H). u.failed) turns more
 
-failed_one : {H : Type 0} (t : Turn H) → failed_in (t ∷ []) ≡ t.failed
+pub failed_one : {H : Type 0} (t : Turn H) → failed_in (t ∷ []) ≡ t.failed
 failed_one {H = H} t = sum_by-cons (λ (u : Turn H). u.failed) t [] ∙ omega arith
 
-lines_on : {H : Type 0} (turns more : List (Turn H)) → lines_in (turns ++ more) ≡ lines_in turns ++ lines_in more
-lines_on turns more = map-append (λ u. u.line) turns more
+pub lines_on : {H : Type 0} (turns more : List (Turn H)) → lines_in (turns ++ more) ≡ lines_in turns ++ lines_in more
+lines_on [] more = refl
+lines_on (u ∷ us) more = ap (λ (ls : List (List ℕ)). line_in u.said ++ ls) (lines_on us more) ∙ sym (append_assoc (line_in u.said) (lines_in us) (lines_in more))
+
+pub ticks_on : {H : Type 0} (turns more : List (Turn H)) → ticks_in (turns ++ more) ≡ ticks_in turns ++ ticks_in more
+ticks_on [] more = refl
+ticks_on (u ∷ us) more = ap (λ (ts : List Tick). tick_in u.said ++ ts) (ticks_on us more) ∙ sym (append_assoc (tick_in u.said) (ticks_in us) (ticks_in more))
+
+-- ---- what a clock has said
+
+-- all of it is the first of it
+pub hears_first : {H : Type 0} (ticks : Option (List Tick)) (turns : List (Turn H)) → HearsAll ticks turns → HearsFirst ticks turns
+hears_first None turns all = tt
+hears_first (Some said) turns all = ([], sym all ∙ sym (append-nil (ticks_in turns)))
+
+-- of whatever it said nothing was done yet
+hears_none : (H : Type 0) (ticks : Option (List Tick)) → HearsFirst {H = H} ticks []
+hears_none H None = tt
+hears_none H (Some said) = (said, refl)
+
+-- lines at which it says nothing
+hears_on : {H : Type 0} (ticks : Option (List Tick)) (turns more : List (Turn H)) → HearsAll ticks turns → ticks_in more ≡ [] → HearsAll ticks (turns ++ more)
+hears_on None turns more all quiet = tt
+hears_on (Some said) turns more all quiet = ticks_on turns more ∙ ap (λ (ts : List Tick). ticks_in turns ++ ts) quiet ∙ append-nil (ticks_in turns) ∙ all
 
 all_on : (lines more : List (List ℕ)) → AllByRecursion HasNoFeed lines → AllByRecursion HasNoFeed more → AllByRecursion HasNoFeed (lines ++ more)
 all_on [] more h k = k
@@ -116,12 +139,12 @@ none_left old new [] false empty ends = absurd cc
 none_left old new (x ∷ xs) false empty ends = absurd cc
 none_left old new line true empty ends = let nothing : line ≡ [] = sym ends.0 ∙ empty in absurd (omega (arith, ends.1, ap length nothing))
 
-module _ (m : Manner) (settings s1 s2 : StoreSettings) (h1 h2 : m.Held → Type 0) (input : List ℕ) (before b1 b2 : ℕ) (first c k : Option (List ℕ)) (r q s line : List ℕ) where
+module _ (m : Manner) (settings : StoreSettings) (ticks : Option (List Tick)) (s1 s2 : StoreSettings) (h1 h2 : m.Held → Type 0) (input : List ℕ) (before b1 b2 : ℕ) (first c k : Option (List ℕ)) (r q s line : List ℕ) where
   -- a line is taken, and those behind it that are answered with it
-  some_lines : (was now : Bool) (left mid ahead more : List ℕ) (taken : ℕ) → mid ≡ ahead ++ more → (serves : Serves m settings s1 h1 input before b1 first (with_replies c r) was left) → HasNoFeed line
+  some_lines : (was now : Bool) (left mid ahead more : List ℕ) (taken : ℕ) → mid ≡ ahead ++ more → (serves : Serves m settings ticks s1 h1 input before b1 first (with_replies c r) was left) → HasNoFeed line
       → EndsLine left mid now line → Keeps (with_replies c r) (with_replies k q) → s2 ≡ settings
       → AnswersAhead m settings line ahead taken (held_after m.nothing serves.turns) h2 b1 b2 q s
-      → Serves m settings s2 h2 input before b2 first (with_replies k s) now (drop taken ahead ++ more)
+      → Serves m settings ticks s2 h2 input before b2 first (with_replies k s) now (drop taken ahead ++ more)
   some_lines true now left mid ahead more taken is serves clean ends keeps same answers = absurd (none_left left mid line now (serves.read refl).1 ends)
   some_lines false now left mid ahead more taken is serves clean ends keeps same answers =
       record {
@@ -131,6 +154,7 @@ module _ (m : Manner) (settings s1 s2 : StoreSettings) (h1 h2 : m.Held → Type 
         read = λ ended. subst (λ ls. (lines_of input ≡ ls) × (rest ≡ [])) (sym lines) (end now ends ended);
         settings_are = same;
         holds = subst h2 (sym (held_on serves.turns answers.turns m.nothing)) answers.holds;
+        heard = hears_on ticks serves.turns answers.turns serves.heard answers.quiet;
         may_be = record {
           flushes = may_be_on m settings serves.turns answers.turns m.nothing serves.may_be.flushes answers.may_be;
           causes = rw (failed_on serves.turns answers.turns) (causes_more before b1 b2 (failed_in serves.turns) (failed_in answers.turns) serves.may_be.causes answers.causes);
@@ -173,6 +197,7 @@ alone m settings line ahead held holds b1 b2 q s answers =
       turns = t ∷ [];
       others = [];
       lines = refl;
+      quiet = refl;
       no_feeds = tt;
       front = refl;
       may_be = (answers.may_be, tt);
@@ -197,13 +222,17 @@ long_answers m settings line held holds n q s long refused is_held =
     }
 
 -- before the first line
-module _ (m : Manner) (settings : StoreSettings) (holds : m.Held → Type 0) (n : ℕ) (contents : Option (List ℕ)) (replies ahead : List ℕ) (ended : Bool)
-    (none : replies ≡ []) (going : ended ≡ false) (unread : ahead ≡ []) (empty : holds m.nothing) where
+module _ (m : Manner) (settings : StoreSettings) (ticks : Option (List Tick)) (holds : m.Held → Type 0) (n : ℕ) (contents : Option (List ℕ)) (replies ahead : List ℕ) (ended : Bool)
+    (none : replies ≡ []) (going : ended ≡ false) (unread : ahead ≡ []) (empty : holds m.nothing) (unsaid : IfSome ticks (λ said. said ≡ [])) where
   nothing_added : (known : Option (List ℕ)) → Appends known (with_replies known replies) []
   nothing_added None = tt
   nothing_added (Some x) = ap (λ (l : List ℕ). x ++ l) none
 
-  pub begins : (known : Option (List ℕ)) → IfSome known (λ input. ServesKnown m settings settings holds input n n contents (with_replies contents replies) ended (prepend_known ahead known))
+  nothing_said : (known : Option (List Tick)) → IfSome known (λ said. said ≡ []) → HearsAll {H = m.Held} known []
+  nothing_said None none = tt
+  nothing_said (Some said) none = sym none
+
+  pub begins : (known : Option (List ℕ)) → IfSome known (λ input. ServesKnown m settings ticks settings holds input n n contents (with_replies contents replies) ended (prepend_known ahead known))
   begins None = tt
   begins (Some input) =
       record {
@@ -213,48 +242,49 @@ module _ (m : Manner) (settings : StoreSettings) (holds : m.Held → Type 0) (n 
         read = λ is. (let both : false ≡ true = sym going ∙ is in absurd cc);
         settings_are = refl;
         holds = empty;
+        heard = nothing_said ticks unsaid;
         may_be = record { flushes = tt; causes = no_failure n };
         answered = nothing_added contents;
       }
 
 -- ---- what a turn of the run makes of it
 
-module _ (m : Manner) (settings s1 s2 : StoreSettings) (h1 h2 : m.Held → Type 0) (input : List ℕ) (before b1 b2 : ℕ) (first c k : Option (List ℕ)) (r q s line : List ℕ) (was now : Bool) where
-  pub serves_lines : (ahead : List ℕ) (taken : ℕ) (left known : Option (List ℕ)) → ServesKnown m settings s1 h1 input before b1 first (with_replies c r) was left
+module _ (m : Manner) (settings : StoreSettings) (ticks : Option (List Tick)) (s1 s2 : StoreSettings) (h1 h2 : m.Held → Type 0) (input : List ℕ) (before b1 b2 : ℕ) (first c k : Option (List ℕ)) (r q s line : List ℕ) (was now : Bool) where
+  pub serves_lines : (ahead : List ℕ) (taken : ℕ) (left known : Option (List ℕ)) → ServesKnown m settings ticks s1 h1 input before b1 first (with_replies c r) was left
       → ((was ≡ true → IsAtEnd left) → TakesLine left (prepend_known ahead known) now Line line)
       → Keeps (with_replies c r) (with_replies k q)
       → ((held : m.Held) → h1 held → AnswersAhead m s1 line ahead taken held h2 b1 b2 q s)
       → s2 ≡ s1
-      → ServesKnown m settings s2 h2 input before b2 first (with_replies k s) now (prepend_known (drop taken ahead) known)
+      → ServesKnown m settings ticks s2 h2 input before b2 first (with_replies k s) now (prepend_known (drop taken ahead) known)
   serves_lines ahead taken None known serves takes keeps answers same = absurd serves
   serves_lines ahead taken (Some left) None serves takes keeps answers same = absurd (takes (λ e. (serves.read e).1))
   serves_lines ahead taken (Some left) (Some more) serves takes keeps answers same =
       let first_line = takes (λ e. (serves.read e).1) in
       let held = held_after m.nothing serves.turns in
-      some_lines m settings s1 s2 h1 h2 input before b1 b2 first c k r q s line was now left (ahead ++ more) ahead more taken refl serves first_line.0 first_line.1 keeps
+      some_lines m settings ticks s1 s2 h1 h2 input before b1 b2 first c k r q s line was now left (ahead ++ more) ahead more taken refl serves first_line.0 first_line.1 keeps
       (same ∙ serves.settings_are)
       (subst (λ t. AnswersAhead m t line ahead taken held h2 b1 b2 q s) serves.settings_are (answers held serves.holds))
 
-  pub serves_long : (left rest : Option (List ℕ)) → ServesKnown m settings s1 h1 input before b1 first (with_replies c r) was left → ((was ≡ true → IsAtEnd left) → TakesLine left rest now TooLong line)
+  pub serves_long : (left rest : Option (List ℕ)) → ServesKnown m settings ticks s1 h1 input before b1 first (with_replies c r) was left → ((was ≡ true → IsAtEnd left) → TakesLine left rest now TooLong line)
       → Keeps (with_replies c r) (with_replies k q) → s ≡ q ++ line_text (line_fault BadCommand)
-      → ServesKnown m settings s1 h1 input before b1 first (with_replies k s) now rest
+      → ServesKnown m settings ticks s1 h1 input before b1 first (with_replies k s) now rest
   serves_long None rest serves takes keeps refused = absurd serves
   serves_long (Some left) None serves takes keeps refused = absurd (takes (λ e. (serves.read e).1))
   serves_long (Some left) (Some rest) serves takes keeps refused =
       let taken = takes (λ e. (serves.read e).1) in
       let held = held_after m.nothing serves.turns in
-      some_lines m settings s1 s1 h1 h1 input before b1 b1 first c k r q s taken.0 was now left rest [] rest 0 refl serves taken.1 taken.2 keeps
+      some_lines m settings ticks s1 s1 h1 h1 input before b1 b1 first c k r q s taken.0 was now left rest [] rest 0 refl serves taken.1 taken.2 keeps
       serves.settings_are
       (alone m settings taken.0 [] held h1 b1 b1 q s (long_answers m settings taken.0 held h1 b1 q s taken.3 refused serves.holds))
 
-  all_lines : (left : List ℕ) (serves : Serves m settings s1 h1 input before b1 first (with_replies c r) was left) → left ≡ [] → (b : Bool) → was ≡ b → lines_of input ≡ lines_in serves.turns
+  all_lines : (left : List ℕ) (serves : Serves m settings ticks s1 h1 input before b1 first (with_replies c r) was left) → left ≡ [] → (b : Bool) → was ≡ b → lines_of input ≡ lines_in serves.turns
   all_lines left serves empty true is = (serves.read is).0
   all_lines left serves empty false is =
       let lines = lines_in serves.turns in
       ap lines_of (serves.taken is ∙ ap (λ (l : List ℕ). flat_map with_feed lines ++ l) empty ∙ append-nil (flat_map with_feed lines)) ∙ lines_of-ended lines serves.no_feeds
 
-  pub serves_end : (left rest : Option (List ℕ)) → ServesKnown m settings s1 h1 input before b1 first (with_replies c r) was left → ((was ≡ true → IsAtEnd left) → TakesLine left rest now End line)
-      → Keeps (with_replies c r) (with_replies k q) → AnswersLines m settings h1 input before b1 first (with_replies k q)
+  pub serves_end : (left rest : Option (List ℕ)) → ServesKnown m settings ticks s1 h1 input before b1 first (with_replies c r) was left → ((was ≡ true → IsAtEnd left) → TakesLine left rest now End line)
+      → Keeps (with_replies c r) (with_replies k q) → AnswersLines m settings ticks h1 input before b1 first (with_replies k q)
   serves_end None rest serves takes keeps = absurd serves
   serves_end (Some left) None serves takes keeps = absurd (takes (λ e. (serves.read e).1))
   serves_end (Some left) (Some rest) serves takes keeps =
@@ -263,20 +293,22 @@ module _ (m : Manner) (settings s1 s2 : StoreSettings) (h1 h2 : m.Held → Type 
         turns = serves.turns;
         all = all_lines left serves taken.0 was refl;
         holds = serves.holds;
+        heard = serves.heard;
         may_be = serves.may_be;
         answered = kept first (with_replies c r) (with_replies k q) (answers_of serves.turns) serves.answered keeps;
       }
 
 -- ---- the report
 
-module _ (m : Manner) (settings : StoreSettings) (holds : m.Held → Type 0) (input : List ℕ) (before after : ℕ) (first c : Option (List ℕ)) (r s : List ℕ) (lines : AnswersLines m settings holds input before after first (with_replies c r)) where
+module _ (m : Manner) (settings : StoreSettings) (ticks : Option (List Tick)) (holds : m.Held → Type 0) (input : List ℕ) (before after : ℕ) (first c : Option (List ℕ)) (r s : List ℕ) (lines : AnswersLines m settings ticks holds input before after first (with_replies c r)) where
   -- it is made
-  pub reported : ((held : m.Held) → holds held → Reports m held r s) → AnswersAll m settings input before after first (with_replies c s)
+  pub reported : ((held : m.Held) → holds held → Reports m held r s) → AnswersAll m settings ticks input before after first (with_replies c s)
   reported reports =
       let made = reports (held_after m.nothing lines.turns) lines.holds in
       record {
         turns = lines.turns;
         all = lines.all;
+        heard = lines.heard;
         may_be = lines.may_be;
         report = made.report;
         reports = made.reports;
@@ -284,12 +316,13 @@ module _ (m : Manner) (settings : StoreSettings) (holds : m.Held → Type 0) (in
       }
 
   -- memory ran out
-  pub unreported : s ≡ r → AnswersFirstLines m settings input before after first (with_replies c s)
+  pub unreported : s ≡ r → AnswersFirstLines m settings ticks input before after first (with_replies c s)
   unreported same =
       record {
         turns = lines.turns;
         others = [];
         first = lines.all ∙ sym (append-nil (lines_in lines.turns));
+        heard = hears_first ticks lines.turns lines.heard;
         may_be = lines.may_be;
         answered = subst (λ q. Appends first (with_replies c q) (answers_of lines.turns)) (sym same) lines.answered;
       }
@@ -297,21 +330,23 @@ module _ (m : Manner) (settings : StoreSettings) (holds : m.Held → Type 0) (in
 -- ---- what has been written when it ends early
 
 -- the lines that were answered are the first ones
-first_lines : (m : Manner) (settings now_settings : StoreSettings) (holds : m.Held → Type 0) (input : List ℕ) (before after : ℕ) (first now : Option (List ℕ)) (was : Bool) (left : List ℕ)
-    → (serves : Serves m settings now_settings holds input before after first now was left) → (b : Bool) → was ≡ b → lines_of input ≡ lines_in serves.turns ++ lines_of left
-first_lines m settings now_settings holds input before after first now was left serves true is =
+first_lines : (m : Manner) (settings : StoreSettings) (ticks : Option (List Tick)) (now_settings : StoreSettings) (holds : m.Held → Type 0) (input : List ℕ) (before after : ℕ) (first now : Option (List ℕ)) (was : Bool) (left : List ℕ)
+    → (serves : Serves m settings ticks now_settings holds input before after first now was left) → (b : Bool) → was ≡ b → lines_of input ≡ lines_in serves.turns ++ lines_of left
+first_lines m settings ticks now_settings holds input before after first now was left serves true is =
     (serves.read is).0 ∙ sym (append-nil (lines_in serves.turns)) ∙ ap (λ l. lines_in serves.turns ++ lines_of l) (sym (serves.read is).1)
-first_lines m settings now_settings holds input before after first now was left serves false is = ap lines_of (serves.taken is) ∙ lines_of-rest (lines_in serves.turns) left serves.no_feeds
+first_lines m settings ticks now_settings holds input before after first now was left serves false is = ap lines_of (serves.taken is) ∙ lines_of-rest (lines_in serves.turns) left serves.no_feeds
 
-module _ (m : Manner) (settings now_settings : StoreSettings) (holds : m.Held → Type 0) (input : List ℕ) (before b1 b2 : ℕ) (first now : Option (List ℕ)) (was : Bool) where
+module _ (m : Manner) (settings : StoreSettings) (ticks : Option (List Tick)) (now_settings : StoreSettings) (holds : m.Held → Type 0) (input : List ℕ) (before b1 b2 : ℕ) (first now : Option (List ℕ)) (was : Bool) where
   -- memory ran out
-  pub stops : (left h : Option (List ℕ)) → ServesKnown m settings now_settings holds input before b1 first now was left → Keeps now h → b1 ≤ b2 → AnswersFirstLines m settings input before b2 first h
-  stops None h serves keeps risen = absurd serves
-  stops (Some left) h serves keeps risen =
+  pub stops : (later : Option (List Tick)) → ((turns : List (Turn m.Held)) → HearsAll ticks turns → HearsFirst later turns) → (left h : Option (List ℕ))
+      → ServesKnown m settings ticks now_settings holds input before b1 first now was left → Keeps now h → b1 ≤ b2 → AnswersFirstLines m settings later input before b2 first h
+  stops later on None h serves keeps risen = absurd serves
+  stops later on (Some left) h serves keeps risen =
       record {
         turns = serves.turns;
         others = lines_of left;
-        first = first_lines m settings now_settings holds input before b1 first now was left serves was refl;
+        first = first_lines m settings ticks now_settings holds input before b1 first now was left serves was refl;
+        heard = on serves.turns serves.heard;
         may_be = record {
           flushes = serves.may_be.flushes;
           causes = causes_on before b1 b2 (failed_in serves.turns) serves.may_be.causes risen;
@@ -320,14 +355,16 @@ module _ (m : Manner) (settings now_settings : StoreSettings) (holds : m.Held �
       }
 
   -- what the last call leaves of that
-  pub stops_off : (is_left : m.Held → Type 0) (left h : Option (List ℕ)) → ServesKnown m settings now_settings holds input before b1 first now was left → Keeps now h → b1 ≤ b2
-      → ((held : m.Held) → holds held → is_left held) → BreaksOff m settings is_left input before b2 (Appends first h)
-  stops_off is_left None h serves keeps risen leaves = absurd serves
-  stops_off is_left (Some left) h serves keeps risen leaves =
+  pub stops_off : (later : Option (List Tick)) → ((turns : List (Turn m.Held)) → HearsAll ticks turns → HearsFirst later turns) → (is_left : m.Held → Type 0) (left h : Option (List ℕ))
+      → ServesKnown m settings ticks now_settings holds input before b1 first now was left → Keeps now h → b1 ≤ b2
+      → ((held : m.Held) → holds held → is_left held) → BreaksOff m settings later is_left input before b2 (Appends first h)
+  stops_off later on is_left None h serves keeps risen leaves = absurd serves
+  stops_off later on is_left (Some left) h serves keeps risen leaves =
       record {
         turns = serves.turns;
         others = lines_of left;
-        first = first_lines m settings now_settings holds input before b1 first now was left serves was refl;
+        first = first_lines m settings ticks now_settings holds input before b1 first now was left serves was refl;
+        heard = on serves.turns serves.heard;
         may_be = record {
           flushes = serves.may_be.flushes;
           causes = causes_on before b1 b2 (failed_in serves.turns) serves.may_be.causes risen;
@@ -337,8 +374,8 @@ module _ (m : Manner) (settings now_settings : StoreSettings) (holds : m.Held �
       }
 
   -- a read failed
-  pub fails : (left rest h : Option (List ℕ)) (bytes : List ℕ) → ServesKnown m settings now_settings holds input before b1 first now was left → was ≡ false → HasNoFeed bytes → Consumes left rest bytes → Keeps now h
-      → AnswersWhatWasRead m settings input rest before b1 first h
+  pub fails : (left rest h : Option (List ℕ)) (bytes : List ℕ) → ServesKnown m settings ticks now_settings holds input before b1 first now was left → was ≡ false → HasNoFeed bytes → Consumes left rest bytes → Keeps now h
+      → AnswersWhatWasRead m settings ticks input rest before b1 first h
   fails None rest h bytes serves going clean consumed keeps = absurd serves
   fails (Some left) None h bytes serves going clean consumed keeps = absurd consumed
   fails (Some left) (Some rest) h bytes serves going clean consumed keeps =
@@ -348,82 +385,88 @@ module _ (m : Manner) (settings now_settings : StoreSettings) (holds : m.Held �
         no_feeds = serves.no_feeds;
         no_feed = clean;
         read = serves.taken going ∙ ap (λ (l : List ℕ). flat_map with_feed (lines_in serves.turns) ++ l) consumed ∙ sym (append_assoc (flat_map with_feed (lines_in serves.turns)) bytes rest);
+        heard = serves.heard;
         may_be = serves.may_be;
         answered = kept first now h (answers_of serves.turns) serves.answered keeps;
       }
 
 -- a write failed while it went on
-pub breaks : (m : Manner) (settings now_settings : StoreSettings) (holds : m.Held → Type 0) (input : List ℕ) (before after : ℕ) (first c k : Option (List ℕ)) (r : List ℕ) (was : Bool) (left : Option (List ℕ))
-    → ServesKnown m settings now_settings holds input before after first (with_replies c r) was left → Grows first c → AppendsFront c k r → AnswersFront m settings input before after first k
-breaks m settings now_settings holds input before after first c k r was None serves grown f = absurd serves
-breaks m settings now_settings holds input before after first c k r was (Some left) serves grown f =
+pub breaks : (m : Manner) (settings : StoreSettings) (ticks : Option (List Tick)) (now_settings : StoreSettings) (holds : m.Held → Type 0) (input : List ℕ) (before after : ℕ) (first c k : Option (List ℕ)) (r : List ℕ) (was : Bool) (left : Option (List ℕ))
+    → ServesKnown m settings ticks now_settings holds input before after first (with_replies c r) was left → Grows first c → AppendsFront c k r → AnswersFront m settings ticks input before after first k
+breaks m settings ticks now_settings holds input before after first c k r was None serves grown f = absurd serves
+breaks m settings ticks now_settings holds input before after first c k r was (Some left) serves grown f =
     record {
       turns = serves.turns;
       others = lines_of left;
-      first = first_lines m settings now_settings holds input before after first (with_replies c r) was left serves was refl;
+      first = first_lines m settings ticks now_settings holds input before after first (with_replies c r) was left serves was refl;
+      heard = hears_first ticks serves.turns serves.heard;
       may_be = serves.may_be;
       front = inl (front_held first c k r (answers_of serves.turns) grown serves.answered f);
     }
 
 -- and what was held stays
-pub breaks_cut : (m : Manner) (settings now_settings : StoreSettings) (holds is_left : m.Held → Type 0) (input : List ℕ) (before after : ℕ) (first c k : Option (List ℕ)) (r : List ℕ) (was : Bool) (left : Option (List ℕ))
-    → ServesKnown m settings now_settings holds input before after first (with_replies c r) was left → Grows first c → AppendsFront c k r → ((held : m.Held) → holds held → is_left held)
-    → BreaksOff m settings is_left input before after (AppendsFront first k)
-breaks_cut m settings now_settings holds is_left input before after first c k r was None serves grown f stays = absurd serves
-breaks_cut m settings now_settings holds is_left input before after first c k r was (Some left) serves grown f stays =
+pub breaks_cut : (m : Manner) (settings : StoreSettings) (ticks : Option (List Tick)) (now_settings : StoreSettings) (holds is_left : m.Held → Type 0) (input : List ℕ) (before after : ℕ) (first c k : Option (List ℕ)) (r : List ℕ) (was : Bool) (left : Option (List ℕ))
+    → ServesKnown m settings ticks now_settings holds input before after first (with_replies c r) was left → Grows first c → AppendsFront c k r → ((held : m.Held) → holds held → is_left held)
+    → BreaksOff m settings ticks is_left input before after (AppendsFront first k)
+breaks_cut m settings ticks now_settings holds is_left input before after first c k r was None serves grown f stays = absurd serves
+breaks_cut m settings ticks now_settings holds is_left input before after first c k r was (Some left) serves grown f stays =
     record {
       turns = serves.turns;
       others = lines_of left;
-      first = first_lines m settings now_settings holds input before after first (with_replies c r) was left serves was refl;
+      first = first_lines m settings ticks now_settings holds input before after first (with_replies c r) was left serves was refl;
+      heard = hears_first ticks serves.turns serves.heard;
       may_be = serves.may_be;
       answered = front_held first c k r (answers_of serves.turns) grown serves.answered f;
       left = stays (held_after m.nothing serves.turns) serves.holds;
     }
 
 -- of a channel, whose answers were still to be written
-module _ (m : Manner) (settings : StoreSettings) (is_left : m.Held → Type 0) (before after : ℕ) (first c k : Option (List ℕ)) (r : List ℕ) where
+module _ (m : Manner) (settings : StoreSettings) (ticks : Option (List Tick)) (is_left : m.Held → Type 0) (before after : ℕ) (first c k : Option (List ℕ)) (r : List ℕ) where
   -- a front of them is, since a write failed
-  pub channel_cut : (known : Option (List ℕ)) → IfSome known (λ input. BreaksOff m settings is_left input before after (Appends first (with_replies c r))) → Grows first c → AppendsFront c k r
-      → IfSome known (λ input. BreaksOff m settings is_left input before after (AppendsFront first k))
+  pub channel_cut : (known : Option (List ℕ)) → IfSome known (λ input. BreaksOff m settings ticks is_left input before after (Appends first (with_replies c r))) → Grows first c → AppendsFront c k r
+      → IfSome known (λ input. BreaksOff m settings ticks is_left input before after (AppendsFront first k))
   channel_cut None broken grown f = tt
   channel_cut (Some input) broken grown f =
       record {
         turns = broken.turns;
         others = broken.others;
         first = broken.first;
+        heard = broken.heard;
         may_be = broken.may_be;
         answered = front_held first c k r (answers_of broken.turns) grown broken.answered f;
         left = broken.left;
       }
 
   -- all of them are
-  pub channel_written : (known : Option (List ℕ)) → IfSome known (λ input. BreaksOff m settings is_left input before after (Appends first (with_replies c r))) → Grows first c → Appends c k r
-      → IfSome known (λ input. BreaksOff m settings is_left input before after (AppendsFront first k))
+  pub channel_written : (known : Option (List ℕ)) → IfSome known (λ input. BreaksOff m settings ticks is_left input before after (Appends first (with_replies c r))) → Grows first c → Appends c k r
+      → IfSome known (λ input. BreaksOff m settings ticks is_left input before after (AppendsFront first k))
   channel_written known broken grown written = channel_cut known broken grown (front_of c k r written)
 
   -- all lines were answered, and a front of the answers is written
-  pub channel_lost : (holds : m.Held → Type 0) (known : Option (List ℕ)) → IfSome known (λ input. AnswersLines m settings holds input before after first (with_replies c r)) → Grows first c
-      → AppendsFront c k r → ((held : m.Held) → holds held → is_left held) → IfSome known (λ input. BreaksOff m settings is_left input before after (AppendsFront first k))
+  pub channel_lost : (holds : m.Held → Type 0) (known : Option (List ℕ)) → IfSome known (λ input. AnswersLines m settings ticks holds input before after first (with_replies c r)) → Grows first c
+      → AppendsFront c k r → ((held : m.Held) → holds held → is_left held) → IfSome known (λ input. BreaksOff m settings ticks is_left input before after (AppendsFront first k))
   channel_lost holds None lines grown f stays = tt
   channel_lost holds (Some input) lines grown f stays =
       record {
         turns = lines.turns;
         others = [];
         first = lines.all ∙ sym (append-nil (lines_in lines.turns));
+        heard = hears_first ticks lines.turns lines.heard;
         may_be = lines.may_be;
         answered = front_held first c k r (answers_of lines.turns) grown lines.answered f;
         left = stays (held_after m.nothing lines.turns) lines.holds;
       }
 
 -- all lines were answered, and the answers are written
-pub channel_answered : (m : Manner) (settings : StoreSettings) (holds : m.Held → Type 0) (before after : ℕ) (first c k : Option (List ℕ)) (r : List ℕ) (known : Option (List ℕ))
-    → IfSome known (λ input. AnswersLines m settings holds input before after first (with_replies c r)) → Appends c k r → IfSome known (λ input. AnswersLines m settings holds input before after first k)
-channel_answered m settings holds before after first c k r None lines written = tt
-channel_answered m settings holds before after first c k r (Some input) lines written =
+pub channel_answered : (m : Manner) (settings : StoreSettings) (ticks : Option (List Tick)) (holds : m.Held → Type 0) (before after : ℕ) (first c k : Option (List ℕ)) (r : List ℕ) (known : Option (List ℕ))
+    → IfSome known (λ input. AnswersLines m settings ticks holds input before after first (with_replies c r)) → Appends c k r → IfSome known (λ input. AnswersLines m settings ticks holds input before after first k)
+channel_answered m settings ticks holds before after first c k r None lines written = tt
+channel_answered m settings ticks holds before after first c k r (Some input) lines written =
     record {
       turns = lines.turns;
       all = lines.all;
       holds = lines.holds;
+      heard = lines.heard;
       may_be = lines.may_be;
       answered = all_written first c k r (answers_of lines.turns) lines.answered written;
     }
@@ -433,75 +476,79 @@ none_added : (known : Option (List ℕ)) (replies : List ℕ) → replies ≡ []
 none_added None replies none = tt
 none_added (Some x) replies none = ap (λ (l : List ℕ). x ++ l) none
 
-pub channel_unread : (m : Manner) (settings : StoreSettings) (is_left : m.Held → Type 0) (n : ℕ) (contents : Option (List ℕ)) (replies : List ℕ) → replies ≡ [] → is_left m.nothing → (known : Option (List ℕ))
-    → IfSome known (λ input. BreaksOff m settings is_left input n n (Appends contents (with_replies contents replies)))
-channel_unread m settings is_left n contents replies none stays None = tt
-channel_unread m settings is_left n contents replies none stays (Some input) =
+pub channel_unread : (m : Manner) (settings : StoreSettings) (ticks : Option (List Tick)) (is_left : m.Held → Type 0) (n : ℕ) (contents : Option (List ℕ)) (replies : List ℕ) → replies ≡ [] → is_left m.nothing → (known : Option (List ℕ))
+    → IfSome known (λ input. BreaksOff m settings ticks is_left input n n (Appends contents (with_replies contents replies)))
+channel_unread m settings ticks is_left n contents replies none stays None = tt
+channel_unread m settings ticks is_left n contents replies none stays (Some input) =
     record {
       turns = [];
       others = lines_of input;
       first = refl;
+      heard = hears_none m.Held ticks;
       may_be = record { flushes = tt; causes = no_failure n };
       answered = none_added contents replies none;
       left = stays;
     }
 
 -- a channel ends, with what was still to be written
-module _ (m : Manner) (settings : StoreSettings) (holds is_left : m.Held → Type 0) (before after : ℕ) (first c k : Option (List ℕ)) (r : List ℕ) (known : Option (List ℕ)) (ended : Result (Unit {0}) Ending)
+module _ (m : Manner) (settings : StoreSettings) (ticks : Option (List Tick)) (holds is_left : m.Held → Type 0) (before after : ℕ) (first c k : Option (List ℕ)) (r : List ℕ) (known : Option (List ℕ)) (ended : Result (Unit {0}) Ending)
     (other : ended ≢ Err OutputFault) (grown : Grows first c)
-    (broken : (e : Ending) → ended ≡ Err e → e ≢ OutputFault → IfSome known (λ input. BreaksOff m settings is_left input before after (Appends first (with_replies c r)))) where
+    (broken : (e : Ending) → ended ≡ Err e → e ≢ OutputFault → IfSome known (λ input. BreaksOff m settings ticks is_left input before after (Appends first (with_replies c r)))) where
   -- it is not written whole
-  pub channel_breaks : (b : Result (Unit {0}) Ending) → ended ≡ b → OnOk b (IfSome known (λ input. AnswersLines m settings holds input before after first (with_replies c r))) → AppendsFront c k r
-      → ((held : m.Held) → holds held → is_left held) → IfSome known (λ input. BreaksOff m settings is_left input before after (AppendsFront first k))
-  channel_breaks (Ok done) is lines f stays = channel_lost m settings is_left before after first c k r holds known lines grown f stays
-  channel_breaks (Err e) is lines f stays = channel_cut m settings is_left before after first c k r known (broken e is (λ (same : e ≡ OutputFault). other (is ∙ ap (λ x. Err x) same))) grown f
+  pub channel_breaks : (b : Result (Unit {0}) Ending) → ended ≡ b → OnOk b (IfSome known (λ input. AnswersLines m settings ticks holds input before after first (with_replies c r))) → AppendsFront c k r
+      → ((held : m.Held) → holds held → is_left held) → IfSome known (λ input. BreaksOff m settings ticks is_left input before after (AppendsFront first k))
+  channel_breaks (Ok done) is lines f stays = channel_lost m settings ticks is_left before after first c k r holds known lines grown f stays
+  channel_breaks (Err e) is lines f stays = channel_cut m settings ticks is_left before after first c k r known (broken e is (λ (same : e ≡ OutputFault). other (is ∙ ap (λ x. Err x) same))) grown f
 
   -- it is
-  pub channel_ends : (b : Result (Unit {0}) Ending) → ended ≡ b → Appends c k r → OnErr b (IfSome known (λ input. BreaksOff m settings is_left input before after (AppendsFront first k)))
+  pub channel_ends : (b : Result (Unit {0}) Ending) → ended ≡ b → Appends c k r → OnErr b (IfSome known (λ input. BreaksOff m settings ticks is_left input before after (AppendsFront first k)))
   channel_ends (Ok done) is written = tt
-  channel_ends (Err e) is written = channel_written m settings is_left before after first c k r known (broken e is (λ (same : e ≡ OutputFault). other (is ∙ ap (λ x. Err x) same))) grown written
+  channel_ends (Err e) is written = channel_written m settings ticks is_left before after first c k r known (broken e is (λ (same : e ≡ OutputFault). other (is ∙ ap (λ x. Err x) same))) grown written
 
 -- the last write failed
-module _ (m : Manner) (settings : StoreSettings) (input : List ℕ) (before after : ℕ) (first c k : Option (List ℕ)) (r : List ℕ) (grown : Grows first c) (f : AppendsFront c k r) where
+module _ (m : Manner) (settings : StoreSettings) (ticks : Option (List Tick)) (input : List ℕ) (before after : ℕ) (first c k : Option (List ℕ)) (r : List ℕ) (grown : Grows first c) (f : AppendsFront c k r) where
   -- of all answers and the report
-  breaks_all : AnswersAll m settings input before after first (with_replies c r) → AnswersFront m settings input before after first k
+  breaks_all : AnswersAll m settings ticks input before after first (with_replies c r) → AnswersFront m settings ticks input before after first k
   breaks_all a =
       record {
         turns = a.turns;
         others = [];
         first = a.all ∙ sym (append-nil (lines_in a.turns));
+        heard = hears_first ticks a.turns a.heard;
         may_be = a.may_be;
         front = inr (refl, record { report = a.report; reports = a.reports; front = front_held first c k r (output_of a.turns a.report) grown a.answered f });
       }
 
   -- of the answers where memory had run out
-  breaks_first : AnswersFirstLines m settings input before after first (with_replies c r) → AnswersFront m settings input before after first k
+  breaks_first : AnswersFirstLines m settings ticks input before after first (with_replies c r) → AnswersFront m settings ticks input before after first k
   breaks_first a =
       record {
         turns = a.turns;
         others = a.others;
         first = a.first;
+        heard = a.heard;
         may_be = a.may_be;
         front = inl (front_held first c k r (answers_of a.turns) grown a.answered f);
       }
 
   -- of the answers where a read had failed
-  breaks_read : (rest : Option (List ℕ)) → AnswersWhatWasRead m settings input rest before after first (with_replies c r) → AnswersFront m settings input before after first k
+  breaks_read : (rest : Option (List ℕ)) → AnswersWhatWasRead m settings ticks input rest before after first (with_replies c r) → AnswersFront m settings ticks input before after first k
   breaks_read None a = absurd a.read
   breaks_read (Some rest) a =
       record {
         turns = a.turns;
         others = lines_of (a.last ++ rest);
         first = ap lines_of (a.read ∙ append_assoc (flat_map with_feed (lines_in a.turns)) a.last rest) ∙ lines_of-rest (lines_in a.turns) (a.last ++ rest) a.no_feeds;
+        heard = hears_first ticks a.turns a.heard;
         may_be = a.may_be;
         front = inl (front_held first c k r (answers_of a.turns) grown a.answered f);
       }
 
   breaks_known : (rest : Option (List ℕ)) (ended : Result (Unit {0}) Ending) → ended ≢ Err OutputFault → IfErr ended (λ e. IsTrue (is_of_run e))
-      → OnOk ended (AnswersAll m settings input before after first (with_replies c r))
-      → (ended ≡ Err InputFault → AnswersWhatWasRead m settings input rest before after first (with_replies c r))
-      → (ended ≡ Err NoMemory → AnswersFirstLines m settings input before after first (with_replies c r))
-      → AnswersFront m settings input before after first k
+      → OnOk ended (AnswersAll m settings ticks input before after first (with_replies c r))
+      → (ended ≡ Err InputFault → AnswersWhatWasRead m settings ticks input rest before after first (with_replies c r))
+      → (ended ≡ Err NoMemory → AnswersFirstLines m settings ticks input before after first (with_replies c r))
+      → AnswersFront m settings ticks input before after first k
   breaks_known rest (Ok done) other of_run all read memory = breaks_all all
   breaks_known rest (Err NoMemory) other of_run all read memory = breaks_first (memory refl)
   breaks_known rest (Err InputFault) other of_run all read memory = breaks_read rest (read refl)
@@ -520,24 +567,24 @@ module _ (m : Manner) (settings : StoreSettings) (input : List ℕ) (before afte
   breaks_known rest (Err (Differs place)) other of_run all read memory = absurd cc
 
 -- the same, of what is known of the input
-pub breaks_ended : (m : Manner) (settings : StoreSettings) (before after : ℕ) (first c k : Option (List ℕ)) (r : List ℕ) (known rest : Option (List ℕ)) (ended : Result (Unit {0}) Ending) → Grows first c → AppendsFront c k r
+pub breaks_ended : (m : Manner) (settings : StoreSettings) (ticks : Option (List Tick)) (before after : ℕ) (first c k : Option (List ℕ)) (r : List ℕ) (known rest : Option (List ℕ)) (ended : Result (Unit {0}) Ending) → Grows first c → AppendsFront c k r
     → ended ≢ Err OutputFault → IfErr ended (λ e. IsTrue (is_of_run e))
-    → OnOk ended (IfSome known (λ input. AnswersAll m settings input before after first (with_replies c r)))
-    → (ended ≡ Err InputFault → IfSome known (λ input. AnswersWhatWasRead m settings input rest before after first (with_replies c r)))
-    → (ended ≡ Err NoMemory → IfSome known (λ input. AnswersFirstLines m settings input before after first (with_replies c r)))
-    → IfSome known (λ input. AnswersFront m settings input before after first k)
-breaks_ended m settings before after first c k r None rest ended grown f other of_run all read memory = tt
-breaks_ended m settings before after first c k r (Some input) rest ended grown f other of_run all read memory =
-    breaks_known m settings input before after first c k r grown f rest ended other of_run all read memory
+    → OnOk ended (IfSome known (λ input. AnswersAll m settings ticks input before after first (with_replies c r)))
+    → (ended ≡ Err InputFault → IfSome known (λ input. AnswersWhatWasRead m settings ticks input rest before after first (with_replies c r)))
+    → (ended ≡ Err NoMemory → IfSome known (λ input. AnswersFirstLines m settings ticks input before after first (with_replies c r)))
+    → IfSome known (λ input. AnswersFront m settings ticks input before after first k)
+breaks_ended m settings ticks before after first c k r None rest ended grown f other of_run all read memory = tt
+breaks_ended m settings ticks before after first c k r (Some input) rest ended grown f other of_run all read memory =
+    breaks_known m settings ticks input before after first c k r grown f rest ended other of_run all read memory
 
 -- ---- by how it ends
 
 -- what each ending says is what the run has written
 pub has_written : {T : Type 0} (m : Manner) (settings : StoreSettings) (seen : Seen) (ended : Result T Ending)
-    → OnOk ended (IfSome seen.input (λ input. AnswersAll m settings input seen.before seen.after seen.old seen.new))
-    → (ended ≡ Err InputFault → IfSome seen.input (λ input. AnswersWhatWasRead m settings input seen.rest seen.before seen.after seen.old seen.new))
-    → (ended ≡ Err NoMemory → IfSome seen.input (λ input. AnswersFirstLines m settings input seen.before seen.after seen.old seen.new))
-    → (ended ≡ Err OutputFault → IfSome seen.input (λ input. AnswersFront m settings input seen.before seen.after seen.old seen.new))
+    → OnOk ended (IfSome seen.input (λ input. AnswersAll m settings seen.ticks input seen.before seen.after seen.old seen.new))
+    → (ended ≡ Err InputFault → IfSome seen.input (λ input. AnswersWhatWasRead m settings seen.ticks input seen.rest seen.before seen.after seen.old seen.new))
+    → (ended ≡ Err NoMemory → IfSome seen.input (λ input. AnswersFirstLines m settings seen.ticks input seen.before seen.after seen.old seen.new))
+    → (ended ≡ Err OutputFault → IfSome seen.input (λ input. AnswersFront m settings seen.ticks input seen.before seen.after seen.old seen.new))
     → IfErr ended (λ e. IsTrue (is_of_run e)) → HasWritten m settings seen ended
 has_written m settings seen (Ok done) all read first front ending = all
 has_written m settings seen (Err InputFault) all read first front ending = read refl
@@ -558,13 +605,14 @@ has_written m settings seen (Err (Differs place)) all read first front ending = 
 
 -- where memory ran out before anything was read, there are answers to no line
 nothing_answered : (m : Manner) (settings : StoreSettings) (seen : Seen) → seen.after ≡ seen.before → seen.new ≡ seen.old
-    → (known : Option (List ℕ)) → IfSome known (λ input. AnswersFirstLines m settings input seen.before seen.after seen.old seen.new)
+    → (known : Option (List ℕ)) → IfSome known (λ input. AnswersFirstLines m settings seen.ticks input seen.before seen.after seen.old seen.new)
 nothing_answered m settings seen calm same None = tt
 nothing_answered m settings seen calm same (Some input) =
     record {
       turns = [];
       others = lines_of input;
       first = refl;
+      heard = hears_none m.Held seen.ticks;
       may_be = record { flushes = tt; causes = subst (λ n. HaveCause seen.before n 0) (sym calm) (no_failure seen.before) };
       answered = subst (λ w. Appends seen.old w []) (sym same) (Appends-nil seen.old);
     }

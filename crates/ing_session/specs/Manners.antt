@@ -1,5 +1,5 @@
 -- What is written for an input, from the bytes read to the bytes written, whatever it is that obeys the commands.
-use Rattle.std.specs.Prelude.{◌≡◌, ℕ, List, [], ◌∷◌, ◌++◌, length, map, sum_by, Bool, ◌||◌, ◌==◌, nat_lt, if◌then◌else◌, Option, None, Some, Result, Ok, Err, ⊤, MatchOption}
+use Rattle.std.specs.Prelude.{◌≡◌, ℕ, List, [], ◌∷◌, ◌++◌, length, sum_by, Bool, ◌||◌, ◌==◌, nat_lt, if◌then◌else◌, Option, None, Some, Result, Ok, Err, ⊤, MatchOption}
 use Rattle.std.specs.List.{list_all}
 use Rattle.serde_json.specs.Data.{Data}
 use Rattle.ing_limits.specs.Settings.{StoreSettings}
@@ -9,6 +9,8 @@ use Rattle.ing_commands.specs.Faults.{refusal_of}
 use Rattle.ing_commands.specs.Commands.{Command, command_of}
 use Rattle.ing_session.specs.Parts.{max_line}
 use Rattle.ing_session.specs.Replies.{fault_data, line_text}
+use Rattle.ing_session.specs.Ticks.{command_of_tick}
+use Rattle.ing_session.specs.declared.ticks.Tick.{Tick}
 
 -- A manner of obeying: what is held between one line and the next, and before the first; what a command may do, by the settings,
 -- from what was held to what is held then, with so many failed uploads and queries, and with this reply; and what may be
@@ -49,15 +51,21 @@ said_in line =
     else if is_blank line then None
     else Some (command_of line)
 
--- A line of the input: what is written for it, how many uploads and queries failed at it, and what is held then.
+-- Who says what is done next: a line of the input, or a clock.
+pub data Saying : Type 0 where
+  Line : List ℕ → Saying
+  Ticks : Tick → Saying
+
+-- What is said next: what is written for it, how many uploads and queries failed at it, and what is held then.
 pub record Turn (H : Type 0) : Type 0 where
-  pub line : List ℕ
+  pub said : Saying
   pub answer : List ℕ
   pub failed : ℕ
   pub left : H
 
+-- of a line
 abbrev pub turn : {H : Type 0} → List ℕ → List ℕ → ℕ → H → Turn H
-turn line answer failed left = record { line = line; answer = answer; failed = failed; left = left }
+turn line answer failed left = record { said = Line line; answer = answer; failed = failed; left = left }
 
 -- what it says is obeyed, and its reply is written
 pub record IsAnswered (m : Manner) (settings : StoreSettings) (said : Result Command LineFault) (t : Turn m.Held) (old : m.Held) : Type 0 where
@@ -71,13 +79,23 @@ pub record IsSkipped {H : Type 0} (t : Turn H) (old : H) : Type 0 where
   pub left : t.left ≡ old
   pub failures : t.failed ≡ 0
 
--- from this on, a line may be answered so
+-- what a clock says is obeyed, and nobody is told
+pub record IsUntold (m : Manner) (settings : StoreSettings) (tick : Tick) (t : Turn m.Held) (old : m.Held) : Type 0 where
+  pub reply : Data
+  pub obeys : m.obeys settings old t.left t.failed reply (command_of_tick tick)
+  pub silent : t.answer ≡ []
+
+-- from this on, what is said may be answered so
+abbrev pub MayBeSaid : (m : Manner) → StoreSettings → Turn m.Held → m.Held → Saying → Type 0
+MayBeSaid m settings t held (Line line) = MatchOption (said_in line) (IsSkipped t held) (λ said. IsAnswered m settings said t held)
+MayBeSaid m settings t held (Ticks tick) = IsUntold m settings tick t held
+
 abbrev pub MayBe : (m : Manner) → StoreSettings → Turn m.Held → m.Held → Type 0
-MayBe m settings t held = MatchOption (said_in t.line) (IsSkipped t held) (λ said. IsAnswered m settings said t held)
+MayBe m settings t held = MayBeSaid m settings t held t.said
 
 -- ---- the whole input
 
--- what is written for lines, one after another
+-- what is written, one turn after another
 abbrev pub answers_of : {H : Type 0} → List (Turn H) → List ℕ
 answers_of [] = []
 answers_of (t ∷ turns) = t.answer ++ answers_of turns
@@ -92,8 +110,25 @@ abbrev pub MayBeFrom : (m : Manner) → StoreSettings → m.Held → List (Turn 
 MayBeFrom m settings held [] = ⊤
 MayBeFrom m settings held (t ∷ turns) = MayBe m settings t held × MayBeFrom m settings t.left turns
 
+-- the line that is said, where it is one
+abbrev pub line_in : Saying → List (List ℕ)
+line_in (Line line) = line ∷ []
+line_in (Ticks tick) = []
+
+-- the lines among what is said, in their order
 abbrev pub lines_in : {H : Type 0} → List (Turn H) → List (List ℕ)
-lines_in turns = map (λ t. t.line) turns
+lines_in [] = []
+lines_in (t ∷ turns) = line_in t.said ++ lines_in turns
+
+-- what the clock says, where it is that
+abbrev pub tick_in : Saying → List Tick
+tick_in (Line line) = []
+tick_in (Ticks tick) = tick ∷ []
+
+-- what the clock says among it, in its order
+abbrev pub ticks_in : {H : Type 0} → List (Turn H) → List Tick
+ticks_in [] = []
+ticks_in (t ∷ turns) = tick_in t.said ++ ticks_in turns
 
 -- how many uploads and queries failed in all
 abbrev pub failed_in : {H : Type 0} → List (Turn H) → ℕ

@@ -15,37 +15,50 @@ use Rattle.ing_session.specs.Lines.{lines_of, with_feed}
 use Rattle.ing_session.specs.Parts.{HasNoFeed}
 use Rattle.ing_session.specs.PushLines.{TakesPushes}
 use Rattle.ing_session.specs.Replies.{line_text}
-use Rattle.ing_session.specs.Manners.{Manner, Turn, turn, Obeys, MayBe, MayBeFrom, answers_of, failed_in, held_after, lines_in, output_of}
+use Rattle.ing_session.specs.Manners.{Manner, Turn, turn, Obeys, MayBe, MayBeFrom, answers_of, failed_in, held_after, lines_in, output_of, ticks_in}
+use Rattle.ing_session.specs.declared.ticks.Tick.{Tick}
 
 -- These lines may be answered so from nothing on, over an end of the store that counts its failures from before to after.
 pub record MayBeAnswered (m : Manner) (settings : StoreSettings) (before after : ℕ) (turns : List (Turn m.Held)) : Type 0 where
   pub flushes : MayBeFrom m settings m.nothing turns
   pub causes : HaveCause before after (failed_in turns)
 
--- Where the input came to its end: the answers to all its lines and the report, and nothing else.
-pub record AnswersAll (m : Manner) (settings : StoreSettings) (input : List ℕ) (before after : ℕ) (old new : Option (List ℕ)) : Type 0 where
+-- What a clock is known to have said is what stands among these turns, in its order.
+abbrev pub HearsAll : {H : Type 0} → Option (List Tick) → List (Turn H) → Type 0
+HearsAll ticks turns = IfSome ticks (λ all. ticks_in turns ≡ all)
+
+-- or the first of it is
+abbrev pub HearsFirst : {H : Type 0} → Option (List Tick) → List (Turn H) → Type 0
+HearsFirst ticks turns = IfSome ticks (λ all. (others : List Tick) × (all ≡ ticks_in turns ++ others))
+
+-- Where the input came to its end: the answers to all its lines and the report, and nothing else. Between the lines what the clock said
+-- was done; so it is with each ending.
+pub record AnswersAll (m : Manner) (settings : StoreSettings) (ticks : Option (List Tick)) (input : List ℕ) (before after : ℕ) (old new : Option (List ℕ)) : Type 0 where
   pub turns : List (Turn m.Held)
   pub all : lines_of input ≡ lines_in turns
+  pub heard : HearsAll ticks turns
   pub may_be : MayBeAnswered m settings before after turns
   pub report : Data
   pub reports : m.reports (held_after m.nothing turns) report
   pub answered : Appends old new (output_of turns report)
 
 -- Where a read failed: the answers to all lines that were read whole, with their line feeds, and nothing else.
-pub record AnswersWhatWasRead (m : Manner) (settings : StoreSettings) (input : List ℕ) (rest : Option (List ℕ)) (before after : ℕ) (old new : Option (List ℕ)) : Type 0 where
+pub record AnswersWhatWasRead (m : Manner) (settings : StoreSettings) (ticks : Option (List Tick)) (input : List ℕ) (rest : Option (List ℕ)) (before after : ℕ) (old new : Option (List ℕ)) : Type 0 where
   pub turns : List (Turn m.Held)
   pub last : List ℕ
   pub no_feeds : AllByRecursion HasNoFeed (lines_in turns)
   pub no_feed : HasNoFeed last
   pub read : Consumes (Some input) rest (flat_map with_feed (lines_in turns) ++ last)
+  pub heard : HearsAll ticks turns
   pub may_be : MayBeAnswered m settings before after turns
   pub answered : Appends old new (answers_of turns)
 
 -- Where memory ran out: the answers to the first lines of the input, each whole, and nothing else.
-pub record AnswersFirstLines (m : Manner) (settings : StoreSettings) (input : List ℕ) (before after : ℕ) (old new : Option (List ℕ)) : Type 0 where
+pub record AnswersFirstLines (m : Manner) (settings : StoreSettings) (ticks : Option (List Tick)) (input : List ℕ) (before after : ℕ) (old new : Option (List ℕ)) : Type 0 where
   pub turns : List (Turn m.Held)
   pub others : List (List ℕ)
   pub first : lines_of input ≡ lines_in turns ++ others
+  pub heard : HearsFirst ticks turns
   pub may_be : MayBeAnswered m settings before after turns
   pub answered : Appends old new (answers_of turns)
 
@@ -57,18 +70,20 @@ pub record BeginsReport (m : Manner) (turns : List (Turn m.Held)) (old new : Opt
 
 -- Where a write failed: a front of the answers to the first lines of the input, and nothing else. Where these are all its lines,
 -- the report may have been begun too.
-pub record AnswersFront (m : Manner) (settings : StoreSettings) (input : List ℕ) (before after : ℕ) (old new : Option (List ℕ)) : Type 0 where
+pub record AnswersFront (m : Manner) (settings : StoreSettings) (ticks : Option (List Tick)) (input : List ℕ) (before after : ℕ) (old new : Option (List ℕ)) : Type 0 where
   pub turns : List (Turn m.Held)
   pub others : List (List ℕ)
   pub first : lines_of input ≡ lines_in turns ++ others
+  pub heard : HearsFirst ticks turns
   pub may_be : MayBeAnswered m settings before after turns
   pub front : AppendsFront old new (answers_of turns) ⊎ ((others ≡ []) × BeginsReport m turns old new)
 
--- What is seen of a run from without: the bytes that its reader has to give before and behind it, how often the store has failed by
--- then, and what its writer holds.
+-- What is seen of a run from without: the bytes that its reader has to give before and behind it, what its clock has said, how often the
+-- store has failed by then, and what its writer holds.
 pub record Seen : Type 0 where
   pub input : Option (List ℕ)
   pub rest : Option (List ℕ)
+  pub ticks : Option (List Tick)
   pub before : ℕ
   pub after : ℕ
   pub old : Option (List ℕ)
@@ -76,11 +91,11 @@ pub record Seen : Type 0 where
 
 -- What a run that ends so has written, where it is known what there was to read. A run that has begun has no other ending.
 abbrev pub HasWritten : {T : Type 0} → Manner → StoreSettings → Seen → Result T Ending → Type 0
-HasWritten m settings seen (Ok done) = IfSome seen.input (λ input. AnswersAll m settings input seen.before seen.after seen.old seen.new)
+HasWritten m settings seen (Ok done) = IfSome seen.input (λ input. AnswersAll m settings seen.ticks input seen.before seen.after seen.old seen.new)
 HasWritten m settings seen (Err InputFault) =
-    IfSome seen.input (λ input. AnswersWhatWasRead m settings input seen.rest seen.before seen.after seen.old seen.new)
-HasWritten m settings seen (Err NoMemory) = IfSome seen.input (λ input. AnswersFirstLines m settings input seen.before seen.after seen.old seen.new)
-HasWritten m settings seen (Err OutputFault) = IfSome seen.input (λ input. AnswersFront m settings input seen.before seen.after seen.old seen.new)
+    IfSome seen.input (λ input. AnswersWhatWasRead m settings seen.ticks input seen.rest seen.before seen.after seen.old seen.new)
+HasWritten m settings seen (Err NoMemory) = IfSome seen.input (λ input. AnswersFirstLines m settings seen.ticks input seen.before seen.after seen.old seen.new)
+HasWritten m settings seen (Err OutputFault) = IfSome seen.input (λ input. AnswersFront m settings seen.ticks input seen.before seen.after seen.old seen.new)
 HasWritten m settings seen (Err _) = ⊥
 
 -- A run did not begin: memory ran out, or something was refused that stands in front of it; and the writer is as it was.
@@ -96,19 +111,21 @@ IsLeft holds leaves c held = holds c held ⊎ leaves c held
 
 -- Where it ends before the input does: of the answers to the first lines of the input so much is written, and what these lines leave
 -- is left.
-pub record BreaksOff (m : Manner) (settings : StoreSettings) (is_left : m.Held → Type 0) (input : List ℕ) (before after : ℕ) (written : List ℕ → Type 0) : Type 0 where
+pub record BreaksOff (m : Manner) (settings : StoreSettings) (ticks : Option (List Tick)) (is_left : m.Held → Type 0) (input : List ℕ) (before after : ℕ) (written : List ℕ → Type 0) : Type 0 where
   pub turns : List (Turn m.Held)
   pub others : List (List ℕ)
   pub first : lines_of input ≡ lines_in turns ++ others
+  pub heard : HearsFirst ticks turns
   pub may_be : MayBeAnswered m settings before after turns
   pub answered : written (answers_of turns)
   pub left : is_left (held_after m.nothing turns)
 
 -- all lines are answered, and what they leave is held
-pub record AnswersLines (m : Manner) (settings : StoreSettings) (now_holds : m.Held → Type 0) (input : List ℕ) (before after : ℕ) (old new : Option (List ℕ)) : Type 0 where
+pub record AnswersLines (m : Manner) (settings : StoreSettings) (ticks : Option (List Tick)) (now_holds : m.Held → Type 0) (input : List ℕ) (before after : ℕ) (old new : Option (List ℕ)) : Type 0 where
   pub turns : List (Turn m.Held)
   pub all : lines_of input ≡ lines_in turns
   pub holds : now_holds (held_after m.nothing turns)
+  pub heard : HearsAll ticks turns
   pub may_be : MayBeAnswered m settings before after turns
   pub answered : Appends old new (answers_of turns)
 
@@ -163,6 +180,7 @@ pub record AnswersAhead (m : Manner) (settings : StoreSettings) (line ahead : Li
   pub turns : List (Turn m.Held)
   pub others : List (List ℕ)
   pub lines : lines_in turns ≡ line ∷ others
+  pub quiet : ticks_in turns ≡ []
   pub no_feeds : AllByRecursion HasNoFeed others
   pub front : ahead ≡ flat_map with_feed others ++ drop taken ahead
   pub may_be : MayBeFrom m settings old turns
@@ -176,17 +194,18 @@ with_replies contents replies = append_known contents replies
 
 -- While a run goes on: the lines that were answered, with their line feeds, are what was read of the input but for what is
 -- left; once the input is at its end, all lines were answered. What these lines leave is held, under these settings.
-pub record Serves (m : Manner) (settings now_settings : StoreSettings) (now_holds : m.Held → Type 0) (input : List ℕ) (before after : ℕ) (old new : Option (List ℕ)) (at_end : Bool) (left : List ℕ) : Type 0 where
+pub record Serves (m : Manner) (settings : StoreSettings) (ticks : Option (List Tick)) (now_settings : StoreSettings) (now_holds : m.Held → Type 0) (input : List ℕ) (before after : ℕ) (old new : Option (List ℕ)) (at_end : Bool) (left : List ℕ) : Type 0 where
   pub turns : List (Turn m.Held)
   pub no_feeds : AllByRecursion HasNoFeed (lines_in turns)
   pub taken : at_end ≡ false → input ≡ flat_map with_feed (lines_in turns) ++ left
   pub read : at_end ≡ true → (lines_of input ≡ lines_in turns) × (left ≡ [])
   pub settings_are : now_settings ≡ settings
   pub holds : now_holds (held_after m.nothing turns)
+  pub heard : HearsAll ticks turns
   pub may_be : MayBeAnswered m settings before after turns
   pub answered : Appends old new (answers_of turns)
 
 -- the same where the bytes that are left are known
-abbrev pub ServesKnown : (m : Manner) → StoreSettings → StoreSettings → (m.Held → Type 0) → List ℕ → ℕ → ℕ → Option (List ℕ) → Option (List ℕ) → Bool → Option (List ℕ) → Type 0
-ServesKnown m settings now_settings now_holds input before after old new at_end None = ⊥
-ServesKnown m settings now_settings now_holds input before after old new at_end (Some left) = Serves m settings now_settings now_holds input before after old new at_end left
+abbrev pub ServesKnown : (m : Manner) → StoreSettings → Option (List Tick) → StoreSettings → (m.Held → Type 0) → List ℕ → ℕ → ℕ → Option (List ℕ) → Option (List ℕ) → Bool → Option (List ℕ) → Type 0
+ServesKnown m settings ticks now_settings now_holds input before after old new at_end None = ⊥
+ServesKnown m settings ticks now_settings now_holds input before after old new at_end (Some left) = Serves m settings ticks now_settings now_holds input before after old new at_end left

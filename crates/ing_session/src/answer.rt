@@ -1,5 +1,5 @@
 //! What is answered to a line. It knows of no reader and no writer.
-ghost use Rattle.std.specs.Prelude.{◌≡◌, ◌≤◌, ◌++◌, ℕ, List, length, IfOk, IsErr, OnOk, OnErr, false};
+ghost use Rattle.std.specs.Prelude.{◌≡◌, ◌≤◌, ◌++◌, ℕ, List, length, IfOk, IsErr, Ok, OnOk, OnErr, false};
 ghost use Rattle.ing_commands.specs.Commands.{command_of};
 ghost use Rattle.ing_commands.specs.Views.{push_view};
 ghost use Rattle.ing_session.specs.Causes.{GoesOn};
@@ -8,12 +8,14 @@ ghost use Rattle.ing_session.specs.Manners.{is_blank, is_long, line_fault};
 ghost use Rattle.ing_session.specs.PushLines.{SaysPush};
 ghost use Rattle.ing_session.specs.Replies.{line_text};
 ghost use Rattle.ing_session.specs.Runs.{AnswersAhead, IsLeft, IsObeyed};
+ghost use Rattle.ing_session.specs.Ticks.{command_of_tick};
 ghost use Rattle.ing_session.specs.Views.{reply_data};
 
 use crate::push_lines::PushLines;
 use crate::reply::{Reply, add_line, add_lines};
 use crate::service::Service;
-use ing_commands::{Command, Flush, LineFault, Push, command_of, read_value};
+use crate::ticks::Tick;
+use ing_commands::{Command, Flush, LineFault, Push, Sweep, command_of, read_value};
 use ing_pushes::usual_push;
 use json::Scratch;
 use std::alloc::{AllocError, Global};
@@ -101,6 +103,29 @@ fn answer_pushes<S, C: Service<S>>(
     let told = service.push_lines(push, &mut lines, scratch)?;
     add_lines(alloc, replies, &told)?;
     Ok(ahead.len().saturating_sub(lines.left()))
+}
+
+/// Does what a clock says, and gives the reply, which nobody reads. It fails only where memory runs out; then a part of it may be done.
+pub fn obey_tick<S, C: Service<S>, X: Fn(&mut C, &mut S, Flush) -> Result<Reply, AllocError>>(
+    service: &mut C,
+    flush: &X,
+    end: &mut S,
+    tick: Tick,
+) -> Result<Reply, AllocError>
+    requires may_flush { X.IsAlwaysCallable flush.now }
+    requires flushes { FlushesSo C.manner C.holds C.leaves C.settings_of C.failures C.never_fails (X.post flush.now) }
+    ensures obeyed { IfOk result (λ reply. (old : C.manner.Held) → C.holds service.old old →
+        IsObeyed C.manner (C.settings_of service.old) (Ok (command_of_tick tick)) old (C.holds service.new)
+        (C.failures end.old) (C.failures end.new) (reply_data reply)) }
+    ensures settings { C.settings_of service.new ≡ C.settings_of service.old }
+    ensures end { GoesOn C.never_fails C.failures end.old end.new }
+    ensures left { (old : C.manner.Held) → C.holds service.old old → C.leaves service.new old }
+{
+    match tick {
+        Tick::Sweep { now } => service.obey(end, Command::Sweep(Sweep { now })),
+        Tick::Flush => flush(service, end, Flush { forced: false }),
+        Tick::Checkpoint => service.obey(end, Command::Checkpoint),
+    }
 }
 
 /// Answers a line that is too long.

@@ -1,5 +1,5 @@
 //! Lines in from a reader, replies out to a writer. What a line says is not looked at here.
-ghost use Rattle.std.specs.Prelude.{◌≡◌, ◌≢◌, ◌⊎◌, ◌<◌, ◌≤◌, [], ℕ, List, Option, IfOk, IfErr, OnOk, OnErr, IsErrOf, IfSome, IsTrue, MatchBool, Err, true, false, vec_len};
+ghost use Rattle.std.specs.Prelude.{◌≡◌, ◌≢◌, ◌⊎◌, ◌<◌, ◌≤◌, [], ℕ, List, Option, Some, IfOk, IfErr, OnOk, OnErr, IsErrOf, IfSome, IsTrue, MatchBool, Err, true, false, vec_len};
 ghost use Rattle.std.specs.Io.KnownBytes.{Appends, Consumes, Keeps, IsAtEnd};
 ghost use Rattle.ing_limits.specs.Settings.{StoreSettings};
 ghost use Rattle.ing_session.specs.Endings.{is_of_run};
@@ -11,13 +11,16 @@ ghost use Rattle.ing_session.specs.Parts.{HasNoFeed};
 ghost use Rattle.ing_session.specs.Replies.{line_text};
 ghost use Rattle.ing_session.specs.Views.{reply_data};
 ghost use Rattle.ing_session.specs.Runs.{AnswersAll, AnswersWhatWasRead, AnswersFirstLines, AnswersFront, AnswersLines, BreaksOff, HasWritten, IsLeft, Reports, with_replies, ServesKnown};
+ghost use Rattle.ing_session.specs.declared.ticks.Tick.{Tick};
 ghost use Rattle.ing_session.specs.Unread.{left, is_ended, progress};
 
 use crate::answer::{AtHand, Scratches, answer, refuse_long};
 use crate::ending::Ending;
+use crate::heeding::heed_all;
 use crate::lines::{Lines, MAX_LINE, NextLine, Part, found};
 use crate::reply::{Reply, add_line};
 use crate::service::{Reporter, Service};
+use crate::ticks::{NoTicker, Ticker};
 use ing_commands::Flush;
 use json::Scratch;
 use std::alloc::{AllocError, Global};
@@ -30,7 +33,7 @@ const ENOUGH: usize = 65_536;
 /// Reads commands line by line, has each obeyed by the service, answers it in a line, and writes the service's report at the end
 /// of input. Replies are held back while they have fewer than 64 KiB together and a whole further line is at hand: so the memory
 /// that they take does not grow with the lines that are read ahead. They are written out before anything is read, and before the
-/// run ends.
+/// run ends. Before each line that is taken the clock is asked, also while nothing comes: what it says is done, and nobody is told.
 ///
 /// `InputFault` where a read failed or the input took more than 2^40 reads, `NoMemory` where memory ran out: then what was
 /// answered before is written, and no report. `OutputFault` where a write failed: then a front of the answers is written, with
@@ -41,6 +44,7 @@ pub fn serve_all<
     S,
     C: Reporter<S>,
     X: Fn(&mut C, &mut S, Flush) -> Result<Reply, AllocError>,
+    P: Ticker,
 >(
     alloc: Global,
     reader: &mut R,
@@ -48,14 +52,17 @@ pub fn serve_all<
     end: &mut S,
     service: C,
     flush: &X,
+    ticker: &mut P,
 ) -> Result<(), Ending>
     requires may_flush { X.IsAlwaysCallable flush.now }
     requires flushes { FlushesSo C.manner C.holds C.leaves C.settings_of C.failures C.never_fails (X.post flush.now) }
+    requires unsaid { IfSome (P.said ticker.old) (λ said. said ≡ []) }
     requires nothing { C.holds service C.manner.nothing }
     // What is written is, line for line, what the service may answer to the lines read.
     ensures written { HasWritten C.manner (C.settings_of service) record {
       input = R.remaining reader.old;
       rest = R.remaining reader.new;
+      ticks = P.said ticker.new;
       before = C.failures end.old;
       after = C.failures end.new;
       old = W.contents writer.old;
@@ -64,7 +71,7 @@ pub fn serve_all<
     ensures end { GoesOn C.never_fails C.failures end.old end.new }
 {
     let mut service = service;
-    let ended = serve_lines(alloc, reader, writer, end, &mut service, flush);
+    let ended = serve_lines(alloc, reader, writer, end, &mut service, flush, ticker);
     // All is written by now: giving back what is in memory may take a while.
     service.put_away();
     ended
@@ -93,10 +100,10 @@ pub fn serve_channel<
     requires flushes { FlushesSo C.manner C.holds C.leaves C.settings_of C.failures C.never_fails (X.post flush.now) }
     requires nothing { C.holds service.old C.manner.nothing }
     ensures output { OnOk result (IfSome (R.remaining reader.old) (λ input.
-        AnswersLines C.manner (C.settings_of service.old) (C.holds service.new) input (C.failures end.old) (C.failures end.new)
+        AnswersLines C.manner (C.settings_of service.old) (Some []) (C.holds service.new) input (C.failures end.old) (C.failures end.new)
         (W.contents writer.old) (W.contents writer.new))) }
     ensures broken { OnErr result (IfSome (R.remaining reader.old) (λ input.
-        BreaksOff C.manner (C.settings_of service.old) (IsLeft C.holds C.leaves service.new) input
+        BreaksOff C.manner (C.settings_of service.old) (Some []) (IsLeft C.holds C.leaves service.new) input
         (C.failures end.old) (C.failures end.new)
         (AppendsFront (W.contents writer.old) (W.contents writer.new)))) }
     ensures end { GoesOn C.never_fails C.failures end.old end.new }
@@ -132,14 +139,14 @@ fn answer_channel<
     requires nothing { C.holds service.old C.manner.nothing }
     requires none { replies.old.items ≡ [] }
     ensures output { OnOk result (IfSome (R.remaining reader.old) (λ input.
-        AnswersLines C.manner (C.settings_of service.old) (C.holds service.new) input (C.failures end.old) (C.failures end.new)
+        AnswersLines C.manner (C.settings_of service.old) (Some []) (C.holds service.new) input (C.failures end.old) (C.failures end.new)
         (W.contents writer.old) (with_replies (W.contents writer.new) replies.new.items))) }
     ensures broken { (e : Ending) → IsErrOf result e → e ≢ Ending.OutputFault → IfSome (R.remaining reader.old) (λ input.
-        BreaksOff C.manner (C.settings_of service.old) (IsLeft C.holds C.leaves service.new) input
+        BreaksOff C.manner (C.settings_of service.old) (Some []) (IsLeft C.holds C.leaves service.new) input
         (C.failures end.old) (C.failures end.new)
         (Appends (W.contents writer.old) (with_replies (W.contents writer.new) replies.new.items))) }
     ensures cut { IsErrOf result Ending.OutputFault → IfSome (R.remaining reader.old) (λ input.
-        BreaksOff C.manner (C.settings_of service.old) (IsLeft C.holds C.leaves service.new) input
+        BreaksOff C.manner (C.settings_of service.old) (Some []) (IsLeft C.holds C.leaves service.new) input
         (C.failures end.old) (C.failures end.new)
         (AppendsFront (W.contents writer.old) (W.contents writer.new))) }
     ensures grown { Grows (W.contents writer.old) (W.contents writer.new) }
@@ -147,8 +154,17 @@ fn answer_channel<
     ensures ending { IfErr result (λ e. IsTrue (is_of_run e)) }
 {
     let mut lines = Lines::new(alloc)?;
+    let mut no_clock = NoTicker;
     answer_lines(
-        alloc, reader, writer, end, &mut lines, service, flush, replies,
+        alloc,
+        reader,
+        writer,
+        end,
+        &mut lines,
+        service,
+        flush,
+        &mut no_clock,
+        replies,
     )
 }
 
@@ -159,6 +175,7 @@ fn serve_lines<
     S,
     C: Reporter<S>,
     X: Fn(&mut C, &mut S, Flush) -> Result<Reply, AllocError>,
+    P: Ticker,
 >(
     alloc: Global,
     reader: &mut R,
@@ -166,29 +183,40 @@ fn serve_lines<
     end: &mut S,
     service: &mut C,
     flush: &X,
+    ticker: &mut P,
 ) -> Result<(), Ending>
     requires may_flush { X.IsAlwaysCallable flush.now }
     requires flushes { FlushesSo C.manner C.holds C.leaves C.settings_of C.failures C.never_fails (X.post flush.now) }
+    requires unsaid { IfSome (P.said ticker.old) (λ said. said ≡ []) }
     requires nothing { C.holds service.old C.manner.nothing }
     ensures output { OnOk result (IfSome (R.remaining reader.old) (λ input.
-        AnswersAll C.manner (C.settings_of service.old) input (C.failures end.old) (C.failures end.new)
+        AnswersAll C.manner (C.settings_of service.old) (P.said ticker.new) input (C.failures end.old) (C.failures end.new)
         (W.contents writer.old) (W.contents writer.new))) }
     ensures input_fault { IsErrOf result Ending.InputFault → IfSome (R.remaining reader.old) (λ input.
-        AnswersWhatWasRead C.manner (C.settings_of service.old) input (R.remaining reader.new)
+        AnswersWhatWasRead C.manner (C.settings_of service.old) (P.said ticker.new) input (R.remaining reader.new)
         (C.failures end.old) (C.failures end.new)
         (W.contents writer.old) (W.contents writer.new)) }
     ensures no_memory { IsErrOf result Ending.NoMemory → IfSome (R.remaining reader.old) (λ input.
-        AnswersFirstLines C.manner (C.settings_of service.old) input (C.failures end.old) (C.failures end.new)
+        AnswersFirstLines C.manner (C.settings_of service.old) (P.said ticker.new) input (C.failures end.old) (C.failures end.new)
         (W.contents writer.old) (W.contents writer.new)) }
     ensures output_fault { IsErrOf result Ending.OutputFault →
         IfSome (R.remaining reader.old) (λ input.
-        AnswersFront C.manner (C.settings_of service.old) input (C.failures end.old) (C.failures end.new)
+        AnswersFront C.manner (C.settings_of service.old) (P.said ticker.new) input (C.failures end.old) (C.failures end.new)
         (W.contents writer.old) (W.contents writer.new)) }
     ensures end { GoesOn C.never_fails C.failures end.old end.new }
     ensures ending { IfErr result (λ e. IsTrue (is_of_run e)) }
 {
     let mut replies = Vec::new(alloc);
-    let ended = answer_all(alloc, reader, writer, end, service, flush, &mut replies);
+    let ended = answer_all(
+        alloc,
+        reader,
+        writer,
+        end,
+        service,
+        flush,
+        ticker,
+        &mut replies,
+    );
     if is_output_fault(&ended) {
         return Err(Ending::OutputFault);
     }
@@ -211,6 +239,7 @@ fn answer_all<
     S,
     C: Reporter<S>,
     X: Fn(&mut C, &mut S, Flush) -> Result<Reply, AllocError>,
+    P: Ticker,
 >(
     alloc: Global,
     reader: &mut R,
@@ -218,25 +247,27 @@ fn answer_all<
     end: &mut S,
     service: &mut C,
     flush: &X,
+    ticker: &mut P,
     replies: &mut Vec<u8>,
 ) -> Result<(), Ending>
     requires may_flush { X.IsAlwaysCallable flush.now }
     requires flushes { FlushesSo C.manner C.holds C.leaves C.settings_of C.failures C.never_fails (X.post flush.now) }
+    requires unsaid { IfSome (P.said ticker.old) (λ said. said ≡ []) }
     requires nothing { C.holds service.old C.manner.nothing }
     requires none { replies.old.items ≡ [] }
     ensures output { OnOk result (IfSome (R.remaining reader.old) (λ input.
-        AnswersAll C.manner (C.settings_of service.old) input (C.failures end.old) (C.failures end.new)
+        AnswersAll C.manner (C.settings_of service.old) (P.said ticker.new) input (C.failures end.old) (C.failures end.new)
         (W.contents writer.old) (with_replies (W.contents writer.new) replies.new.items))) }
     ensures input_fault { IsErrOf result Ending.InputFault → IfSome (R.remaining reader.old) (λ input.
-        AnswersWhatWasRead C.manner (C.settings_of service.old) input (R.remaining reader.new)
+        AnswersWhatWasRead C.manner (C.settings_of service.old) (P.said ticker.new) input (R.remaining reader.new)
         (C.failures end.old) (C.failures end.new)
         (W.contents writer.old) (with_replies (W.contents writer.new) replies.new.items)) }
     ensures no_memory { IsErrOf result Ending.NoMemory → IfSome (R.remaining reader.old) (λ input.
-        AnswersFirstLines C.manner (C.settings_of service.old) input (C.failures end.old) (C.failures end.new)
+        AnswersFirstLines C.manner (C.settings_of service.old) (P.said ticker.new) input (C.failures end.old) (C.failures end.new)
         (W.contents writer.old) (with_replies (W.contents writer.new) replies.new.items)) }
     ensures output_fault { IsErrOf result Ending.OutputFault →
         IfSome (R.remaining reader.old) (λ input.
-        AnswersFront C.manner (C.settings_of service.old) input (C.failures end.old) (C.failures end.new)
+        AnswersFront C.manner (C.settings_of service.old) (P.said ticker.new) input (C.failures end.old) (C.failures end.new)
         (W.contents writer.old) (W.contents writer.new)) }
     ensures grown { Grows (W.contents writer.old) (W.contents writer.new) }
     ensures end { GoesOn C.never_fails C.failures end.old end.new }
@@ -244,7 +275,7 @@ fn answer_all<
 {
     let mut lines = Lines::new(alloc)?;
     answer_lines(
-        alloc, reader, writer, end, &mut lines, service, flush, replies,
+        alloc, reader, writer, end, &mut lines, service, flush, ticker, replies,
     )?;
     report(alloc, service, replies)
 }
@@ -272,6 +303,7 @@ fn answer_lines<
     S,
     C: Service<S>,
     X: Fn(&mut C, &mut S, Flush) -> Result<Reply, AllocError>,
+    P: Ticker,
 >(
     alloc: Global,
     reader: &mut R,
@@ -280,54 +312,55 @@ fn answer_lines<
     lines: &mut Lines,
     service: &mut C,
     flush: &X,
+    ticker: &mut P,
     replies: &mut Vec<u8>,
 ) -> Result<(), Ending>
     requires may_flush { X.IsAlwaysCallable flush.now }
     requires flushes { FlushesSo C.manner C.holds C.leaves C.settings_of C.failures C.never_fails (X.post flush.now) }
     // From whatever lines are answered so far.
     ensures output { OnOk result ((settings : StoreSettings) (input : List ℕ) →
-        ServesKnown C.manner settings (C.settings_of service.old) (C.holds service.old) input
+        ServesKnown C.manner settings (P.said ticker.old) (C.settings_of service.old) (C.holds service.old) input
         (C.failures end.old) (C.failures end.old) (W.contents writer.old)
         (with_replies (W.contents writer.old) replies.old.items) (is_ended lines.old)
         (left lines.old (R.remaining reader.old)) →
-        AnswersLines C.manner settings (C.holds service.new) input (C.failures end.old) (C.failures end.new)
+        AnswersLines C.manner settings (P.said ticker.new) (C.holds service.new) input (C.failures end.old) (C.failures end.new)
         (W.contents writer.old) (with_replies (W.contents writer.new) replies.new.items)) }
     ensures input_fault { IsErrOf result Ending.InputFault → (settings : StoreSettings) (input : List ℕ) →
-        ServesKnown C.manner settings (C.settings_of service.old) (C.holds service.old) input
+        ServesKnown C.manner settings (P.said ticker.old) (C.settings_of service.old) (C.holds service.old) input
         (C.failures end.old) (C.failures end.old) (W.contents writer.old)
         (with_replies (W.contents writer.old) replies.old.items) (is_ended lines.old)
         (left lines.old (R.remaining reader.old)) →
-        AnswersWhatWasRead C.manner settings input (R.remaining reader.new)
+        AnswersWhatWasRead C.manner settings (P.said ticker.new) input (R.remaining reader.new)
         (C.failures end.old) (C.failures end.new)
         (W.contents writer.old) (with_replies (W.contents writer.new) replies.new.items) }
     ensures no_memory { IsErrOf result Ending.NoMemory → (settings : StoreSettings) (input : List ℕ) →
-        ServesKnown C.manner settings (C.settings_of service.old) (C.holds service.old) input
+        ServesKnown C.manner settings (P.said ticker.old) (C.settings_of service.old) (C.holds service.old) input
         (C.failures end.old) (C.failures end.old) (W.contents writer.old)
         (with_replies (W.contents writer.old) replies.old.items) (is_ended lines.old)
         (left lines.old (R.remaining reader.old)) →
-        AnswersFirstLines C.manner settings input (C.failures end.old) (C.failures end.new)
+        AnswersFirstLines C.manner settings (P.said ticker.new) input (C.failures end.old) (C.failures end.new)
         (W.contents writer.old) (with_replies (W.contents writer.new) replies.new.items) }
     ensures output_fault { IsErrOf result Ending.OutputFault → (settings : StoreSettings) (input : List ℕ) →
-        ServesKnown C.manner settings (C.settings_of service.old) (C.holds service.old) input
+        ServesKnown C.manner settings (P.said ticker.old) (C.settings_of service.old) (C.holds service.old) input
         (C.failures end.old) (C.failures end.old) (W.contents writer.old)
         (with_replies (W.contents writer.old) replies.old.items) (is_ended lines.old)
         (left lines.old (R.remaining reader.old)) →
-        AnswersFront C.manner settings input (C.failures end.old) (C.failures end.new)
+        AnswersFront C.manner settings (P.said ticker.new) input (C.failures end.old) (C.failures end.new)
         (W.contents writer.old) (W.contents writer.new) }
     ensures broken { (e : Ending) → IsErrOf result e → e ≢ Ending.OutputFault →
         (settings : StoreSettings) (input : List ℕ) →
-        ServesKnown C.manner settings (C.settings_of service.old) (C.holds service.old) input
+        ServesKnown C.manner settings (P.said ticker.old) (C.settings_of service.old) (C.holds service.old) input
         (C.failures end.old) (C.failures end.old) (W.contents writer.old)
         (with_replies (W.contents writer.old) replies.old.items) (is_ended lines.old)
         (left lines.old (R.remaining reader.old)) →
-        BreaksOff C.manner settings (IsLeft C.holds C.leaves service.new) input (C.failures end.old) (C.failures end.new)
+        BreaksOff C.manner settings (P.said ticker.new) (IsLeft C.holds C.leaves service.new) input (C.failures end.old) (C.failures end.new)
         (Appends (W.contents writer.old) (with_replies (W.contents writer.new) replies.new.items)) }
     ensures cut { IsErrOf result Ending.OutputFault → (settings : StoreSettings) (input : List ℕ) →
-        ServesKnown C.manner settings (C.settings_of service.old) (C.holds service.old) input
+        ServesKnown C.manner settings (P.said ticker.old) (C.settings_of service.old) (C.holds service.old) input
         (C.failures end.old) (C.failures end.old) (W.contents writer.old)
         (with_replies (W.contents writer.old) replies.old.items) (is_ended lines.old)
         (left lines.old (R.remaining reader.old)) →
-        BreaksOff C.manner settings (IsLeft C.holds C.leaves service.new) input (C.failures end.old) (C.failures end.new)
+        BreaksOff C.manner settings (P.said ticker.new) (IsLeft C.holds C.leaves service.new) input (C.failures end.old) (C.failures end.new)
         (AppendsFront (W.contents writer.old) (W.contents writer.new)) }
     ensures grown { Grows (W.contents writer.old) (W.contents writer.new) }
     ensures end { GoesOn C.never_fails C.failures end.old end.new }
@@ -349,6 +382,7 @@ fn answer_lines<
             &mut scratches,
             service,
             flush,
+            ticker,
             replies,
         )? {
             return Ok(());
@@ -356,8 +390,91 @@ fn answer_lines<
     }
 }
 
-/// Answers the next line, and with it those at hand that may share a sync with it. Gives whether there was one.
+/// Does what the clock says before the next line, and answers that line, and with it those at hand that may share a sync with it. Gives
+/// whether there was one.
 fn serve<
+    R: Read,
+    W: Write,
+    S,
+    C: Service<S>,
+    X: Fn(&mut C, &mut S, Flush) -> Result<Reply, AllocError>,
+    P: Ticker,
+>(
+    alloc: Global,
+    reader: &mut R,
+    writer: &mut W,
+    end: &mut S,
+    lines: &mut Lines,
+    line: &mut Vec<u8>,
+    scratches: &mut Scratches,
+    service: &mut C,
+    flush: &X,
+    ticker: &mut P,
+    replies: &mut Vec<u8>,
+) -> Result<bool, Ending>
+    requires may_flush { X.IsAlwaysCallable flush.now }
+    requires flushes { FlushesSo C.manner C.holds C.leaves C.settings_of C.failures C.never_fails (X.post flush.now) }
+    ensures served { IfOk result (λ more.
+        (first : Option (List ℕ)) (before : ℕ) (settings : StoreSettings) (input : List ℕ) →
+        ServesKnown C.manner settings (P.said ticker.old) (C.settings_of service.old) (C.holds service.old) input before (C.failures end.old) first
+        (with_replies (W.contents writer.old) replies.old.items) (is_ended lines.old)
+        (left lines.old (R.remaining reader.old)) →
+        MatchBool more
+        (ServesKnown C.manner settings (P.said ticker.new) (C.settings_of service.new) (C.holds service.new) input before (C.failures end.new) first
+        (with_replies (W.contents writer.new) replies.new.items) (is_ended lines.new)
+        (left lines.new (R.remaining reader.new)))
+        (AnswersLines C.manner settings (P.said ticker.new) (C.holds service.new) input before (C.failures end.new) first
+        (with_replies (W.contents writer.new) replies.new.items))) }
+    ensures input_fault { IsErrOf result Ending.InputFault →
+        (first : Option (List ℕ)) (before : ℕ) (settings : StoreSettings) (input : List ℕ) →
+        ServesKnown C.manner settings (P.said ticker.old) (C.settings_of service.old) (C.holds service.old) input before (C.failures end.old) first
+        (with_replies (W.contents writer.old) replies.old.items) (is_ended lines.old)
+        (left lines.old (R.remaining reader.old)) →
+        AnswersWhatWasRead C.manner settings (P.said ticker.new) input (R.remaining reader.new) before (C.failures end.new)
+        first (with_replies (W.contents writer.new) replies.new.items) }
+    ensures no_memory { IsErrOf result Ending.NoMemory →
+        (first : Option (List ℕ)) (before : ℕ) (settings : StoreSettings) (input : List ℕ) →
+        ServesKnown C.manner settings (P.said ticker.old) (C.settings_of service.old) (C.holds service.old) input before (C.failures end.old) first
+        (with_replies (W.contents writer.old) replies.old.items) (is_ended lines.old)
+        (left lines.old (R.remaining reader.old)) →
+        AnswersFirstLines C.manner settings (P.said ticker.new) input before (C.failures end.new) first
+        (with_replies (W.contents writer.new) replies.new.items) }
+    ensures output_fault { IsErrOf result Ending.OutputFault →
+        (first : Option (List ℕ)) (before : ℕ) (settings : StoreSettings) (input : List ℕ) →
+        Grows first (W.contents writer.old) →
+        ServesKnown C.manner settings (P.said ticker.old) (C.settings_of service.old) (C.holds service.old) input before (C.failures end.old) first
+        (with_replies (W.contents writer.old) replies.old.items) (is_ended lines.old)
+        (left lines.old (R.remaining reader.old)) →
+        AnswersFront C.manner settings (P.said ticker.new) input before (C.failures end.new)
+        first (W.contents writer.new) }
+    ensures broken { (e : Ending) → IsErrOf result e → e ≢ Ending.OutputFault →
+        (first : Option (List ℕ)) (before : ℕ) (settings : StoreSettings) (input : List ℕ) →
+        ServesKnown C.manner settings (P.said ticker.old) (C.settings_of service.old) (C.holds service.old) input before (C.failures end.old) first
+        (with_replies (W.contents writer.old) replies.old.items) (is_ended lines.old)
+        (left lines.old (R.remaining reader.old)) →
+        BreaksOff C.manner settings (P.said ticker.new) (IsLeft C.holds C.leaves service.new) input before (C.failures end.new)
+        (Appends first (with_replies (W.contents writer.new) replies.new.items)) }
+    ensures cut { IsErrOf result Ending.OutputFault →
+        (first : Option (List ℕ)) (before : ℕ) (settings : StoreSettings) (input : List ℕ) →
+        Grows first (W.contents writer.old) →
+        ServesKnown C.manner settings (P.said ticker.old) (C.settings_of service.old) (C.holds service.old) input before (C.failures end.old) first
+        (with_replies (W.contents writer.old) replies.old.items) (is_ended lines.old)
+        (left lines.old (R.remaining reader.old)) →
+        BreaksOff C.manner settings (P.said ticker.new) (IsLeft C.holds C.leaves service.new) input before (C.failures end.new)
+        (AppendsFront first (W.contents writer.new)) }
+    ensures grown { Grows (W.contents writer.old) (W.contents writer.new) }
+    ensures progress { IfOk result (λ more. more ≡ true → progress lines.old < progress lines.new) }
+    ensures end { GoesOn C.never_fails C.failures end.old end.new }
+    ensures ending { IfErr result (λ e. IsTrue (is_of_run e)) }
+{
+    heed_all(writer, end, lines, service, flush, ticker, replies)?;
+    serve_line(
+        alloc, reader, writer, end, lines, line, scratches, service, flush, replies,
+    )
+}
+
+/// Answers the next line, and with it those at hand that may share a sync with it. Gives whether there was one.
+fn serve_line<
     R: Read,
     W: Write,
     S,
@@ -378,52 +495,52 @@ fn serve<
     requires may_flush { X.IsAlwaysCallable flush.now }
     requires flushes { FlushesSo C.manner C.holds C.leaves C.settings_of C.failures C.never_fails (X.post flush.now) }
     ensures served { IfOk result (λ more.
-        (first : Option (List ℕ)) (before : ℕ) (settings : StoreSettings) (input : List ℕ) →
-        ServesKnown C.manner settings (C.settings_of service.old) (C.holds service.old) input before (C.failures end.old) first
+        (first : Option (List ℕ)) (before : ℕ) (settings : StoreSettings) (ticks : Option (List Tick)) (input : List ℕ) →
+        ServesKnown C.manner settings ticks (C.settings_of service.old) (C.holds service.old) input before (C.failures end.old) first
         (with_replies (W.contents writer.old) replies.old.items) (is_ended lines.old)
         (left lines.old (R.remaining reader.old)) →
         MatchBool more
-        (ServesKnown C.manner settings (C.settings_of service.new) (C.holds service.new) input before (C.failures end.new) first
+        (ServesKnown C.manner settings ticks (C.settings_of service.new) (C.holds service.new) input before (C.failures end.new) first
         (with_replies (W.contents writer.new) replies.new.items) (is_ended lines.new)
         (left lines.new (R.remaining reader.new)))
-        (AnswersLines C.manner settings (C.holds service.new) input before (C.failures end.new) first
+        (AnswersLines C.manner settings ticks (C.holds service.new) input before (C.failures end.new) first
         (with_replies (W.contents writer.new) replies.new.items))) }
     ensures input_fault { IsErrOf result Ending.InputFault →
-        (first : Option (List ℕ)) (before : ℕ) (settings : StoreSettings) (input : List ℕ) →
-        ServesKnown C.manner settings (C.settings_of service.old) (C.holds service.old) input before (C.failures end.old) first
+        (first : Option (List ℕ)) (before : ℕ) (settings : StoreSettings) (ticks : Option (List Tick)) (input : List ℕ) →
+        ServesKnown C.manner settings ticks (C.settings_of service.old) (C.holds service.old) input before (C.failures end.old) first
         (with_replies (W.contents writer.old) replies.old.items) (is_ended lines.old)
         (left lines.old (R.remaining reader.old)) →
-        AnswersWhatWasRead C.manner settings input (R.remaining reader.new) before (C.failures end.new)
+        AnswersWhatWasRead C.manner settings ticks input (R.remaining reader.new) before (C.failures end.new)
         first (with_replies (W.contents writer.new) replies.new.items) }
     ensures no_memory { IsErrOf result Ending.NoMemory →
-        (first : Option (List ℕ)) (before : ℕ) (settings : StoreSettings) (input : List ℕ) →
-        ServesKnown C.manner settings (C.settings_of service.old) (C.holds service.old) input before (C.failures end.old) first
+        (first : Option (List ℕ)) (before : ℕ) (settings : StoreSettings) (ticks : Option (List Tick)) (input : List ℕ) →
+        ServesKnown C.manner settings ticks (C.settings_of service.old) (C.holds service.old) input before (C.failures end.old) first
         (with_replies (W.contents writer.old) replies.old.items) (is_ended lines.old)
         (left lines.old (R.remaining reader.old)) →
-        AnswersFirstLines C.manner settings input before (C.failures end.new) first
+        AnswersFirstLines C.manner settings ticks input before (C.failures end.new) first
         (with_replies (W.contents writer.new) replies.new.items) }
     ensures output_fault { IsErrOf result Ending.OutputFault →
-        (first : Option (List ℕ)) (before : ℕ) (settings : StoreSettings) (input : List ℕ) →
+        (first : Option (List ℕ)) (before : ℕ) (settings : StoreSettings) (ticks : Option (List Tick)) (input : List ℕ) →
         Grows first (W.contents writer.old) →
-        ServesKnown C.manner settings (C.settings_of service.old) (C.holds service.old) input before (C.failures end.old) first
+        ServesKnown C.manner settings ticks (C.settings_of service.old) (C.holds service.old) input before (C.failures end.old) first
         (with_replies (W.contents writer.old) replies.old.items) (is_ended lines.old)
         (left lines.old (R.remaining reader.old)) →
-        AnswersFront C.manner settings input before (C.failures end.new)
+        AnswersFront C.manner settings ticks input before (C.failures end.new)
         first (W.contents writer.new) }
     ensures broken { (e : Ending) → IsErrOf result e → e ≢ Ending.OutputFault →
-        (first : Option (List ℕ)) (before : ℕ) (settings : StoreSettings) (input : List ℕ) →
-        ServesKnown C.manner settings (C.settings_of service.old) (C.holds service.old) input before (C.failures end.old) first
+        (first : Option (List ℕ)) (before : ℕ) (settings : StoreSettings) (ticks : Option (List Tick)) (input : List ℕ) →
+        ServesKnown C.manner settings ticks (C.settings_of service.old) (C.holds service.old) input before (C.failures end.old) first
         (with_replies (W.contents writer.old) replies.old.items) (is_ended lines.old)
         (left lines.old (R.remaining reader.old)) →
-        BreaksOff C.manner settings (IsLeft C.holds C.leaves service.new) input before (C.failures end.new)
+        BreaksOff C.manner settings ticks (IsLeft C.holds C.leaves service.new) input before (C.failures end.new)
         (Appends first (with_replies (W.contents writer.new) replies.new.items)) }
     ensures cut { IsErrOf result Ending.OutputFault →
-        (first : Option (List ℕ)) (before : ℕ) (settings : StoreSettings) (input : List ℕ) →
+        (first : Option (List ℕ)) (before : ℕ) (settings : StoreSettings) (ticks : Option (List Tick)) (input : List ℕ) →
         Grows first (W.contents writer.old) →
-        ServesKnown C.manner settings (C.settings_of service.old) (C.holds service.old) input before (C.failures end.old) first
+        ServesKnown C.manner settings ticks (C.settings_of service.old) (C.holds service.old) input before (C.failures end.old) first
         (with_replies (W.contents writer.old) replies.old.items) (is_ended lines.old)
         (left lines.old (R.remaining reader.old)) →
-        BreaksOff C.manner settings (IsLeft C.holds C.leaves service.new) input before (C.failures end.new)
+        BreaksOff C.manner settings ticks (IsLeft C.holds C.leaves service.new) input before (C.failures end.new)
         (AppendsFront first (W.contents writer.new)) }
     ensures grown { Grows (W.contents writer.old) (W.contents writer.new) }
     ensures progress { IfOk result (λ more. more ≡ true → progress lines.old < progress lines.new) }
@@ -526,7 +643,7 @@ fn write_enough<W: Write>(writer: &mut W, replies: &mut Vec<u8>) -> Result<(), E
 }
 
 /// Writes the replies that are held back, and flushes them. After an error a front of them is written, and nothing else.
-fn write_out<W: Write>(writer: &mut W, replies: &mut Vec<u8>) -> Result<(), Ending>
+pub(crate) fn write_out<W: Write>(writer: &mut W, replies: &mut Vec<u8>) -> Result<(), Ending>
     ensures written { OnOk result
         (Appends (W.contents writer.old) (W.contents writer.new) replies.old.items) }
     ensures none { OnOk result (replies.new.items ≡ []) }

@@ -3,15 +3,16 @@
 #![tactic(auto)]
 
 use ing_program::{
-    DigestReceipt, Disk, Ending, FolderLog, FolderStore, Paths, Ticks, asks_channels, conclude,
-    hold_streams, start, start_channels,
+    DigestReceipt, Disk, Ending, Feed, FeedReader, FolderLog, FolderStore, InputClock, Paths,
+    Ticks, asks_channels, conclude, hold_streams, start, start_channels,
 };
 use ing_version::{asks_version, write_version};
 use std::fs::File;
 use std::io::ErrorKind;
 use std::process::ExitCode;
+use std::sync::Arc;
 use std::sync::atomic::AtomicU64;
-use std::{env, io};
+use std::{env, io, thread};
 
 type Log<'a> = FolderLog<'a, HostRuntime>;
 
@@ -20,7 +21,7 @@ type End<'a> = FolderStore<'a, HostRuntime>;
 fn main(rt: HostRuntime) -> ExitCode {
     let ended = match prepared(&rt) {
         Ok((words, _held)) => {
-            let (mut reader, mut writer) = (rt.reader(), io::writer(&rt));
+            let mut writer = io::writer(&rt);
             if asks_version(&words) {
                 write_version(&mut writer, "ingestd").map_err(|_| Ending::OutputFault)
             } else if asks_channels(&words) {
@@ -44,14 +45,29 @@ fn main(rt: HostRuntime) -> ExitCode {
                     &words,
                     &mut writer,
                 )
-            } else {
-                start::<_, Log<'_>, DigestReceipt, End<'_>, Disk<'_, HostRuntime>, _, _>(
+            } else if let Ok(feed) = Arc::new(rt.alloc(), Feed::new(rt.alloc()))
+                && let Ok(theirs) = Arc::try_clone(&feed)
+            {
+                // A settings file may ask for a clock, which waits for what is read by another thread. That is not joined: it may be
+                // reading when the run ends.
+                let is_read_ahead = !words.is_empty()
+                    && thread::spawn(&rt, move || theirs.read_ahead(&rt, &mut rt.reader())).is_ok();
+                let ahead = if is_read_ahead { Some(&*feed) } else { None };
+                let folder = if words.len() > 1 {
+                    words[1].as_str()
+                } else {
+                    ""
+                };
+                start::<_, Log<'_>, DigestReceipt, End<'_>, Disk<'_, HostRuntime>, _, _, _>(
                     &rt,
                     &Disk::new(&rt),
                     &words,
-                    &mut reader,
+                    &mut FeedReader::new(&rt, &feed, rt.reader()),
                     &mut writer,
+                    &mut InputClock::new(rt.alloc(), &rt, ahead, &rt, folder),
                 )
+            } else {
+                Err(Ending::NoMemory)
             }
         }
         Err(ending) => Err(ending),

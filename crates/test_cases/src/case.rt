@@ -2,7 +2,7 @@
 use crate::summed::are_summed;
 use anyhow::{Context, Result};
 use ing_limits::Settings;
-use ing_program::{Ends, conclude, run_over, start_on};
+use ing_program::{Ends, NoTicker, conclude, run_over, start_on};
 use ing_store::{Fuse, MemoryStore};
 use ing_wal::MemoryLog;
 use std::alloc::Global;
@@ -77,7 +77,7 @@ impl Case {
         let settings = self.settings_with(rt.alloc(), b"shards = 4\n")?;
         let mut reader = self.input.as_slice();
         let mut output = Vec::new(rt.alloc());
-        if start_on(rt, &settings, &mut reader, &mut output).is_err() {
+        if start_on(rt, &settings, &mut reader, &mut output, &mut NoTicker).is_err() {
             return Ok(Some("ending over four shards"));
         }
         if !are_summed(rt.alloc(), &self.output, &output)? {
@@ -93,7 +93,7 @@ impl Case {
     ) -> Result<Option<&'static str>> {
         let mut reader = self.input.as_slice();
         let mut output = Vec::new(rt.alloc());
-        let ended = start_on(rt, &self.settings, &mut reader, &mut output);
+        let ended = start_on(rt, &self.settings, &mut reader, &mut output, &mut NoTicker);
         let mut errors = Vec::new(rt.alloc());
         let status = conclude(ended, &mut errors);
         let mut ending = format!(in rt.alloc(); "{status}\n")?.into_bytes();
@@ -159,6 +159,7 @@ fn difference_over_logs<F: AllocGlobal + Threads + Wait + Sync>(
         &mut reader,
         &mut output,
         &mut ends,
+        &mut NoTicker,
         settings,
         logs,
         finders,

@@ -2,13 +2,14 @@
 //! lines of 16 MiB, and a refused allocation.
 mod aside;
 mod channels;
+mod clock;
 mod faults;
 mod flushes;
 mod folders;
 mod watched;
 
 use ing_limits::Settings;
-use ing_program::{Disk, Ending, Ends, Folders, conclude, run, start};
+use ing_program::{Disk, Ending, Ends, Folders, NoTicker, conclude, run, start};
 use ing_store::{Fuse, MemoryStore, Receipt, StoreEnd};
 use ing_wal::LogDisk;
 use std::cell::Cell;
@@ -58,7 +59,15 @@ fn run_over<H: AllocGlobal + Threads + Wait + Sync, R: Read, W: Write>(
     let settings = Settings::from_toml(rt.alloc(), "")?;
     let store = MemoryStore::new(rt.alloc())?;
     let mut ends = Ends::of(store.end(rt, fuse), Vec::new(rt.alloc()));
-    Ok(run(rt, rt.alloc(), reader, writer, &mut ends, settings))
+    Ok(run(
+        rt,
+        rt.alloc(),
+        reader,
+        writer,
+        &mut ends,
+        &mut NoTicker,
+        settings,
+    ))
 }
 
 /// The same where more than one chunk is uploaded by a worker: by its end, of which these calls fail, while a query reads by another.
@@ -73,7 +82,15 @@ fn run_aside_over<H: AllocGlobal + Threads + Wait + Sync, R: Read, W: Write>(
     let store = MemoryStore::new(alloc)?;
     let others = vec![in alloc; store.end(rt, fuse)]?;
     let mut ends = Ends::of(store.end(rt, Fuse::None), others);
-    Ok(run(rt, alloc, reader, writer, &mut ends, settings))
+    Ok(run(
+        rt,
+        alloc,
+        reader,
+        writer,
+        &mut ends,
+        &mut NoTicker,
+        settings,
+    ))
 }
 
 /// How the program ends with these words on an input, and what it has written by then.
@@ -90,7 +107,7 @@ fn started<
     }
     let mut reader = input.as_bytes();
     let mut writer = Vec::new(rt.alloc());
-    let ended = start(rt, folders, &owned, &mut reader, &mut writer);
+    let ended = start(rt, folders, &owned, &mut reader, &mut writer, &mut NoTicker);
     let written = String::from_utf8(writer).ok().ok_or("the output is text")?;
     Ok((ended, written))
 }
@@ -417,6 +434,7 @@ fn a_refused_allocation_ends_the_run_and_the_next_is_whole(rt: HostRuntime) -> R
             &mut reader,
             &mut writer,
             &mut ends,
+            &mut NoTicker,
             settings,
         ) {
             Ok(()) => break,

@@ -1,7 +1,7 @@
 //! Uploads of one flush go side by side: each waits for the other.
 use super::{FLUSH, PUSHES};
 use ing_limits::Settings;
-use ing_program::{Ends, run};
+use ing_program::{Ends, NoTicker, run};
 use ing_store::{Receipt, StoreEnd, StoreFault};
 use std::alloc::Global;
 use std::borrow::CowSlice;
@@ -130,7 +130,16 @@ fn met<H: AllocGlobal + Clock + Threads + Sync>(rt: &H) -> Result<u64, Fail> {
     let mut ends = Ends::of(MeetingEnd::of(rt, &meeting), others);
     let mut reader = PUSHES.as_bytes().chain(FLUSH.as_bytes());
     let mut writer = Vec::new(alloc);
-    if run(rt, alloc, &mut reader, &mut writer, &mut ends, settings).is_err() {
+    let ended = run(
+        rt,
+        alloc,
+        &mut reader,
+        &mut writer,
+        &mut ends,
+        &mut NoTicker,
+        settings,
+    );
+    if ended.is_err() {
         return Err("a run to its end".into());
     }
     Ok(meeting.met.load(Ordering::SeqCst))

@@ -1,7 +1,7 @@
 //! Runs over a log and a store of which each call fails in turn: each time the report adds up.
 use super::{FLUSH, PUSHES, SWEEP};
 use ing_limits::Settings;
-use ing_program::{Ending, Ends, run_over};
+use ing_program::{Ending, Ends, NoTicker, run_over};
 use ing_store::{Fuse, MemoryStore};
 use ing_wal::MemoryLog;
 use serde_json::Value;
@@ -56,6 +56,7 @@ fn run_failing<H: AllocGlobal + Threads + Wait + Sync>(
         &mut reader,
         &mut writer,
         &mut ends,
+        &mut NoTicker,
         settings,
         logs,
         finders,

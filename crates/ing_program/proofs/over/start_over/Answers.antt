@@ -1,6 +1,7 @@
 use Rattle.std.proofs.Common.{◌≡◌, ℕ, inl, inr, refl, subst}
 use Rattle.std.proofs.lemmas.Result.{err_from_is_err_and}
 use Rattle.ing_service.specs.ByShards.{by_shards}
+use Rattle.ing_service.specs.Clocks.{heard_by}
 use Rattle.ing_service.specs.Ends.{failures_in}
 use Rattle.ing_lanes.specs.Runs.{HasWritten, Seen}
 use Rattle.ing_program.proofs.StartingLaws.{none_failed, of_file, of_folder}
@@ -17,6 +18,7 @@ returns-clause-written g c =
     let seen : ℕ → Seen = λ before. record {
       input = g.R.Read.remaining c.args.reader.now;
       rest = g.R.Read.remaining ended.reader;
+      ticks = heard_by settings (g.P.Ticker.said ended.ticker);
       before = before;
       after = last;
       old = g.W.Write.contents c.args.writer.now;
@@ -69,3 +71,8 @@ pub returns-in_err-begin-clause-written : goal.returns-in_err-begin-clause-writt
 returns-in_err-begin-clause-written g c =
     let p = err_from_is_err_and c.from_residual-in_err-begin.result c.from_residual-in_err-begin.ensures.1 in
     inl (of_folder c.args.writer.now _ p.0 _ p.1 p.2 (elim c.in_err-begin.ensures.ending [ inl memory ↦ inl memory | inr none ↦ inr (inl none) ]))
+
+pub returns-in_err-set_periods-clause-written : goal.returns-in_err-set_periods-clause-written
+returns-in_err-set_periods-clause-written g c =
+    let p = err_from_is_err_and c.from_residual-in_err-set_periods.result c.from_residual-in_err-set_periods.ensures.1 in
+    inl (of_folder c.args.writer.now _ p.0 _ p.1 p.2 (inl refl))

@@ -4,6 +4,7 @@ use Rattle.ing_lanes.specs.Kept.{DurableContents, whose}
 use Rattle.ing_lanes.specs.Ending.TheVariants.{NoMemory}
 use Rattle.ing_lanes.proofs.RunsLaws.{no_room}
 use Rattle.ing_service.specs.ByShards.{by_shards}
+use Rattle.ing_service.specs.Clocks.{heard_by}
 use Rattle.ing_service.specs.Ends.{failures_in}
 use Rattle.ing_service.specs.Held.{AreShardsOf, shard_held}
 use Rattle.ing_program.proofs.OwnLaws.{are_shards, made_alike, own_shares}
@@ -37,6 +38,7 @@ returns-in_default-clause-written g c =
     no_room {T = Unit {0}} (by_shards g.S.StoreEnd.is_honest g.N.Beginning.begun) c.args.shards.settings record {
       input = input;
       rest = input;
+      ticks = heard_by c.args.shards.settings (g.P.Ticker.said c.args.ticker.now);
       before = failed;
       after = failed;
       old = written;

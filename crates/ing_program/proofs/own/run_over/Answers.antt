@@ -8,6 +8,8 @@ use Rattle.ing_lanes.specs.Ending.TheVariants.{NotRecovered}
 use Rattle.ing_lanes.proofs.EndingsLaws.{not_of_run, not_recovered, recover_ending, recover_unbegun, same_ending}
 use Rattle.ing_lanes.proofs.RunsLaws.{ends_of_run}
 use Rattle.ing_service.specs.ByShards.{by_shards}
+use Rattle.ing_limits.specs.Settings.{StoreSettings}
+use Rattle.ing_service.specs.Clocks.{heard_by}
 use Rattle.ing_service.specs.Ends.{failures_in}
 use Rattle.ing_service.specs.Held.{BeginsOver}
 use Rattle.ing_program.proofs.OwnLaws.{begins_over, begun_with}
@@ -25,15 +27,16 @@ returns-in-Ok-clause-written g c =
     let begins = subst (λ s. BeginsOver g.D.LogDisk.is_honest s texts begun) c.in-Ok.ensures.settings
     (begins_over g.D.LogDisk.is_honest shards.settings (λ log. (g.D.LogDisk.seen log).now.bytes) c.args.logs.items shards.last_first.items
     (sym shards.last_first.ok.0 ∙ shards.all ∙ ap (λ s. s.shards) c.in-Ok.ensures.settings ∙ sym c.requires.logs ∙ c.args.logs.ok.0) shards.placed c.in-Ok.ensures.replays) in
-    let seen : Seen = record {
+    let seen : StoreSettings → Seen = λ s. record {
       input = remaining c.args.reader.now;
       rest = remaining ended.reader;
+      ticks = heard_by s (g.P.Ticker.said ended.ticker);
       before = failures c.args.ends.now;
       after = failures ended.ends;
       old = contents c.args.writer.now;
       new = contents ended.writer;
     } in
-    inr (begun, begins, subst (λ s. HasWritten (by_shards g.S.StoreEnd.is_honest begun) s seen c.run_begun.result) c.in-Ok.ensures.settings c.run_begun.ensures.written)
+    inr (begun, begins, subst (λ s. HasWritten (by_shards g.S.StoreEnd.is_honest begun) s (seen s) c.run_begun.result) c.in-Ok.ensures.settings c.run_begun.ensures.written)
 
 pub returns-in-Ok-clause-ending : goal.returns-in-Ok-clause-ending
 returns-in-Ok-clause-ending g c =

@@ -5,6 +5,8 @@ use Rattle.std.specs.String.{string_bytes}
 use Rattle.ing_lanes.proofs.KnownLaws.{if_some_then}
 use Rattle.ing_lanes.specs.Endings.{refusal_of}
 use Rattle.ing_lanes.specs.Runs.{HasWritten, Seen}
+use Rattle.ing_limits.specs.Settings.{StoreSettings}
+use Rattle.ing_service.specs.Clocks.{heard_by}
 use Rattle.ing_program.specs.Starting.{started_by}
 use Rattle.ing_program.proofs.StartingLaws.{give_memory, give_over, of_words}
 use Rattle.ing_program.proofs.program.start.Goals as goal
@@ -15,9 +17,10 @@ returns-clause-written g c =
     let ended = c.start_over.new in
     let some : 1 < length c.args.words.now = omega (arith, c.if-words-lt2.false) in
     let size : 1 < length words = omega (arith, length-map c.args.words.now string_bytes, some) in
-    let seen : ℕ → Seen = λ failed. record {
+    let seen : StoreSettings → ℕ → Seen = λ x failed. record {
       input = g.R.Read.remaining c.args.reader.now;
       rest = g.R.Read.remaining ended.reader;
+      ticks = heard_by x (g.P.Ticker.said ended.ticker);
       before = 0;
       after = failed;
       old = g.W.Write.contents c.args.writer.now;
@@ -26,7 +29,7 @@ returns-clause-written g c =
     elim c.start_over.ensures.written [
       | inl same ↦ inl same
       | inr run ↦
-          inr (give_over g.E.StoreEnd.is_honest words c.in_ok-file.file.items c.deref-2.result.now c.in_ok-file.ensures.file c.deref-2.ensures.value (λ m x failed. HasWritten m x (seen failed) c.start_over.result) size run)
+          inr (give_over g.E.StoreEnd.is_honest words c.in_ok-file.file.items c.deref-2.result.now c.in_ok-file.ensures.file c.deref-2.ensures.value (λ m x failed. HasWritten m x (seen x failed) c.start_over.result) size run)
     ]
 
 pub returns-then-words-lt2-clause-written : goal.returns-then-words-lt2-clause-written
@@ -35,9 +38,10 @@ returns-then-words-lt2-clause-written g c =
     let ended = c.start_on.new in
     let few : length c.args.words.now ≤ 1 = omega (arith, c.if-words-lt2.true) in
     let size : length words ≤ 1 = omega (arith, length-map c.args.words.now string_bytes, few) in
-    let seen : ℕ → Seen = λ failed. record {
+    let seen : StoreSettings → ℕ → Seen = λ x failed. record {
       input = g.R.Read.remaining c.args.reader.now;
       rest = g.R.Read.remaining ended.reader;
+      ticks = heard_by x (g.P.Ticker.said ended.ticker);
       before = 0;
       after = failed;
       old = g.W.Write.contents c.args.writer.now;
@@ -46,7 +50,7 @@ returns-then-words-lt2-clause-written g c =
     elim c.start_on.ensures.written [
       | inl same ↦ inl same
       | inr run ↦
-          inr (give_memory g.E.StoreEnd.is_honest words c.in_ok-file.file.items c.deref.result.now c.in_ok-file.ensures.file c.deref.ensures.value (λ m x failed. HasWritten m x (seen failed) c.start_on.result) size run)
+          inr (give_memory g.E.StoreEnd.is_honest words c.in_ok-file.file.items c.deref.result.now c.in_ok-file.ensures.file c.deref.ensures.value (λ m x failed. HasWritten m x (seen x failed) c.start_on.result) size run)
     ]
 
 pub returns-in_err-file-clause-written : goal.returns-in_err-file-clause-written

@@ -1,6 +1,7 @@
 use Rattle.std.proofs.Common.{◌≡◌, ◌∙◌, ℕ, ap, inl, inr, refl}
 use Rattle.std.proofs.lemmas.Result.{err_from_is_err_and}
 use Rattle.ing_lanes.specs.Runs.{HasWritten, Seen}
+use Rattle.ing_service.specs.Clocks.{heard_by}
 use Rattle.ing_service.specs.Ends.{failures_in}
 use Rattle.ing_program.specs.Starting.{manner_of}
 use Rattle.ing_program.proofs.StartingLaws.{at_zero, none_failed, of_file, of_folder}
@@ -18,6 +19,7 @@ returns-clause-written g c =
     let seen : ℕ → ℕ → Seen = λ before after. record {
       input = g.R.Read.remaining c.args.reader.now;
       rest = g.R.Read.remaining ended.reader;
+      ticks = heard_by settings (g.P.Ticker.said ended.ticker);
       before = before;
       after = after;
       old = g.W.Write.contents c.args.writer.now;
@@ -40,4 +42,9 @@ returns-in_err-store-clause-written g c =
 pub returns-in_err-others-clause-written : goal.returns-in_err-others-clause-written
 returns-in_err-others-clause-written g c =
     let p = err_from_is_err_and c.from_residual-in_err-others.result c.from_residual-in_err-others.ensures.1 in
+    inl (of_folder c.args.writer.now _ p.0 _ p.1 p.2 (inl refl))
+
+pub returns-in_err-set_periods-clause-written : goal.returns-in_err-set_periods-clause-written
+returns-in_err-set_periods-clause-written g c =
+    let p = err_from_is_err_and c.from_residual-in_err-set_periods.result c.from_residual-in_err-set_periods.ensures.1 in
     inl (of_folder c.args.writer.now _ p.0 _ p.1 p.2 (inl refl))

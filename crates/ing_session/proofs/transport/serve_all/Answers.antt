@@ -12,6 +12,7 @@ returns-clause-written g c =
     record {
       input = remaining c.args.reader.now;
       rest = remaining after.reader;
+      ticks = g.P.Ticker.said after.ticker;
       before = failures c.args.end.now;
       after = failures after.end;
       old = contents c.args.writer.now;
