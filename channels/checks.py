@@ -332,13 +332,16 @@ def check_next(seen, asked, last, place):
 
 
 def check_front(seen, asked, stream, found):
-    """Of a stream whose entries are known by number, the first so many as accepted were answered for."""
-    name = stream[1].encode()
-    wanted = [(stamp, number) for number, (stamp, _) in enumerate(seen.after[stream]) if asked.has(stamp, name, number)]
+    """Of a stream whose entries are known by number, the first so many as accepted were answered for. What a kill took, of pushes that were
+    not synced yet, may have been found before: it came behind all others."""
+    name, entries = stream[1].encode(), [*seen.after[stream]]
+    if seen.report is None:
+        entries += (collections.Counter(found) - collections.Counter(entries)).elements()
+    wanted = [(stamp, number) for number, (stamp, _) in enumerate(entries) if asked.has(stamp, name, number)]
     ordered = []
     for count in range(len(wanted) + 1):
         answer = (ordered[::-1] if asked.is_backward else ordered)[: asked.limit] if len(ordered) >= len(found) else []
-        if len(answer) == len(found) and [seen.after[stream][number] for _, number in answer] == found:
+        if len(answer) == len(found) and [entries[number] for _, number in answer] == found:
             return
         if count < len(wanted):
             bisect.insort(ordered, wanted[count])
@@ -452,9 +455,11 @@ def check(seen):
 
 
 def start_again(program, folder, after, queries, patience=60):
-    """Starts the program over what a run left, with two words: queries find it, the report tells it as recovered, and it stays."""
-    lines = "".join(json.dumps(query) + "\n" for query in queries)
-    ran = subprocess.run(folder.words(program), input=lines.encode(), capture_output=True, timeout=patience)
+    """Starts the program over what a run left, with two words, and without a clock, which would go on: queries find it, the report tells it
+    as recovered, and it stays."""
+    lines, still = "".join(json.dumps(query) + "\n" for query in queries), folder.place / "still.toml"
+    folder.write_settings(still, without=["flush_check_period"])
+    ran = subprocess.run([program, still, folder.path()], input=lines.encode(), capture_output=True, timeout=patience)
     assert (ran.returncode, ran.stderr) == (0, b""), f"a new start ended with {ran.returncode}: {ran.stderr}"
     model, replies = Kept(folder, after), [json.loads(line) for line in ran.stdout.splitlines()]
     report = replies.pop()["report"]

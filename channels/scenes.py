@@ -196,6 +196,55 @@ def the_clock_stores(program, parent):
     assert sum(shard["stored"] for shard in report) == 200, f"the report is {report}"
 
 
+def wait_for(happens, what):
+    """Waits until it is so."""
+    for _ in range(2000):
+        if happens():
+            return
+        time.sleep(0.01)
+    raise AssertionError(what)
+
+
+def one_input_has_a_clock(program, parent):
+    """Of one input, too: while nothing comes, and while lines come without a pause. Each line has one reply, and the clock none."""
+    folder = Folder(parent / "scene", SETTINGS | {"flush_check_period": "20ms", "checkpoint_log_size": 10_000, "chunk_idle_period": "20ms"})
+    folder.make()
+    objects, logs = folder.place / "folder" / "objects", [folder.place / "folder" / f"wal-{number}" for number in range(2)]
+    process = subprocess.Popen(folder.words(program), stdin=subprocess.PIPE, stdout=subprocess.PIPE)
+    lines = [push_line(f"p0.{at % 3}", at, [f"{at}." + "z" * 200]) for at in range(200)]
+
+    def hear(count):
+        return [json.loads(process.stdout.readline()) for _ in range(count)]
+
+    def say(text):
+        process.stdin.write(text.encode())
+        process.stdin.flush()
+
+    say("".join(line + "\n" for line in lines))
+    told = hear(200)
+    wait_for(lambda: max(log.stat().st_size for log in logs) < 10_000, "no checkpoint comes while nothing is said")
+
+    def is_stored():
+        say(BOARD + "\n")
+        return sum(shard["stored"] for shard in hear(1)[0]["board"]) == 200
+
+    wait_for(is_stored, "the clock does not store what was pushed")
+    before, pushes = len([*objects.glob("c-*")]), 2000
+    hearing = threading.Thread(target=lambda: [told.extend(hear(1)) for _ in range(pushes)], daemon=True)
+    hearing.start()
+    for count in range(pushes):
+        say(push_line(f"q{count % 50}", 1000 + count, ["y" * 50]) + "\n")
+    wait_for(lambda: len([*objects.glob("c-*")]) > before, "nothing is stored beside lines that come")
+    hearing.join(60)
+    process.stdin.close()
+    rest = process.stdout.read().decode().splitlines()
+    assert process.wait(60) == 0 and len(rest) == 1, f"behind all replies stands {rest}"
+    report = json.loads(rest[0])["report"]
+    accepted = sum(json.dumps(reply).count('"accepted"') for reply in told)
+    assert sum(shard["accepted"] for shard in report) == accepted == 200 + pushes, f"of {accepted} told accepted the report is {report}"
+    shutil.rmtree(folder.place)
+
+
 class SlowDisk(Folder):
     """The program over it is traced: each sync of a log takes 5 milliseconds longer, and is noted."""
 
@@ -307,7 +356,7 @@ def streams_are_closed(program, parent):
         assert again == {"report": [{"accepted": 0, "kept": 1, "recovered": 1, "stored": 0}]}, f"behind stream {stream} closed: {again}"
 
 
-SCENES = [the_clock_stores, pushes_share_syncs, an_object_is_changed, one_reads_nothing, one_opens_late, one_has_no_input, all_break, nothing_is_said, words_do_not_fit, folder_is_in_use, streams_are_closed]
+SCENES = [the_clock_stores, one_input_has_a_clock, pushes_share_syncs, an_object_is_changed, one_reads_nothing, one_opens_late, one_has_no_input, all_break, nothing_is_said, words_do_not_fit, folder_is_in_use, streams_are_closed]
 
 
 def play_scenes(program, parent, lines, counts):
