@@ -16,6 +16,7 @@ mod lengths;
 mod over;
 mod own;
 mod paths;
+mod periods;
 mod program;
 mod ticks;
 

@@ -1,20 +1,16 @@
 //! What the clock says in the place of a client, as a channel beside others.
-use crate::lengths::Lengths;
+use crate::periods::Periods;
+use ing_lanes::Tick;
 use ing_limits::Settings;
 use std::alloc::{AllocError, Global};
-use std::io::{Cursor, Error, ErrorKind, Read};
+use std::io::{Cursor, Read};
 use std::rt::Files;
 use std::sync::atomic::{AtomicU64, Ordering};
-use std::time::{Clock, Duration, Instant, SystemTime, UNIX_EPOCH};
+use std::time::{Clock, Duration};
 use std::{io, thread};
 
 /// How many milliseconds a sleep has at most, behind which one looks whether a channel is left.
 const NAP: u64 = 20;
-
-/// What is said behind a sweep, and where a log has grown behind that.
-const FLUSH: &str = "{\"cmd\":\"flush\",\"forced\":false}\n";
-
-const CHECKPOINT: &str = "{\"cmd\":\"checkpoint\"}\n";
 
 /// An input that says something by itself at the end of each period.
 pub trait Ticking: Read {
@@ -32,10 +28,7 @@ pub struct Ticks<'a, C: Clock, R: Files> {
     clock: &'a C,
     /// How many channels are left.
     left: &'a AtomicU64,
-    period: Duration,
-    logs: Lengths<'a, R>,
-    /// Whether logs were replaced by what was given last, or by the start.
-    is_replaced: bool,
+    periods: Periods<'a, C, R>,
     /// What is being read.
     said: Cursor<String>,
 }
@@ -53,46 +46,43 @@ impl<'a, C: Clock, R: Files> Ticks<'a, C, R> {
             alloc,
             clock,
             left,
-            period: Duration::ZERO,
-            logs: Lengths::of(alloc, files, folder),
-            is_replaced: true,
+            periods: Periods::of(alloc, clock, files, Some(folder)),
             said: Cursor::new(String::new(alloc)),
         }
     }
 
-    /// Waits for the end of a period, and says whether a channel is left; or until none is.
-    fn wait(&self) -> io::Result<bool> {
-        let began = Instant::now(self.clock)?;
+    /// Waits until something is to be done, and gives that; or until no channel is left.
+    fn wait(&mut self) -> io::Result<Option<Tick>> {
         for _ in 0..u64::MAX {
-            if self.left.load(Ordering::SeqCst) == 0 {
+            if self.periods.are_none() || self.left.load(Ordering::SeqCst) == 0 {
                 break;
             }
-            let rest = self.period.saturating_sub(began.elapsed(self.clock)?);
-            if rest.is_zero() {
-                return Ok(true);
+            if let Some(tick) = self.periods.next()? {
+                return Ok(Some(tick));
             }
-            thread::sleep(self.clock, rest.min(Duration::from_millis(NAP)));
+            let nap = Duration::from_millis(NAP);
+            thread::sleep(self.clock, self.periods.rest()?.min(nap));
         }
-        Ok(false)
+        Ok(None)
     }
+}
 
-    /// The commands of this moment, a line each.
-    fn commands(&mut self) -> io::Result<String> {
-        let Ok(since) = SystemTime::now(self.clock)?.duration_since(UNIX_EPOCH) else {
-            return Err(Error::from(ErrorKind::InvalidData));
-        };
-        self.is_replaced = self.logs.have_grown();
-        let now = since.as_nanos();
-        let checkpoint = if self.is_replaced { CHECKPOINT } else { "" };
-        Ok(format!(in self.alloc; "{{\"cmd\":\"sweep\",\"now\":\"{now}\"}}\n{FLUSH}{checkpoint}")?)
+/// The line by which a client would command it.
+fn line_of(alloc: Global, tick: Tick) -> Result<String, AllocError> {
+    match tick {
+        Tick::Sweep { now } => {
+            let now = now.nanoseconds();
+            format!(in alloc; "{{\"cmd\":\"sweep\",\"now\":\"{now}\"}}\n")
+        }
+        Tick::Flush => String::from_str(alloc, "{\"cmd\":\"flush\",\"forced\":false}\n"),
+        Tick::Checkpoint => String::from_str(alloc, "{\"cmd\":\"checkpoint\"}\n"),
     }
 }
 
 impl<'a, C: Clock, R: Files> Ticking for Ticks<'a, C, R> {
     fn begin(&mut self, settings: &Settings, channels: u64) -> Result<(), AllocError> {
-        self.period = Duration::from_nanos(settings.flush_check_period());
         self.left.store(channels, Ordering::SeqCst);
-        self.logs.begin(settings)
+        self.periods.begin(settings)
     }
 }
 
@@ -102,13 +92,12 @@ impl<'a, C: Clock, R: Files> Read for Ticks<'a, C, R> {
         if count > 0 || buf.is_empty() {
             return Ok(count);
         }
-        if self.is_replaced {
-            self.logs.note();
+        match self.wait()? {
+            Some(tick) => {
+                self.said = Cursor::new(line_of(self.alloc, tick)?);
+                self.said.read(buf)
+            }
+            None => Ok(0),
         }
-        if !self.wait()? {
-            return Ok(0);
-        }
-        self.said = Cursor::new(self.commands()?);
-        self.said.read(buf)
     }
 }

@@ -53,11 +53,7 @@ fn main(rt: HostRuntime) -> ExitCode {
                 let is_read_ahead = !words.is_empty()
                     && thread::spawn(&rt, move || theirs.read_ahead(&rt, &mut rt.reader())).is_ok();
                 let ahead = if is_read_ahead { Some(&*feed) } else { None };
-                let folder = if words.len() > 1 {
-                    words[1].as_str()
-                } else {
-                    ""
-                };
+                let folder = words.get(1).map(|word| word.as_str());
                 start::<_, Log<'_>, DigestReceipt, End<'_>, Disk<'_, HostRuntime>, _, _, _>(
                     &rt,
                     &Disk::new(&rt),
