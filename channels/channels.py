@@ -33,14 +33,14 @@ import tempfile
 from checks import BROAD, Seen, check, merged, start_again
 from clients import AHEAD, AT_HAND, BROKEN, FILES, WELL, WHOLE, Client, Killer, run
 from inputs import BAD_LINES, Drawing, compare, draw_settings, settings_text
-from kills import LINES, TENANTS, Folder, canonical_name, draw_queries, entries_of
+from kills import CLOCK, LINES, TENANTS, Folder, canonical_name, draw_queries, entries_of
 from model import Model, text_of
 from planted import LEFT, PLANTS
 from scenes import play_scenes
 
 SETTINGS = {"shards": range(1, 6), "flushers": range(1, 4), "flush_queue_length": [1, 2, 1024]}
 SETTINGS |= {"chunk_idle_period": ["1s", "30m"], "max_chunk_age": ["10s", "2h"]}
-SETTINGS |= {"flush_check_period": ["0s", "0s", "1ms", "30ms"], "checkpoint_log_size": [0, 1, 3000], "diaries": [False, True]}
+SETTINGS |= CLOCK | {"diaries": [False, True]}
 SETTINGS |= {"chunk_block_size": [1, 60, 200, 262144], "chunk_target_size": [1, 120, 600, 3000, 1572864]}
 COMMANDS = {"push": 60, "sweep": 6, "flush": 8, "gauges": 4, "board": 6, "checkpoint": 3, "query": 12, "series": 4, "labels": 4, "blank": 1, "bad": 2}
 PASSED = "what was planted was not noticed"

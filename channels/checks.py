@@ -11,12 +11,12 @@ from dataclasses import dataclass
 TOP = pathlib.Path(__file__).resolve().parent.parent
 sys.path += [str(TOP / "kills"), str(TOP / "inputs"), str(TOP / "forged")]
 from clients import BROKEN  # noqa: E402
-from kills import GROWING, SEALED, canonical_name, entries_of  # noqa: E402
+from kills import CLOCK, GROWING, SEALED, canonical_name, entries_of  # noqa: E402
 from kills import Model as Kept  # noqa: E402
 from model import MATCHER, Chunk, Entry, Model, Refused, Settings, Stream, labels_of, matchers_of, text_of  # noqa: E402
 
 DURATIONS = {"1s": 10**9, "10s": 10**10, "30m": 1800 * 10**9, "2h": 7200 * 10**9}
-OF_CHANNELS = ("flush_check_period", "checkpoint_log_size", "diaries")  # the settings that the model has not
+NOT_MODELLED = [*CLOCK, "diaries"]  # the settings that the model has not
 PLACES = ["block", "flight", "head", "stored"]
 BROAD = '{app="web"}'  # picks all streams of a tenant
 SPELT = re.compile(rf"{{{MATCHER.pattern}(,{MATCHER.pattern})*}}", re.ASCII)  # the canonical name of a stream
@@ -29,7 +29,7 @@ def is_count(value):
 def settings_of(said):
     """Those of a folder, for a model, which has no clock."""
     spans = {name: DURATIONS[said[name]] for name in ("chunk_idle_period", "max_chunk_age")}
-    return Settings(**{name: value for name, value in said.items() if name not in OF_CHANNELS} | spans)
+    return Settings(**{name: value for name, value in said.items() if name not in NOT_MODELLED} | spans)
 
 
 def accepted_in(verdicts):
@@ -457,9 +457,8 @@ def check(seen):
 def start_again(program, folder, after, queries, patience=60):
     """Starts the program over what a run left, with two words, and without a clock, which would go on: queries find it, the report tells it
     as recovered, and it stays."""
-    lines, still = "".join(json.dumps(query) + "\n" for query in queries), folder.place / "still.toml"
-    folder.write_settings(still, without=["flush_check_period"])
-    ran = subprocess.run([program, still, folder.path()], input=lines.encode(), capture_output=True, timeout=patience)
+    lines = "".join(json.dumps(query) + "\n" for query in queries)
+    ran = subprocess.run(folder.still().words(program), input=lines.encode(), capture_output=True, timeout=patience)
     assert (ran.returncode, ran.stderr) == (0, b""), f"a new start ended with {ran.returncode}: {ran.stderr}"
     model, replies = Kept(folder, after), [json.loads(line) for line in ran.stdout.splitlines()]
     report = replies.pop()["report"]

@@ -5,16 +5,17 @@
         [--fail] [--without WHICH] [--history N]
     python3 crashes/crashes.py --check
 
-A run of `PROGRAM SETTINGS FOLDER` gets drawn commands, and `strace` records its calls for files and its replies, in one order. A
-model of a file system (disk.py) is told them one by one. Before and behind each of them images are built that a power cut may
-leave: bytes that were not synced dropped, cut, or zeros; creations, renames and removals that were not synced undone, singly and
-together. FOLDER itself, and folders above it that the program made, may be gone. Of all these some of each kind are drawn.
+A run of `PROGRAM SETTINGS FOLDER`, with a clock in half of the histories, gets drawn commands, and `strace` records its calls for
+files and its replies, in one order. A model of a file system (disk.py) is told them one by one. Before and behind each of them
+images are built that a power cut may leave: bytes that were not synced dropped, cut, or zeros; creations, renames and removals that
+were not synced undone, singly and together. FOLDER itself, and folders above it that the program made, may be gone. Of all these
+some of each kind are drawn.
 
 Each image is put into a folder, and what lies in it is read by docs/FORMATS.md alone, as in kills/kills.py: what was answered
-durable before that moment is there, once, and nothing is that was not sent. The program is started over it, queries for all
-streams give the same, and so does what it leaves. Only a log whose end is damaged may keep it from starting, with `DamagedLog`:
-then this program cuts it behind its last whole record, and all that was durable has to be there; with --ctl, `ingestctl mend` has
-to leave the same, and to keep what was there.
+durable before that moment is there, once, and nothing is that was not sent. The program is started over it, without a clock:
+queries for all streams give the same, and so does what it leaves. Only a log whose end is damaged may keep it from starting, with
+`DamagedLog`: then this program cuts it behind its last whole record, and all that was durable has to be there; with --ctl,
+`ingestctl mend` has to leave the same, and to keep what was there.
 
 A history is of several runs over one folder. Each begins with what the one before left: at its end; where it is taken to be
 killed, with what was not synced then; or as an image of it. What a run begins with has to last as soon as it has answered.
@@ -23,8 +24,8 @@ Besides, the order itself is looked at, in the record alone. Before a reply tell
 synced: the logs, what leads to them, `lock`, and the names of the objects that the logs list. Before a rename the bytes of the
 renamed file are.
 
-With --channels a run is `PROGRAM SETTINGS FOLDER IN OUT ..`, with two to N channels, settings that only these have, as a clock,
-and commands for streams that are each channel's own (talks.py). Some have all at hand in a file, others wait for replies.
+With --channels a run is `PROGRAM SETTINGS FOLDER IN OUT ..`, with two to N channels, diaries in half of the histories, and commands
+for streams that are each channel's own (talks.py). Some have all at hand in a file, others wait for replies.
 What began to be written to an OUT was told there: what any channel was told durable has to be there, and of what each said behind
 that some may be, in its order. At a reply another thread may just be about to sync what has no push of this channel (order.py).
 Over an image the program is started with two words, as ever. Where a call fails a channel may break.
@@ -69,14 +70,14 @@ from talks import PATIENCE, Expected, Listener, Started, Talk, speak, speak_on_c
 
 # Its folder is among those of talks.py.
 from kills import CALLS as CALLS_OF_FILES
-from kills import SETTINGS, Fields, Folder, Model, calls_in, draw_queries, run_traced
+from kills import CLOCK, SETTINGS, Fields, Folder, Model, calls_in, draw_queries, run_traced
 
 EACH = 100  # images of one history
 OF_A_KIND = 2  # images of one kind that are built in a run
 OF_A_RUN = 50  # images of a run
 OF_A_FAILING_RUN = 10
 MOST = 40  # commands of a run
-OF_CHANNELS = {"flush_check_period": ["0s", "0s", "1ms", "30ms"], "checkpoint_log_size": [0, 1, 3000], "diaries": [False, True]}
+OF_CHANNELS = {"diaries": [False, True]}
 ABOVE = ["", "above", "above/more"]  # folders that the program has to make, too
 WHICH = ["append", "beside", "folder", "begun", "told"]
 FAILING = ["openat", "write", "pwrite64", "fsync", "fdatasync", "ftruncate", "rename", "unlink", "mkdir"]
@@ -270,7 +271,8 @@ class History:
             settings |= {name: self.draw.choice(values) for name, values in OF_CHANNELS.items()}
             self.numbers = range(self.draw.randint(min(2, options.channels), options.channels))
         self.place = make_place(parent / f"history-{number}", settings, above)
-        self.image_place = make_place(parent / f"image-{number}", settings, above)
+        still = {name: value for name, value in settings.items() if name not in CLOCK}
+        self.image_place = make_place(parent / f"image-{number}", still, above)
         self.disk, self.found, self.before = Disk(self.place.top), {}, None
         self.counts, self.order, self.loss = collections.Counter(), None, None
 
