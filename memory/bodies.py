@@ -30,6 +30,8 @@ chunk_block_size = 1_000
 chunk_idle_period = "3\\u0030m"
 tenants = { t = { max_line_size = 40 }, u.max_label_names = 2 }
 """
+# A clock, which takes memory when a run begins, and whose period does not end before the run does.
+CLOCK = {"flush_check_period": "1h", "checkpoint_log_size": 1}
 REFUSED_SETTINGS = {"no TOML": "shards =", "no setting": "[tenants.acme]\nshard = 1", "a bad setting": 'tenants."a b" = {}'}
 REFUSED_SETTINGS |= {"a bad duration": 'max_chunk_age = "1x"', "no text": b"\xff"}
 
@@ -135,6 +137,7 @@ def in_memory():
         InMemory("in memory: flushes and queries", words, given_of(FLUSHES), files),
         InMemory("in memory: names and pages", words, given_of([*PUSHES[:2], *NAMES, *PAGES, FLUSH, *NAMES, *PAGES]), files),
         InMemory("in memory: other settings", ["others.toml"], given_of([ESCAPES]), files),
+        InMemory("in memory: beside a clock", ["clock.toml"], given_of([*PUSHES[:1], FLUSH]), {"clock.toml": 'flush_check_period = "1h"\n'}),
         InMemory("in memory: a line of 80,000 bytes, without a line feed", [], given_of(LONG)[:-1]),
         InMemory("in memory: standard input closed", [], closed=0),
         InMemory("in memory: standard output closed", [], given_of(PUSHES[:1]), closed=1),
@@ -180,6 +183,8 @@ IN_FOLDERS = [
     InFolder("a new folder below others, three shards, three flushers", sizes(3, 3), LIFE, is_below=True),
     InFolder("a folder with stored, waiting and growing chunks, two shards, two flushers", sizes(2, 2), MORE, LIFE),
     InFolder("a folder behind a checkpoint, one shard, two flushers", sizes(1, 2), MORE[:1], [*LIFE, CHECKPOINT]),
+    InFolder("a new folder, beside a clock, two shards, one flusher", sizes(2, 1) | CLOCK, LIFE),
+    InFolder("a channel beside a clock, over a new folder, two shards", sizes(2, 1) | CLOCK, LIFE, is_channel=True),
     InFolder("a channel over a new folder, two shards", sizes(2, 1), LIFE, is_channel=True),
     InFolder("a channel over a folder with stored, waiting and growing chunks, two shards", sizes(2, 1), MORE, LIFE, is_channel=True),
     InFolder("a channel that asks for names and pages, two shards", sizes(2, 1), [*LIFE[:2], *ASKED], is_channel=True),
