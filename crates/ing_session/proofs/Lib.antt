@@ -4,6 +4,7 @@ mod WritingLaws
 pub mod CausesLaws
 pub mod FrontsLaws
 pub mod RunsLaws
+mod StepsLaws
 pub mod ObeyLaws
 mod PushedLaws
 mod TicksLaws

@@ -1,8 +1,8 @@
 -- One more line of the input is answered, or the run ends.
-use Rattle.std.proofs.Common.{◌≡◌, ◌≢◌, ℕ, ◌+◌, ◌<◌, ◌≤◌, Bool, true, false, List, [], ◌∷◌, ◌++◌, length, drop, refl, sym, ap, subst, ◌∙◌, arith, append_assoc, append-nil, None, Some, Ok, Err, inl, inr}
+use Rattle.std.proofs.Common.{◌≡◌, ◌≢◌, ℕ, ◌+◌, ◌<◌, true, List, [], ◌∷◌, ◌++◌, length, refl, sym, ap, subst, ◌∙◌, arith, append_assoc, append-nil, None, Some, Ok, Err, inl, inr}
 use Rattle.std.specs.Prelude.{Option, Result, IfSome, IfErr, OnOk, OnErr, IsTrue}
 use Rattle.std.specs.List.{AllByRecursion, flat_map}
-use Rattle.std.specs.Io.KnownBytes.{Appends, Keeps, Consumes, IsAtEnd, prepend_known}
+use Rattle.std.specs.Io.KnownBytes.{Appends, Keeps}
 use Rattle.std.proofs.KnownBytes.{Appends-nil}
 use Rattle.std.proofs.lemmas.Grind.{flat_map-append}
 use Rattle.std.proofs.lemmas.List.{length-append}
@@ -11,21 +11,20 @@ use Rattle.std.proofs.lemmas.List.Sums.{sum_by-append, sum_by-cons}
 use Rattle.std.proofs.lemmas.Bool.Decides.{nat_tests}
 use Rattle.ing_limits.specs.Settings.{StoreSettings}
 use Rattle.ing_commands.specs.declared.fault.LineFault.TheVariants.{BadCommand}
-use Rattle.ing_session.specs.declared.lines.NextLine.TheVariants.{Line, TooLong, End}
 use Rattle.ing_session.specs.declared.ending.Ending.{Ending}
 use Rattle.ing_session.specs.declared.ending.Ending.TheVariants.{NoMemory, NotToml, UnknownSetting, BadSetting, InputFault, OutputFault, BadArguments, NoSettings, NoFolder, NoObjects, FolderInUse, MissingLog, NotRecovered, NotServed, Differs}
 use Rattle.ing_session.specs.Endings.{is_of_run}
 use Rattle.ing_session.specs.Fronts.{AppendsFront, Grows}
-use Rattle.ing_session.specs.Lines.{lines_of, with_feed, EndsLine, TakesLine}
+use Rattle.ing_session.specs.Lines.{lines_of, with_feed}
 use Rattle.ing_session.specs.Parts.{HasNoFeed, max_line}
 use Rattle.ing_session.specs.Replies.{line_text}
 use Rattle.ing_session.specs.Manners.{Manner, Turn, turn, MayBeFrom, is_long, line_fault, answers_of, failed_in, held_after, line_in, lines_in, output_of, tick_in, ticks_in}
 use Rattle.ing_session.specs.Causes.{HaveCause}
 use Rattle.ing_session.specs.declared.ticks.Tick.{Tick}
-use Rattle.ing_session.specs.Runs.{HearsAll, HearsFirst, AnswersAll, AnswersWhatWasRead, AnswersFirstLines, AnswersFront, Answers, AnswersAhead, AnswersLines, BreaksOff, HasWritten, IsUnbegun, Reports, Seen, Serves, ServesKnown, with_replies}
-use Rattle.ing_session.proofs.CausesLaws.{no_failure, causes_on, causes_more}
+use Rattle.ing_session.specs.Runs.{HearsAll, HearsFirst, AnswersAll, AnswersWhatWasRead, AnswersFirstLines, AnswersFront, Answers, AnswersAhead, AnswersLines, BreaksOff, HasWritten, IsUnbegun, Reports, Seen, with_replies}
+use Rattle.ing_session.proofs.CausesLaws.{no_failure}
 use Rattle.ing_session.proofs.FrontsLaws.{all_written, front_held, front_of}
-use Rattle.ing_session.proofs.LinesLaws.{lines_of-ended, lines_of-open_last, lines_of-rest}
+use Rattle.ing_session.proofs.LinesLaws.{lines_of-rest}
 
 -- ---- what is written and held back
 
@@ -106,15 +105,15 @@ hears_none H None = tt
 hears_none H (Some said) = (said, refl)
 
 -- lines at which it says nothing
-hears_on : {H : Type 0} (ticks : Option (List Tick)) (turns more : List (Turn H)) → HearsAll ticks turns → ticks_in more ≡ [] → HearsAll ticks (turns ++ more)
+pub hears_on : {H : Type 0} (ticks : Option (List Tick)) (turns more : List (Turn H)) → HearsAll ticks turns → ticks_in more ≡ [] → HearsAll ticks (turns ++ more)
 hears_on None turns more all quiet = tt
 hears_on (Some said) turns more all quiet = ticks_on turns more ∙ ap (λ (ts : List Tick). ticks_in turns ++ ts) quiet ∙ append-nil (ticks_in turns) ∙ all
 
-all_on : (lines more : List (List ℕ)) → AllByRecursion HasNoFeed lines → AllByRecursion HasNoFeed more → AllByRecursion HasNoFeed (lines ++ more)
+pub all_on : (lines more : List (List ℕ)) → AllByRecursion HasNoFeed lines → AllByRecursion HasNoFeed more → AllByRecursion HasNoFeed (lines ++ more)
 all_on [] more h k = k
 all_on (l ∷ ls) more h k = (h.0, all_on ls more h.1 k)
 
-feeds_on : (lines more : List (List ℕ)) (rest : List ℕ) → flat_map with_feed lines ++ (flat_map with_feed more ++ rest) ≡ flat_map with_feed (lines ++ more) ++ rest
+pub feeds_on : (lines more : List (List ℕ)) (rest : List ℕ) → flat_map with_feed lines ++ (flat_map with_feed more ++ rest) ≡ flat_map with_feed (lines ++ more) ++ rest
 feeds_on lines more rest =
     sym (append_assoc (flat_map with_feed lines) (flat_map with_feed more) rest) ∙ ap (λ (bytes : List ℕ). bytes ++ rest) (sym (flat_map-append with_feed lines more))
 
@@ -126,67 +125,12 @@ feeds_of line others rest =
     ∙ ap (λ (bytes : List ℕ). bytes ++ rest) (sym (flat_map-cons with_feed line others))
 
 -- lines that take nothing are none
-no_lines : (lines : List (List ℕ)) (rest : List ℕ) → flat_map with_feed lines ++ rest ≡ [] → (lines ≡ []) × (rest ≡ [])
+pub no_lines : (lines : List (List ℕ)) (rest : List ℕ) → flat_map with_feed lines ++ rest ≡ [] → (lines ≡ []) × (rest ≡ [])
 no_lines [] rest none = (refl, none)
 no_lines (l ∷ ls) rest none =
     let long : length (l ++ 10 ∷ (flat_map with_feed ls ++ rest)) ≡ 0 = ap length (feeds_of l ls rest ∙ none) in
     let more = length-append l (10 ∷ (flat_map with_feed ls ++ rest)) in
     absurd (grind (arith, long, more))
-
--- no line is taken where nothing is left
-none_left : (old new line : List ℕ) (at_end : Bool) → old ≡ [] → EndsLine old new at_end line → ⊥
-none_left old new [] false empty ends = absurd cc
-none_left old new (x ∷ xs) false empty ends = absurd cc
-none_left old new line true empty ends = let nothing : line ≡ [] = sym ends.0 ∙ empty in absurd (omega (arith, ends.1, ap length nothing))
-
-module _ (m : Manner) (settings : StoreSettings) (ticks : Option (List Tick)) (s1 s2 : StoreSettings) (h1 h2 : m.Held → Type 0) (input : List ℕ) (before b1 b2 : ℕ) (first c k : Option (List ℕ)) (r q s line : List ℕ) where
-  -- a line is taken, and those behind it that are answered with it
-  some_lines : (was now : Bool) (left mid ahead more : List ℕ) (taken : ℕ) → mid ≡ ahead ++ more → (serves : Serves m settings ticks s1 h1 input before b1 first (with_replies c r) was left) → HasNoFeed line
-      → EndsLine left mid now line → Keeps (with_replies c r) (with_replies k q) → s2 ≡ settings
-      → AnswersAhead m settings line ahead taken (held_after m.nothing serves.turns) h2 b1 b2 q s
-      → Serves m settings ticks s2 h2 input before b2 first (with_replies k s) now (drop taken ahead ++ more)
-  some_lines true now left mid ahead more taken is serves clean ends keeps same answers = absurd (none_left left mid line now (serves.read refl).1 ends)
-  some_lines false now left mid ahead more taken is serves clean ends keeps same answers =
-      record {
-        turns = serves.turns ++ answers.turns;
-        no_feeds = subst (AllByRecursion HasNoFeed) (sym lines) (all_on (lines_in serves.turns) (line ∷ answers.others) serves.no_feeds (clean, answers.no_feeds));
-        taken = λ going. subst (λ ls. input ≡ flat_map with_feed ls ++ rest) (sym lines) (front now ends going);
-        read = λ ended. subst (λ ls. (lines_of input ≡ ls) × (rest ≡ [])) (sym lines) (end now ends ended);
-        settings_are = same;
-        holds = subst h2 (sym (held_on serves.turns answers.turns m.nothing)) answers.holds;
-        heard = hears_on ticks serves.turns answers.turns serves.heard answers.quiet;
-        may_be = record {
-          flushes = may_be_on m settings serves.turns answers.turns m.nothing serves.may_be.flushes answers.may_be;
-          causes = rw (failed_on serves.turns answers.turns) (causes_more before b1 b2 (failed_in serves.turns) (failed_in answers.turns) serves.may_be.causes answers.causes);
-        };
-        answered = rw (answers_on serves.turns answers.turns) (adds first c k r q s (answers_of serves.turns) (answers_of answers.turns) serves.answered keeps answers.told);
-      } where
-        rest : List ℕ
-        rest = drop taken ahead ++ more
-
-        lines : lines_in (serves.turns ++ answers.turns) ≡ lines_in serves.turns ++ line ∷ answers.others
-        lines = lines_on serves.turns answers.turns ∙ ap (λ (ls : List (List ℕ)). lines_in serves.turns ++ ls) answers.lines
-
-        behind : mid ≡ flat_map with_feed answers.others ++ rest
-        behind = is ∙ ap (λ (bytes : List ℕ). bytes ++ more) answers.front ∙ append_assoc (flat_map with_feed answers.others) (drop taken ahead) more
-
-        so_far : input ≡ flat_map with_feed (lines_in serves.turns) ++ left
-        so_far = serves.taken refl
-
-        front : (b : Bool) → EndsLine left mid b line → b ≡ false → input ≡ flat_map with_feed (lines_in serves.turns ++ line ∷ answers.others) ++ rest
-        front false is going =
-            so_far ∙ ap (λ (l : List ℕ). flat_map with_feed (lines_in serves.turns) ++ l) (is ∙ ap (λ (l : List ℕ). line ++ 10 ∷ l) behind ∙ feeds_of line answers.others rest)
-            ∙ feeds_on (lines_in serves.turns) (line ∷ answers.others) rest
-        front true is going = absurd cc
-
-        end : (b : Bool) → EndsLine left mid b line → b ≡ true → (lines_of input ≡ lines_in serves.turns ++ line ∷ answers.others) × (rest ≡ [])
-        end false is going = absurd cc
-        end true is going =
-            let none = no_lines answers.others rest (sym behind ∙ is.2) in (
-              ap lines_of (so_far ∙ ap (λ (l : List ℕ). flat_map with_feed (lines_in serves.turns) ++ l) is.0) ∙ lines_of-open_last (lines_in serves.turns) line serves.no_feeds clean is.1
-                  ∙ ap (λ (ls : List (List ℕ)). lines_in serves.turns ++ line ∷ ls) (sym none.0),
-              none.1,
-            )
 
 -- a line is answered alone
 pub alone : (m : Manner) (settings : StoreSettings) (line ahead : List ℕ) (held : m.Held) (holds : m.Held → Type 0) (b1 b2 : ℕ) (q s : List ℕ) → Answers m settings line held holds b1 b2 q s
@@ -207,7 +151,7 @@ alone m settings line ahead held holds b1 b2 q s answers =
     }
 
 -- a line that is too long is refused, and changes nothing
-long_answers : (m : Manner) (settings : StoreSettings) (line : List ℕ) (held : m.Held) (holds : m.Held → Type 0) (n : ℕ) (q s : List ℕ) → max_line < length line
+pub long_answers : (m : Manner) (settings : StoreSettings) (line : List ℕ) (held : m.Held) (holds : m.Held → Type 0) (n : ℕ) (q s : List ℕ) → max_line < length line
     → s ≡ q ++ line_text (line_fault BadCommand) → holds held → Answers m settings line held holds n n q s
 long_answers m settings line held holds n q s long refused is_held =
     let is : is_long line ≡ true = grind (arith, nat_tests) in
@@ -220,83 +164,6 @@ long_answers m settings line held holds n q s long refused is_held =
       causes = no_failure n;
       holds = is_held;
     }
-
--- before the first line
-module _ (m : Manner) (settings : StoreSettings) (ticks : Option (List Tick)) (holds : m.Held → Type 0) (n : ℕ) (contents : Option (List ℕ)) (replies ahead : List ℕ) (ended : Bool)
-    (none : replies ≡ []) (going : ended ≡ false) (unread : ahead ≡ []) (empty : holds m.nothing) (unsaid : IfSome ticks (λ said. said ≡ [])) where
-  nothing_added : (known : Option (List ℕ)) → Appends known (with_replies known replies) []
-  nothing_added None = tt
-  nothing_added (Some x) = ap (λ (l : List ℕ). x ++ l) none
-
-  nothing_said : (known : Option (List Tick)) → IfSome known (λ said. said ≡ []) → HearsAll {H = m.Held} known []
-  nothing_said None none = tt
-  nothing_said (Some said) none = sym none
-
-  pub begins : (known : Option (List ℕ)) → IfSome known (λ input. ServesKnown m settings ticks settings holds input n n contents (with_replies contents replies) ended (prepend_known ahead known))
-  begins None = tt
-  begins (Some input) =
-      record {
-        turns = [];
-        no_feeds = tt;
-        taken = λ is. ap (λ (l : List ℕ). l ++ input) (sym unread);
-        read = λ is. (let both : false ≡ true = sym going ∙ is in absurd cc);
-        settings_are = refl;
-        holds = empty;
-        heard = nothing_said ticks unsaid;
-        may_be = record { flushes = tt; causes = no_failure n };
-        answered = nothing_added contents;
-      }
-
--- ---- what a turn of the run makes of it
-
-module _ (m : Manner) (settings : StoreSettings) (ticks : Option (List Tick)) (s1 s2 : StoreSettings) (h1 h2 : m.Held → Type 0) (input : List ℕ) (before b1 b2 : ℕ) (first c k : Option (List ℕ)) (r q s line : List ℕ) (was now : Bool) where
-  pub serves_lines : (ahead : List ℕ) (taken : ℕ) (left known : Option (List ℕ)) → ServesKnown m settings ticks s1 h1 input before b1 first (with_replies c r) was left
-      → ((was ≡ true → IsAtEnd left) → TakesLine left (prepend_known ahead known) now Line line)
-      → Keeps (with_replies c r) (with_replies k q)
-      → ((held : m.Held) → h1 held → AnswersAhead m s1 line ahead taken held h2 b1 b2 q s)
-      → s2 ≡ s1
-      → ServesKnown m settings ticks s2 h2 input before b2 first (with_replies k s) now (prepend_known (drop taken ahead) known)
-  serves_lines ahead taken None known serves takes keeps answers same = absurd serves
-  serves_lines ahead taken (Some left) None serves takes keeps answers same = absurd (takes (λ e. (serves.read e).1))
-  serves_lines ahead taken (Some left) (Some more) serves takes keeps answers same =
-      let first_line = takes (λ e. (serves.read e).1) in
-      let held = held_after m.nothing serves.turns in
-      some_lines m settings ticks s1 s2 h1 h2 input before b1 b2 first c k r q s line was now left (ahead ++ more) ahead more taken refl serves first_line.0 first_line.1 keeps
-      (same ∙ serves.settings_are)
-      (subst (λ t. AnswersAhead m t line ahead taken held h2 b1 b2 q s) serves.settings_are (answers held serves.holds))
-
-  pub serves_long : (left rest : Option (List ℕ)) → ServesKnown m settings ticks s1 h1 input before b1 first (with_replies c r) was left → ((was ≡ true → IsAtEnd left) → TakesLine left rest now TooLong line)
-      → Keeps (with_replies c r) (with_replies k q) → s ≡ q ++ line_text (line_fault BadCommand)
-      → ServesKnown m settings ticks s1 h1 input before b1 first (with_replies k s) now rest
-  serves_long None rest serves takes keeps refused = absurd serves
-  serves_long (Some left) None serves takes keeps refused = absurd (takes (λ e. (serves.read e).1))
-  serves_long (Some left) (Some rest) serves takes keeps refused =
-      let taken = takes (λ e. (serves.read e).1) in
-      let held = held_after m.nothing serves.turns in
-      some_lines m settings ticks s1 s1 h1 h1 input before b1 b1 first c k r q s taken.0 was now left rest [] rest 0 refl serves taken.1 taken.2 keeps
-      serves.settings_are
-      (alone m settings taken.0 [] held h1 b1 b1 q s (long_answers m settings taken.0 held h1 b1 q s taken.3 refused serves.holds))
-
-  all_lines : (left : List ℕ) (serves : Serves m settings ticks s1 h1 input before b1 first (with_replies c r) was left) → left ≡ [] → (b : Bool) → was ≡ b → lines_of input ≡ lines_in serves.turns
-  all_lines left serves empty true is = (serves.read is).0
-  all_lines left serves empty false is =
-      let lines = lines_in serves.turns in
-      ap lines_of (serves.taken is ∙ ap (λ (l : List ℕ). flat_map with_feed lines ++ l) empty ∙ append-nil (flat_map with_feed lines)) ∙ lines_of-ended lines serves.no_feeds
-
-  pub serves_end : (left rest : Option (List ℕ)) → ServesKnown m settings ticks s1 h1 input before b1 first (with_replies c r) was left → ((was ≡ true → IsAtEnd left) → TakesLine left rest now End line)
-      → Keeps (with_replies c r) (with_replies k q) → AnswersLines m settings ticks h1 input before b1 first (with_replies k q)
-  serves_end None rest serves takes keeps = absurd serves
-  serves_end (Some left) None serves takes keeps = absurd (takes (λ e. (serves.read e).1))
-  serves_end (Some left) (Some rest) serves takes keeps =
-      let taken = takes (λ e. (serves.read e).1) in
-      record {
-        turns = serves.turns;
-        all = all_lines left serves taken.0 was refl;
-        holds = serves.holds;
-        heard = serves.heard;
-        may_be = serves.may_be;
-        answered = kept first (with_replies c r) (with_replies k q) (answers_of serves.turns) serves.answered keeps;
-      }
 
 -- ---- the report
 
@@ -328,97 +195,6 @@ module _ (m : Manner) (settings : StoreSettings) (ticks : Option (List Tick)) (h
       }
 
 -- ---- what has been written when it ends early
-
--- the lines that were answered are the first ones
-first_lines : (m : Manner) (settings : StoreSettings) (ticks : Option (List Tick)) (now_settings : StoreSettings) (holds : m.Held → Type 0) (input : List ℕ) (before after : ℕ) (first now : Option (List ℕ)) (was : Bool) (left : List ℕ)
-    → (serves : Serves m settings ticks now_settings holds input before after first now was left) → (b : Bool) → was ≡ b → lines_of input ≡ lines_in serves.turns ++ lines_of left
-first_lines m settings ticks now_settings holds input before after first now was left serves true is =
-    (serves.read is).0 ∙ sym (append-nil (lines_in serves.turns)) ∙ ap (λ l. lines_in serves.turns ++ lines_of l) (sym (serves.read is).1)
-first_lines m settings ticks now_settings holds input before after first now was left serves false is = ap lines_of (serves.taken is) ∙ lines_of-rest (lines_in serves.turns) left serves.no_feeds
-
-module _ (m : Manner) (settings : StoreSettings) (ticks : Option (List Tick)) (now_settings : StoreSettings) (holds : m.Held → Type 0) (input : List ℕ) (before b1 b2 : ℕ) (first now : Option (List ℕ)) (was : Bool) where
-  -- memory ran out
-  pub stops : (later : Option (List Tick)) → ((turns : List (Turn m.Held)) → HearsAll ticks turns → HearsFirst later turns) → (left h : Option (List ℕ))
-      → ServesKnown m settings ticks now_settings holds input before b1 first now was left → Keeps now h → b1 ≤ b2 → AnswersFirstLines m settings later input before b2 first h
-  stops later on None h serves keeps risen = absurd serves
-  stops later on (Some left) h serves keeps risen =
-      record {
-        turns = serves.turns;
-        others = lines_of left;
-        first = first_lines m settings ticks now_settings holds input before b1 first now was left serves was refl;
-        heard = on serves.turns serves.heard;
-        may_be = record {
-          flushes = serves.may_be.flushes;
-          causes = causes_on before b1 b2 (failed_in serves.turns) serves.may_be.causes risen;
-        };
-        answered = kept first now h (answers_of serves.turns) serves.answered keeps;
-      }
-
-  -- what the last call leaves of that
-  pub stops_off : (later : Option (List Tick)) → ((turns : List (Turn m.Held)) → HearsAll ticks turns → HearsFirst later turns) → (is_left : m.Held → Type 0) (left h : Option (List ℕ))
-      → ServesKnown m settings ticks now_settings holds input before b1 first now was left → Keeps now h → b1 ≤ b2
-      → ((held : m.Held) → holds held → is_left held) → BreaksOff m settings later is_left input before b2 (Appends first h)
-  stops_off later on is_left None h serves keeps risen leaves = absurd serves
-  stops_off later on is_left (Some left) h serves keeps risen leaves =
-      record {
-        turns = serves.turns;
-        others = lines_of left;
-        first = first_lines m settings ticks now_settings holds input before b1 first now was left serves was refl;
-        heard = on serves.turns serves.heard;
-        may_be = record {
-          flushes = serves.may_be.flushes;
-          causes = causes_on before b1 b2 (failed_in serves.turns) serves.may_be.causes risen;
-        };
-        answered = kept first now h (answers_of serves.turns) serves.answered keeps;
-        left = leaves (held_after m.nothing serves.turns) serves.holds;
-      }
-
-  -- a read failed
-  pub fails : (left rest h : Option (List ℕ)) (bytes : List ℕ) → ServesKnown m settings ticks now_settings holds input before b1 first now was left → was ≡ false → HasNoFeed bytes → Consumes left rest bytes → Keeps now h
-      → AnswersWhatWasRead m settings ticks input rest before b1 first h
-  fails None rest h bytes serves going clean consumed keeps = absurd serves
-  fails (Some left) None h bytes serves going clean consumed keeps = absurd consumed
-  fails (Some left) (Some rest) h bytes serves going clean consumed keeps =
-      record {
-        turns = serves.turns;
-        last = bytes;
-        no_feeds = serves.no_feeds;
-        no_feed = clean;
-        read = serves.taken going ∙ ap (λ (l : List ℕ). flat_map with_feed (lines_in serves.turns) ++ l) consumed ∙ sym (append_assoc (flat_map with_feed (lines_in serves.turns)) bytes rest);
-        heard = serves.heard;
-        may_be = serves.may_be;
-        answered = kept first now h (answers_of serves.turns) serves.answered keeps;
-      }
-
--- a write failed while it went on
-pub breaks : (m : Manner) (settings : StoreSettings) (ticks : Option (List Tick)) (now_settings : StoreSettings) (holds : m.Held → Type 0) (input : List ℕ) (before after : ℕ) (first c k : Option (List ℕ)) (r : List ℕ) (was : Bool) (left : Option (List ℕ))
-    → ServesKnown m settings ticks now_settings holds input before after first (with_replies c r) was left → Grows first c → AppendsFront c k r → AnswersFront m settings ticks input before after first k
-breaks m settings ticks now_settings holds input before after first c k r was None serves grown f = absurd serves
-breaks m settings ticks now_settings holds input before after first c k r was (Some left) serves grown f =
-    record {
-      turns = serves.turns;
-      others = lines_of left;
-      first = first_lines m settings ticks now_settings holds input before after first (with_replies c r) was left serves was refl;
-      heard = hears_first ticks serves.turns serves.heard;
-      may_be = serves.may_be;
-      front = inl (front_held first c k r (answers_of serves.turns) grown serves.answered f);
-    }
-
--- and what was held stays
-pub breaks_cut : (m : Manner) (settings : StoreSettings) (ticks : Option (List Tick)) (now_settings : StoreSettings) (holds is_left : m.Held → Type 0) (input : List ℕ) (before after : ℕ) (first c k : Option (List ℕ)) (r : List ℕ) (was : Bool) (left : Option (List ℕ))
-    → ServesKnown m settings ticks now_settings holds input before after first (with_replies c r) was left → Grows first c → AppendsFront c k r → ((held : m.Held) → holds held → is_left held)
-    → BreaksOff m settings ticks is_left input before after (AppendsFront first k)
-breaks_cut m settings ticks now_settings holds is_left input before after first c k r was None serves grown f stays = absurd serves
-breaks_cut m settings ticks now_settings holds is_left input before after first c k r was (Some left) serves grown f stays =
-    record {
-      turns = serves.turns;
-      others = lines_of left;
-      first = first_lines m settings ticks now_settings holds input before after first (with_replies c r) was left serves was refl;
-      heard = hears_first ticks serves.turns serves.heard;
-      may_be = serves.may_be;
-      answered = front_held first c k r (answers_of serves.turns) grown serves.answered f;
-      left = stays (held_after m.nothing serves.turns) serves.holds;
-    }
 
 -- of a channel, whose answers were still to be written
 module _ (m : Manner) (settings : StoreSettings) (ticks : Option (List Tick)) (is_left : m.Held → Type 0) (before after : ℕ) (first c k : Option (List ℕ)) (r : List ℕ) where

@@ -1,14 +1,14 @@
 -- What a clock says between two lines is done.
-use Rattle.std.proofs.Common.{◌≡◌, ℕ, Bool, List, [], ◌∷◌, ◌++◌, refl, sym, ap, subst, ◌∙◌, append-nil, None, Some, Ok}
+use Rattle.std.proofs.Common.{◌≡◌, ℕ, true, List, [], ◌∷◌, ◌++◌, refl, sym, ap, subst, ◌∙◌, append-nil, None, Some, Ok}
 use Rattle.std.specs.Prelude.{Option}
 use Rattle.std.specs.Io.KnownBytes.{Appends, Keeps}
-use Rattle.ing_limits.specs.Settings.{StoreSettings}
 use Rattle.serde_json.specs.Data.{Data}
 use Rattle.ing_session.specs.Lines.{lines_of, with_feed}
 use Rattle.std.specs.List.{AllByRecursion, flat_map}
 use Rattle.ing_session.specs.Parts.{HasNoFeed}
 use Rattle.ing_session.specs.Manners.{Manner, Ticks, Turn, answers_of, failed_in, held_after, lines_in, ticks_in}
-use Rattle.ing_session.specs.Runs.{HearsAll, HearsFirst, IsObeyed, Serves, ServesKnown, with_replies}
+use Rattle.ing_session.specs.Runs.{HearsAll, HearsFirst, IsObeyed, with_replies}
+use Rattle.ing_session.specs.Steps.{Began, IsUnderWay, Moment, StepsTo}
 use Rattle.ing_session.specs.Ticks.{GoesOnSaying, command_of_tick, told_by}
 use Rattle.ing_session.specs.declared.ticks.Tick.{Tick}
 use Rattle.ing_session.proofs.CausesLaws.{causes_more}
@@ -40,46 +40,68 @@ first_done (Some before) new tick turns all says =
 
 -- ---- what a turn of the clock makes of a run
 
-module _ (m : Manner) (settings : StoreSettings) (t1 t2 : Option (List Tick)) (s1 s2 : StoreSettings) (h1 h2 : m.Held → Type 0) (input : List ℕ) (before b1 b2 : ℕ) (first c k : Option (List ℕ)) (r q : List ℕ)
-    (at_end : Bool) where
-  -- it says nothing
-  pub serves_quiet : (left : Option (List ℕ)) → ServesKnown m settings t1 s1 h1 input before b1 first (with_replies c r) at_end left → GoesOnSaying t1 t2 None
-      → Keeps (with_replies c r) (with_replies k q) → ServesKnown m settings t2 s1 h1 input before b1 first (with_replies k q) at_end left
-  serves_quiet None serves says keeps = absurd serves
-  serves_quiet (Some left) serves says keeps =
+-- it says nothing
+pub quiet : {T : Type 0} {m : Manner} {old : Moment m} {ticks : Option (List Tick)} {k : Option (List ℕ)} {q : List ℕ} {x : T}
+    → GoesOnSaying old.ticks ticks None → Keeps (with_replies old.contents old.replies) (with_replies k q)
+    → StepsTo m (λ (said : T). true) old (record old { ticks = ticks; contents = k; replies = q }) (Ok x)
+quiet {m = m} {old = old} {ticks = ticks} {k = k} {q = q} says keeps = record { leads = by } where
+  by : (began : Began) → IsUnderWay m began old → IsUnderWay m began (record old { ticks = ticks; contents = k; replies = q })
+  by began serves =
       record {
         turns = serves.turns;
+        left = serves.left;
+        known = serves.known;
         no_feeds = serves.no_feeds;
         taken = serves.taken;
         read = serves.read;
         settings_are = serves.settings_are;
         holds = serves.holds;
-        heard = all_quiet t1 t2 serves.turns serves.heard says;
+        heard = all_quiet old.ticks ticks serves.turns serves.heard says;
         may_be = serves.may_be;
-        answered = kept first (with_replies c r) (with_replies k q) (answers_of serves.turns) serves.answered keeps;
+        answered = kept began.old (with_replies old.contents old.replies) (with_replies k q) (answers_of serves.turns) serves.answered keeps;
       }
 
-  -- it says one thing, which is obeyed
-  serves_obeyed : (tick : Tick) (reply : Data) (left : List ℕ) (serves : Serves m settings t1 s1 h1 input before b1 first (with_replies c r) at_end left) → GoesOnSaying t1 t2 (Some tick)
-      → Keeps (with_replies c r) (with_replies k q) → s2 ≡ settings
-      → IsObeyed m settings (Ok (command_of_tick tick)) (held_after m.nothing serves.turns) h2 b1 b2 reply → Serves m settings t2 s2 h2 input before b2 first (with_replies k q) at_end left
-  serves_obeyed tick reply left serves says keeps same obeyed =
+-- it says one thing, which is obeyed
+module _ {m : Manner} {old new : Moment m} {reply : Data} (tick : Tick) (says : GoesOnSaying old.ticks new.ticks (Some tick))
+    (keeps : Keeps (with_replies old.contents old.replies) (with_replies new.contents new.replies)) (same : new.settings ≡ old.settings)
+    (obeyed : (held : m.Held) → old.holds held → IsObeyed m old.settings (Ok (command_of_tick tick)) held new.holds old.failed new.failed reply)
+    (same_end : new.at_end ≡ old.at_end) (same_left : new.left ≡ old.left) where
+  obeyed_on : (began : Began) → IsUnderWay m began old → IsUnderWay m began new
+  obeyed_on began serves =
       record {
         turns = serves.turns ++ more;
+        left = serves.left;
+        known = same_left ∙ serves.known;
         no_feeds = subst (AllByRecursion HasNoFeed) (sym lines) serves.no_feeds;
-        taken = λ going. subst (λ ls. input ≡ flat_map with_feed ls ++ left) (sym lines) (serves.taken going);
-        read = λ ended. subst (λ ls. (lines_of input ≡ ls) × (left ≡ [])) (sym lines) (serves.read ended);
-        settings_are = same;
-        holds = subst h2 (sym (held_on serves.turns more m.nothing)) obeyed.holds;
-        heard = all_done t1 t2 tick serves.turns more serves.heard says refl;
+        taken = λ going. subst (λ ls. began.input ≡ flat_map with_feed ls ++ serves.left) (sym lines) (serves.taken (sym same_end ∙ going));
+        read = λ ended. subst (λ ls. (lines_of began.input ≡ ls) × (serves.left ≡ [])) (sym lines) (serves.read (sym same_end ∙ ended));
+        settings_are = same ∙ serves.settings_are;
+        holds = subst new.holds (sym (held_on serves.turns more m.nothing)) done.holds;
+        heard = all_done old.ticks new.ticks tick serves.turns more serves.heard says refl;
         may_be = record {
-          flushes = may_be_on m settings serves.turns more m.nothing serves.may_be.flushes (record { reply = reply; obeys = obeyed.obeys; silent = refl }, tt);
-          causes = rw (failed_on serves.turns more, failed_one this) (causes_more before b1 b2 (failed_in serves.turns) obeyed.failed serves.may_be.causes obeyed.causes);
+          flushes = may_be_on m began.settings serves.turns more m.nothing serves.may_be.flushes
+              (record { reply = reply; obeys = done.obeys; silent = refl }, tt);
+          causes = rw (failed_on serves.turns more, failed_one this)
+              (causes_more began.before old.failed new.failed (failed_in serves.turns) done.failed serves.may_be.causes done.causes);
         };
-        answered = subst (λ text. Appends first (with_replies k q) text) (sym answers) (kept first (with_replies c r) (with_replies k q) (answers_of serves.turns) serves.answered keeps);
+        answered = subst (λ text. Appends began.old now text) (sym answers) (kept began.old was now (answers_of serves.turns) serves.answered keeps);
       } where
+        was : Option (List ℕ)
+        was = with_replies old.contents old.replies
+
+        now : Option (List ℕ)
+        now = with_replies new.contents new.replies
+
+        held : m.Held
+        held = held_after m.nothing serves.turns
+
+        done : IsObeyed m began.settings (Ok (command_of_tick tick)) held new.holds old.failed new.failed reply
+        done =
+            subst (λ s. IsObeyed m s (Ok (command_of_tick tick)) held new.holds old.failed new.failed reply) serves.settings_are
+            (obeyed held serves.holds)
+
         this : Turn m.Held
-        this = record { said = Ticks tick; answer = []; failed = obeyed.failed; left = obeyed.left }
+        this = record { said = Ticks tick; answer = []; failed = done.failed; left = done.left }
 
         more : List (Turn m.Held)
         more = this ∷ []
@@ -90,12 +112,5 @@ module _ (m : Manner) (settings : StoreSettings) (t1 t2 : Option (List Tick)) (s
         answers : answers_of (serves.turns ++ more) ≡ answers_of serves.turns
         answers = answers_on serves.turns more ∙ append-nil (answers_of serves.turns)
 
-  pub serves_tick : (tick : Tick) (reply : Data) (left : Option (List ℕ)) → ServesKnown m settings t1 s1 h1 input before b1 first (with_replies c r) at_end left → GoesOnSaying t1 t2 (Some tick)
-      → Keeps (with_replies c r) (with_replies k q) → s2 ≡ s1
-      → ((held : m.Held) → h1 held → IsObeyed m s1 (Ok (command_of_tick tick)) held h2 b1 b2 reply)
-      → ServesKnown m settings t2 s2 h2 input before b2 first (with_replies k q) at_end left
-  serves_tick tick reply None serves says keeps same obeyed = absurd serves
-  serves_tick tick reply (Some left) serves says keeps same obeyed =
-      let held = held_after m.nothing serves.turns in
-      serves_obeyed tick reply left serves says keeps (same ∙ serves.settings_are)
-      (subst (λ s. IsObeyed m s (Ok (command_of_tick tick)) held h2 b1 b2 reply) serves.settings_are (obeyed held serves.holds))
+  pub tick_obeyed : {T : Type 0} {x : T} → StepsTo m (λ (said : T). true) old new (Ok x)
+  tick_obeyed = record { leads = obeyed_on }

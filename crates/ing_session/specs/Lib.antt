@@ -10,6 +10,7 @@ pub mod PushLines
 pub mod Replies
 pub mod Runs
 pub mod Selecting
+pub mod Steps
 pub mod Ticks
 pub mod Unread
 pub mod Views

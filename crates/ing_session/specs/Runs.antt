@@ -1,5 +1,5 @@
 -- What a run has written by the time it ends, and while it goes on.
-use Rattle.std.specs.Prelude.{◌≡◌, ◌⊎◌, ℕ, false, true, Bool, List, [], ◌∷◌, ◌++◌, drop, IfSome, Option, Some, None, Result, Ok, Err}
+use Rattle.std.specs.Prelude.{◌≡◌, ◌⊎◌, ℕ, List, [], ◌∷◌, ◌++◌, drop, IfSome, Option, Some, Result, Ok, Err}
 use Rattle.std.specs.List.{AllByRecursion, flat_map}
 use Rattle.std.specs.Io.KnownBytes.{Appends, Consumes, append_known}
 use Rattle.ing_limits.specs.Settings.{StoreSettings}
@@ -191,21 +191,3 @@ pub record AnswersAhead (m : Manner) (settings : StoreSettings) (line ahead : Li
 -- what a writer holds, and then the replies that are held back
 abbrev pub with_replies : Option (List ℕ) → List ℕ → Option (List ℕ)
 with_replies contents replies = append_known contents replies
-
--- While a run goes on: the lines that were answered, with their line feeds, are what was read of the input but for what is
--- left; once the input is at its end, all lines were answered. What these lines leave is held, under these settings.
-pub record Serves (m : Manner) (settings : StoreSettings) (ticks : Option (List Tick)) (now_settings : StoreSettings) (now_holds : m.Held → Type 0) (input : List ℕ) (before after : ℕ) (old new : Option (List ℕ)) (at_end : Bool) (left : List ℕ) : Type 0 where
-  pub turns : List (Turn m.Held)
-  pub no_feeds : AllByRecursion HasNoFeed (lines_in turns)
-  pub taken : at_end ≡ false → input ≡ flat_map with_feed (lines_in turns) ++ left
-  pub read : at_end ≡ true → (lines_of input ≡ lines_in turns) × (left ≡ [])
-  pub settings_are : now_settings ≡ settings
-  pub holds : now_holds (held_after m.nothing turns)
-  pub heard : HearsAll ticks turns
-  pub may_be : MayBeAnswered m settings before after turns
-  pub answered : Appends old new (answers_of turns)
-
--- the same where the bytes that are left are known
-abbrev pub ServesKnown : (m : Manner) → StoreSettings → Option (List Tick) → StoreSettings → (m.Held → Type 0) → List ℕ → ℕ → ℕ → Option (List ℕ) → Option (List ℕ) → Bool → Option (List ℕ) → Type 0
-ServesKnown m settings ticks now_settings now_holds input before after old new at_end None = ⊥
-ServesKnown m settings ticks now_settings now_holds input before after old new at_end (Some left) = Serves m settings ticks now_settings now_holds input before after old new at_end left

@@ -1,11 +1,11 @@
 //! What a clock says between two lines.
-ghost use Rattle.std.specs.Prelude.{◌≡◌, ◌≢◌, ◌⊎◌, ℕ, List, Option, Bool, IfErr, OnOk, OnErr, IsErrOf};
-ghost use Rattle.std.specs.Io.KnownBytes.{Appends, Keeps};
-ghost use Rattle.ing_limits.specs.Settings.{StoreSettings};
+ghost use Rattle.std.specs.Prelude.{◌≡◌, ◌⊎◌, ℕ, List, Option, Bool, true, IfErr, OnOk, OnErr};
+ghost use Rattle.std.specs.Io.KnownBytes.{Keeps};
 ghost use Rattle.ing_session.specs.Causes.{GoesOn};
 ghost use Rattle.ing_session.specs.FlushCalls.{FlushesSo};
 ghost use Rattle.ing_session.specs.Fronts.{AppendsFront, Grows};
-ghost use Rattle.ing_session.specs.Runs.{AnswersFirstLines, AnswersFront, BreaksOff, IsLeft, ServesKnown, with_replies};
+ghost use Rattle.ing_session.specs.Runs.{with_replies};
+ghost use Rattle.ing_session.specs.Steps.{StepsTo};
 
 use crate::answer::obey_tick;
 use crate::ending::Ending;
@@ -36,38 +36,32 @@ pub fn heed_all<
 ) -> Result<(), Ending>
     requires may_flush { X.IsAlwaysCallable flush.now }
     requires flushes { FlushesSo C.manner C.holds C.leaves C.settings_of C.failures C.never_fails (X.post flush.now) }
-    // Of whatever is left to be read.
-    ensures heeded { OnOk result ((first : Option (List ℕ)) (before : ℕ) (settings : StoreSettings) (input : List ℕ)
-        (at_end : Bool) (left : Option (List ℕ)) →
-        ServesKnown C.manner settings (P.said ticker.old) (C.settings_of service.old) (C.holds service.old) input before (C.failures end.old)
-        first (with_replies (W.contents writer.old) replies.old.items) at_end left →
-        ServesKnown C.manner settings (P.said ticker.new) (C.settings_of service.new) (C.holds service.new) input before (C.failures end.new)
-        first (with_replies (W.contents writer.new) replies.new.items) at_end left) }
-    ensures no_memory { IsErrOf result Ending.NoMemory →
-        (first : Option (List ℕ)) (before : ℕ) (settings : StoreSettings) (input : List ℕ) (at_end : Bool) (left : Option (List ℕ)) →
-        ServesKnown C.manner settings (P.said ticker.old) (C.settings_of service.old) (C.holds service.old) input before (C.failures end.old)
-        first (with_replies (W.contents writer.old) replies.old.items) at_end left →
-        AnswersFirstLines C.manner settings (P.said ticker.new) input before (C.failures end.new)
-        first (with_replies (W.contents writer.new) replies.new.items) }
-    ensures output_fault { IsErrOf result Ending.OutputFault →
-        (first : Option (List ℕ)) (before : ℕ) (settings : StoreSettings) (input : List ℕ) (at_end : Bool) (left : Option (List ℕ)) →
-        Grows first (W.contents writer.old) →
-        ServesKnown C.manner settings (P.said ticker.old) (C.settings_of service.old) (C.holds service.old) input before (C.failures end.old)
-        first (with_replies (W.contents writer.old) replies.old.items) at_end left →
-        AnswersFront C.manner settings (P.said ticker.new) input before (C.failures end.new) first (W.contents writer.new) }
-    ensures broken { (e : Ending) → IsErrOf result e → e ≢ Ending.OutputFault →
-        (first : Option (List ℕ)) (before : ℕ) (settings : StoreSettings) (input : List ℕ) (at_end : Bool) (left : Option (List ℕ)) →
-        ServesKnown C.manner settings (P.said ticker.old) (C.settings_of service.old) (C.holds service.old) input before (C.failures end.old)
-        first (with_replies (W.contents writer.old) replies.old.items) at_end left →
-        BreaksOff C.manner settings (P.said ticker.new) (IsLeft C.holds C.leaves service.new) input before (C.failures end.new)
-        (Appends first (with_replies (W.contents writer.new) replies.new.items)) }
-    ensures cut { IsErrOf result Ending.OutputFault →
-        (first : Option (List ℕ)) (before : ℕ) (settings : StoreSettings) (input : List ℕ) (at_end : Bool) (left : Option (List ℕ)) →
-        Grows first (W.contents writer.old) →
-        ServesKnown C.manner settings (P.said ticker.old) (C.settings_of service.old) (C.holds service.old) input before (C.failures end.old)
-        first (with_replies (W.contents writer.old) replies.old.items) at_end left →
-        BreaksOff C.manner settings (P.said ticker.new) (IsLeft C.holds C.leaves service.new) input before (C.failures end.new)
-        (AppendsFront first (W.contents writer.new)) }
+    // The run goes on, whatever is left to be read.
+    ensures step { (at_end : Bool) (left rest : Option (List ℕ)) → StepsTo C.manner (λ _. true)
+        record {
+          ticks = P.said ticker.old;
+          settings = C.settings_of service.old;
+          holds = C.holds service.old;
+          leaves = C.leaves service.old;
+          failed = C.failures end.old;
+          contents = W.contents writer.old;
+          replies = replies.old.items;
+          at_end = at_end;
+          left = left;
+          rest = rest;
+        }
+        record {
+          ticks = P.said ticker.new;
+          settings = C.settings_of service.new;
+          holds = C.holds service.new;
+          leaves = C.leaves service.new;
+          failed = C.failures end.new;
+          contents = W.contents writer.new;
+          replies = replies.new.items;
+          at_end = at_end;
+          left = left;
+          rest = rest;
+        } result }
     ensures grown { Grows (W.contents writer.old) (W.contents writer.new) }
     ensures end { GoesOn C.never_fails C.failures end.old end.new }
     ensures ending { IfErr result (λ e. (e ≡ Ending.NoMemory) ⊎ (e ≡ Ending.OutputFault)) }
@@ -99,38 +93,32 @@ fn heed<
 ) -> Result<bool, Ending>
     requires may_flush { X.IsAlwaysCallable flush.now }
     requires flushes { FlushesSo C.manner C.holds C.leaves C.settings_of C.failures C.never_fails (X.post flush.now) }
-    // Of whatever is left to be read.
-    ensures heeded { OnOk result ((first : Option (List ℕ)) (before : ℕ) (settings : StoreSettings) (input : List ℕ)
-        (at_end : Bool) (left : Option (List ℕ)) →
-        ServesKnown C.manner settings (P.said ticker.old) (C.settings_of service.old) (C.holds service.old) input before (C.failures end.old)
-        first (with_replies (W.contents writer.old) replies.old.items) at_end left →
-        ServesKnown C.manner settings (P.said ticker.new) (C.settings_of service.new) (C.holds service.new) input before (C.failures end.new)
-        first (with_replies (W.contents writer.new) replies.new.items) at_end left) }
-    ensures no_memory { IsErrOf result Ending.NoMemory →
-        (first : Option (List ℕ)) (before : ℕ) (settings : StoreSettings) (input : List ℕ) (at_end : Bool) (left : Option (List ℕ)) →
-        ServesKnown C.manner settings (P.said ticker.old) (C.settings_of service.old) (C.holds service.old) input before (C.failures end.old)
-        first (with_replies (W.contents writer.old) replies.old.items) at_end left →
-        AnswersFirstLines C.manner settings (P.said ticker.new) input before (C.failures end.new)
-        first (with_replies (W.contents writer.new) replies.new.items) }
-    ensures output_fault { IsErrOf result Ending.OutputFault →
-        (first : Option (List ℕ)) (before : ℕ) (settings : StoreSettings) (input : List ℕ) (at_end : Bool) (left : Option (List ℕ)) →
-        Grows first (W.contents writer.old) →
-        ServesKnown C.manner settings (P.said ticker.old) (C.settings_of service.old) (C.holds service.old) input before (C.failures end.old)
-        first (with_replies (W.contents writer.old) replies.old.items) at_end left →
-        AnswersFront C.manner settings (P.said ticker.new) input before (C.failures end.new) first (W.contents writer.new) }
-    ensures broken { (e : Ending) → IsErrOf result e → e ≢ Ending.OutputFault →
-        (first : Option (List ℕ)) (before : ℕ) (settings : StoreSettings) (input : List ℕ) (at_end : Bool) (left : Option (List ℕ)) →
-        ServesKnown C.manner settings (P.said ticker.old) (C.settings_of service.old) (C.holds service.old) input before (C.failures end.old)
-        first (with_replies (W.contents writer.old) replies.old.items) at_end left →
-        BreaksOff C.manner settings (P.said ticker.new) (IsLeft C.holds C.leaves service.new) input before (C.failures end.new)
-        (Appends first (with_replies (W.contents writer.new) replies.new.items)) }
-    ensures cut { IsErrOf result Ending.OutputFault →
-        (first : Option (List ℕ)) (before : ℕ) (settings : StoreSettings) (input : List ℕ) (at_end : Bool) (left : Option (List ℕ)) →
-        Grows first (W.contents writer.old) →
-        ServesKnown C.manner settings (P.said ticker.old) (C.settings_of service.old) (C.holds service.old) input before (C.failures end.old)
-        first (with_replies (W.contents writer.old) replies.old.items) at_end left →
-        BreaksOff C.manner settings (P.said ticker.new) (IsLeft C.holds C.leaves service.new) input before (C.failures end.new)
-        (AppendsFront first (W.contents writer.new)) }
+    // The run goes on, whatever is left to be read.
+    ensures step { (at_end : Bool) (left rest : Option (List ℕ)) → StepsTo C.manner (λ _. true)
+        record {
+          ticks = P.said ticker.old;
+          settings = C.settings_of service.old;
+          holds = C.holds service.old;
+          leaves = C.leaves service.old;
+          failed = C.failures end.old;
+          contents = W.contents writer.old;
+          replies = replies.old.items;
+          at_end = at_end;
+          left = left;
+          rest = rest;
+        }
+        record {
+          ticks = P.said ticker.new;
+          settings = C.settings_of service.new;
+          holds = C.holds service.new;
+          leaves = C.leaves service.new;
+          failed = C.failures end.new;
+          contents = W.contents writer.new;
+          replies = replies.new.items;
+          at_end = at_end;
+          left = left;
+          rest = rest;
+        } result }
     ensures grown { Grows (W.contents writer.old) (W.contents writer.new) }
     ensures end { GoesOn C.never_fails C.failures end.old end.new }
     ensures ending { IfErr result (λ e. (e ≡ Ending.NoMemory) ⊎ (e ≡ Ending.OutputFault)) }

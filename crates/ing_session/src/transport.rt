@@ -1,7 +1,6 @@
 //! Lines in from a reader, replies out to a writer. What a line says is not looked at here.
-ghost use Rattle.std.specs.Prelude.{◌≡◌, ◌≢◌, ◌⊎◌, ◌<◌, ◌≤◌, [], ℕ, List, Option, Some, IfOk, IfErr, OnOk, OnErr, IsErrOf, IfSome, IsTrue, MatchBool, Err, true, false, vec_len};
+ghost use Rattle.std.specs.Prelude.{◌≡◌, ◌≢◌, ◌⊎◌, ◌<◌, ◌≤◌, [], ℕ, List, Option, Some, IfOk, IfErr, OnOk, OnErr, IsErrOf, IfSome, IsTrue, Err, true, false, vec_len};
 ghost use Rattle.std.specs.Io.KnownBytes.{Appends, Consumes, Keeps, IsAtEnd};
-ghost use Rattle.ing_limits.specs.Settings.{StoreSettings};
 ghost use Rattle.ing_session.specs.Endings.{is_of_run};
 ghost use Rattle.ing_session.specs.Causes.{GoesOn};
 ghost use Rattle.ing_session.specs.FlushCalls.{FlushesSo};
@@ -10,7 +9,8 @@ ghost use Rattle.ing_session.specs.Lines.{TakesLine};
 ghost use Rattle.ing_session.specs.Parts.{HasNoFeed};
 ghost use Rattle.ing_session.specs.Replies.{line_text};
 ghost use Rattle.ing_session.specs.Views.{reply_data};
-ghost use Rattle.ing_session.specs.Runs.{AnswersAll, AnswersWhatWasRead, AnswersFirstLines, AnswersFront, AnswersLines, BreaksOff, HasWritten, IsLeft, Reports, with_replies, ServesKnown};
+ghost use Rattle.ing_session.specs.Runs.{AnswersAll, AnswersWhatWasRead, AnswersFirstLines, AnswersFront, AnswersLines, BreaksOff, HasWritten, IsLeft, Reports, with_replies};
+ghost use Rattle.ing_session.specs.Steps.{StepsTo};
 ghost use Rattle.ing_session.specs.declared.ticks.Tick.{Tick};
 ghost use Rattle.ing_session.specs.Unread.{left, is_ended, progress};
 
@@ -317,51 +317,32 @@ fn answer_lines<
 ) -> Result<(), Ending>
     requires may_flush { X.IsAlwaysCallable flush.now }
     requires flushes { FlushesSo C.manner C.holds C.leaves C.settings_of C.failures C.never_fails (X.post flush.now) }
-    // From whatever lines are answered so far.
-    ensures output { OnOk result ((settings : StoreSettings) (input : List ℕ) →
-        ServesKnown C.manner settings (P.said ticker.old) (C.settings_of service.old) (C.holds service.old) input
-        (C.failures end.old) (C.failures end.old) (W.contents writer.old)
-        (with_replies (W.contents writer.old) replies.old.items) (is_ended lines.old)
-        (left lines.old (R.remaining reader.old)) →
-        AnswersLines C.manner settings (P.said ticker.new) (C.holds service.new) input (C.failures end.old) (C.failures end.new)
-        (W.contents writer.old) (with_replies (W.contents writer.new) replies.new.items)) }
-    ensures input_fault { IsErrOf result Ending.InputFault → (settings : StoreSettings) (input : List ℕ) →
-        ServesKnown C.manner settings (P.said ticker.old) (C.settings_of service.old) (C.holds service.old) input
-        (C.failures end.old) (C.failures end.old) (W.contents writer.old)
-        (with_replies (W.contents writer.old) replies.old.items) (is_ended lines.old)
-        (left lines.old (R.remaining reader.old)) →
-        AnswersWhatWasRead C.manner settings (P.said ticker.new) input (R.remaining reader.new)
-        (C.failures end.old) (C.failures end.new)
-        (W.contents writer.old) (with_replies (W.contents writer.new) replies.new.items) }
-    ensures no_memory { IsErrOf result Ending.NoMemory → (settings : StoreSettings) (input : List ℕ) →
-        ServesKnown C.manner settings (P.said ticker.old) (C.settings_of service.old) (C.holds service.old) input
-        (C.failures end.old) (C.failures end.old) (W.contents writer.old)
-        (with_replies (W.contents writer.old) replies.old.items) (is_ended lines.old)
-        (left lines.old (R.remaining reader.old)) →
-        AnswersFirstLines C.manner settings (P.said ticker.new) input (C.failures end.old) (C.failures end.new)
-        (W.contents writer.old) (with_replies (W.contents writer.new) replies.new.items) }
-    ensures output_fault { IsErrOf result Ending.OutputFault → (settings : StoreSettings) (input : List ℕ) →
-        ServesKnown C.manner settings (P.said ticker.old) (C.settings_of service.old) (C.holds service.old) input
-        (C.failures end.old) (C.failures end.old) (W.contents writer.old)
-        (with_replies (W.contents writer.old) replies.old.items) (is_ended lines.old)
-        (left lines.old (R.remaining reader.old)) →
-        AnswersFront C.manner settings (P.said ticker.new) input (C.failures end.old) (C.failures end.new)
-        (W.contents writer.old) (W.contents writer.new) }
-    ensures broken { (e : Ending) → IsErrOf result e → e ≢ Ending.OutputFault →
-        (settings : StoreSettings) (input : List ℕ) →
-        ServesKnown C.manner settings (P.said ticker.old) (C.settings_of service.old) (C.holds service.old) input
-        (C.failures end.old) (C.failures end.old) (W.contents writer.old)
-        (with_replies (W.contents writer.old) replies.old.items) (is_ended lines.old)
-        (left lines.old (R.remaining reader.old)) →
-        BreaksOff C.manner settings (P.said ticker.new) (IsLeft C.holds C.leaves service.new) input (C.failures end.old) (C.failures end.new)
-        (Appends (W.contents writer.old) (with_replies (W.contents writer.new) replies.new.items)) }
-    ensures cut { IsErrOf result Ending.OutputFault → (settings : StoreSettings) (input : List ℕ) →
-        ServesKnown C.manner settings (P.said ticker.old) (C.settings_of service.old) (C.holds service.old) input
-        (C.failures end.old) (C.failures end.old) (W.contents writer.old)
-        (with_replies (W.contents writer.old) replies.old.items) (is_ended lines.old)
-        (left lines.old (R.remaining reader.old)) →
-        BreaksOff C.manner settings (P.said ticker.new) (IsLeft C.holds C.leaves service.new) input (C.failures end.old) (C.failures end.new)
-        (AppendsFront (W.contents writer.old) (W.contents writer.new)) }
+    // From whatever lines are answered so far, to the end.
+    ensures step { StepsTo C.manner (λ _. false)
+        record {
+          ticks = P.said ticker.old;
+          settings = C.settings_of service.old;
+          holds = C.holds service.old;
+          leaves = C.leaves service.old;
+          failed = C.failures end.old;
+          contents = W.contents writer.old;
+          replies = replies.old.items;
+          at_end = is_ended lines.old;
+          left = left lines.old (R.remaining reader.old);
+          rest = R.remaining reader.old;
+        }
+        record {
+          ticks = P.said ticker.new;
+          settings = C.settings_of service.new;
+          holds = C.holds service.new;
+          leaves = C.leaves service.new;
+          failed = C.failures end.new;
+          contents = W.contents writer.new;
+          replies = replies.new.items;
+          at_end = is_ended lines.new;
+          left = left lines.new (R.remaining reader.new);
+          rest = R.remaining reader.new;
+        } result }
     ensures grown { Grows (W.contents writer.old) (W.contents writer.new) }
     ensures end { GoesOn C.never_fails C.failures end.old end.new }
     ensures ending { IfErr result (λ e. IsTrue (is_of_run e)) }
@@ -414,54 +395,31 @@ fn serve<
 ) -> Result<bool, Ending>
     requires may_flush { X.IsAlwaysCallable flush.now }
     requires flushes { FlushesSo C.manner C.holds C.leaves C.settings_of C.failures C.never_fails (X.post flush.now) }
-    ensures served { IfOk result (λ more.
-        (first : Option (List ℕ)) (before : ℕ) (settings : StoreSettings) (input : List ℕ) →
-        ServesKnown C.manner settings (P.said ticker.old) (C.settings_of service.old) (C.holds service.old) input before (C.failures end.old) first
-        (with_replies (W.contents writer.old) replies.old.items) (is_ended lines.old)
-        (left lines.old (R.remaining reader.old)) →
-        MatchBool more
-        (ServesKnown C.manner settings (P.said ticker.new) (C.settings_of service.new) (C.holds service.new) input before (C.failures end.new) first
-        (with_replies (W.contents writer.new) replies.new.items) (is_ended lines.new)
-        (left lines.new (R.remaining reader.new)))
-        (AnswersLines C.manner settings (P.said ticker.new) (C.holds service.new) input before (C.failures end.new) first
-        (with_replies (W.contents writer.new) replies.new.items))) }
-    ensures input_fault { IsErrOf result Ending.InputFault →
-        (first : Option (List ℕ)) (before : ℕ) (settings : StoreSettings) (input : List ℕ) →
-        ServesKnown C.manner settings (P.said ticker.old) (C.settings_of service.old) (C.holds service.old) input before (C.failures end.old) first
-        (with_replies (W.contents writer.old) replies.old.items) (is_ended lines.old)
-        (left lines.old (R.remaining reader.old)) →
-        AnswersWhatWasRead C.manner settings (P.said ticker.new) input (R.remaining reader.new) before (C.failures end.new)
-        first (with_replies (W.contents writer.new) replies.new.items) }
-    ensures no_memory { IsErrOf result Ending.NoMemory →
-        (first : Option (List ℕ)) (before : ℕ) (settings : StoreSettings) (input : List ℕ) →
-        ServesKnown C.manner settings (P.said ticker.old) (C.settings_of service.old) (C.holds service.old) input before (C.failures end.old) first
-        (with_replies (W.contents writer.old) replies.old.items) (is_ended lines.old)
-        (left lines.old (R.remaining reader.old)) →
-        AnswersFirstLines C.manner settings (P.said ticker.new) input before (C.failures end.new) first
-        (with_replies (W.contents writer.new) replies.new.items) }
-    ensures output_fault { IsErrOf result Ending.OutputFault →
-        (first : Option (List ℕ)) (before : ℕ) (settings : StoreSettings) (input : List ℕ) →
-        Grows first (W.contents writer.old) →
-        ServesKnown C.manner settings (P.said ticker.old) (C.settings_of service.old) (C.holds service.old) input before (C.failures end.old) first
-        (with_replies (W.contents writer.old) replies.old.items) (is_ended lines.old)
-        (left lines.old (R.remaining reader.old)) →
-        AnswersFront C.manner settings (P.said ticker.new) input before (C.failures end.new)
-        first (W.contents writer.new) }
-    ensures broken { (e : Ending) → IsErrOf result e → e ≢ Ending.OutputFault →
-        (first : Option (List ℕ)) (before : ℕ) (settings : StoreSettings) (input : List ℕ) →
-        ServesKnown C.manner settings (P.said ticker.old) (C.settings_of service.old) (C.holds service.old) input before (C.failures end.old) first
-        (with_replies (W.contents writer.old) replies.old.items) (is_ended lines.old)
-        (left lines.old (R.remaining reader.old)) →
-        BreaksOff C.manner settings (P.said ticker.new) (IsLeft C.holds C.leaves service.new) input before (C.failures end.new)
-        (Appends first (with_replies (W.contents writer.new) replies.new.items)) }
-    ensures cut { IsErrOf result Ending.OutputFault →
-        (first : Option (List ℕ)) (before : ℕ) (settings : StoreSettings) (input : List ℕ) →
-        Grows first (W.contents writer.old) →
-        ServesKnown C.manner settings (P.said ticker.old) (C.settings_of service.old) (C.holds service.old) input before (C.failures end.old) first
-        (with_replies (W.contents writer.old) replies.old.items) (is_ended lines.old)
-        (left lines.old (R.remaining reader.old)) →
-        BreaksOff C.manner settings (P.said ticker.new) (IsLeft C.holds C.leaves service.new) input before (C.failures end.new)
-        (AppendsFront first (W.contents writer.new)) }
+    ensures step { StepsTo C.manner (λ more. more)
+        record {
+          ticks = P.said ticker.old;
+          settings = C.settings_of service.old;
+          holds = C.holds service.old;
+          leaves = C.leaves service.old;
+          failed = C.failures end.old;
+          contents = W.contents writer.old;
+          replies = replies.old.items;
+          at_end = is_ended lines.old;
+          left = left lines.old (R.remaining reader.old);
+          rest = R.remaining reader.old;
+        }
+        record {
+          ticks = P.said ticker.new;
+          settings = C.settings_of service.new;
+          holds = C.holds service.new;
+          leaves = C.leaves service.new;
+          failed = C.failures end.new;
+          contents = W.contents writer.new;
+          replies = replies.new.items;
+          at_end = is_ended lines.new;
+          left = left lines.new (R.remaining reader.new);
+          rest = R.remaining reader.new;
+        } result }
     ensures grown { Grows (W.contents writer.old) (W.contents writer.new) }
     ensures progress { IfOk result (λ more. more ≡ true → progress lines.old < progress lines.new) }
     ensures end { GoesOn C.never_fails C.failures end.old end.new }
@@ -494,54 +452,31 @@ fn serve_line<
 ) -> Result<bool, Ending>
     requires may_flush { X.IsAlwaysCallable flush.now }
     requires flushes { FlushesSo C.manner C.holds C.leaves C.settings_of C.failures C.never_fails (X.post flush.now) }
-    ensures served { IfOk result (λ more.
-        (first : Option (List ℕ)) (before : ℕ) (settings : StoreSettings) (ticks : Option (List Tick)) (input : List ℕ) →
-        ServesKnown C.manner settings ticks (C.settings_of service.old) (C.holds service.old) input before (C.failures end.old) first
-        (with_replies (W.contents writer.old) replies.old.items) (is_ended lines.old)
-        (left lines.old (R.remaining reader.old)) →
-        MatchBool more
-        (ServesKnown C.manner settings ticks (C.settings_of service.new) (C.holds service.new) input before (C.failures end.new) first
-        (with_replies (W.contents writer.new) replies.new.items) (is_ended lines.new)
-        (left lines.new (R.remaining reader.new)))
-        (AnswersLines C.manner settings ticks (C.holds service.new) input before (C.failures end.new) first
-        (with_replies (W.contents writer.new) replies.new.items))) }
-    ensures input_fault { IsErrOf result Ending.InputFault →
-        (first : Option (List ℕ)) (before : ℕ) (settings : StoreSettings) (ticks : Option (List Tick)) (input : List ℕ) →
-        ServesKnown C.manner settings ticks (C.settings_of service.old) (C.holds service.old) input before (C.failures end.old) first
-        (with_replies (W.contents writer.old) replies.old.items) (is_ended lines.old)
-        (left lines.old (R.remaining reader.old)) →
-        AnswersWhatWasRead C.manner settings ticks input (R.remaining reader.new) before (C.failures end.new)
-        first (with_replies (W.contents writer.new) replies.new.items) }
-    ensures no_memory { IsErrOf result Ending.NoMemory →
-        (first : Option (List ℕ)) (before : ℕ) (settings : StoreSettings) (ticks : Option (List Tick)) (input : List ℕ) →
-        ServesKnown C.manner settings ticks (C.settings_of service.old) (C.holds service.old) input before (C.failures end.old) first
-        (with_replies (W.contents writer.old) replies.old.items) (is_ended lines.old)
-        (left lines.old (R.remaining reader.old)) →
-        AnswersFirstLines C.manner settings ticks input before (C.failures end.new) first
-        (with_replies (W.contents writer.new) replies.new.items) }
-    ensures output_fault { IsErrOf result Ending.OutputFault →
-        (first : Option (List ℕ)) (before : ℕ) (settings : StoreSettings) (ticks : Option (List Tick)) (input : List ℕ) →
-        Grows first (W.contents writer.old) →
-        ServesKnown C.manner settings ticks (C.settings_of service.old) (C.holds service.old) input before (C.failures end.old) first
-        (with_replies (W.contents writer.old) replies.old.items) (is_ended lines.old)
-        (left lines.old (R.remaining reader.old)) →
-        AnswersFront C.manner settings ticks input before (C.failures end.new)
-        first (W.contents writer.new) }
-    ensures broken { (e : Ending) → IsErrOf result e → e ≢ Ending.OutputFault →
-        (first : Option (List ℕ)) (before : ℕ) (settings : StoreSettings) (ticks : Option (List Tick)) (input : List ℕ) →
-        ServesKnown C.manner settings ticks (C.settings_of service.old) (C.holds service.old) input before (C.failures end.old) first
-        (with_replies (W.contents writer.old) replies.old.items) (is_ended lines.old)
-        (left lines.old (R.remaining reader.old)) →
-        BreaksOff C.manner settings ticks (IsLeft C.holds C.leaves service.new) input before (C.failures end.new)
-        (Appends first (with_replies (W.contents writer.new) replies.new.items)) }
-    ensures cut { IsErrOf result Ending.OutputFault →
-        (first : Option (List ℕ)) (before : ℕ) (settings : StoreSettings) (ticks : Option (List Tick)) (input : List ℕ) →
-        Grows first (W.contents writer.old) →
-        ServesKnown C.manner settings ticks (C.settings_of service.old) (C.holds service.old) input before (C.failures end.old) first
-        (with_replies (W.contents writer.old) replies.old.items) (is_ended lines.old)
-        (left lines.old (R.remaining reader.old)) →
-        BreaksOff C.manner settings ticks (IsLeft C.holds C.leaves service.new) input before (C.failures end.new)
-        (AppendsFront first (W.contents writer.new)) }
+    ensures step { (ticks : Option (List Tick)) → StepsTo C.manner (λ more. more)
+        record {
+          ticks = ticks;
+          settings = C.settings_of service.old;
+          holds = C.holds service.old;
+          leaves = C.leaves service.old;
+          failed = C.failures end.old;
+          contents = W.contents writer.old;
+          replies = replies.old.items;
+          at_end = is_ended lines.old;
+          left = left lines.old (R.remaining reader.old);
+          rest = R.remaining reader.old;
+        }
+        record {
+          ticks = ticks;
+          settings = C.settings_of service.new;
+          holds = C.holds service.new;
+          leaves = C.leaves service.new;
+          failed = C.failures end.new;
+          contents = W.contents writer.new;
+          replies = replies.new.items;
+          at_end = is_ended lines.new;
+          left = left lines.new (R.remaining reader.new);
+          rest = R.remaining reader.new;
+        } result }
     ensures grown { Grows (W.contents writer.old) (W.contents writer.new) }
     ensures progress { IfOk result (λ more. more ≡ true → progress lines.old < progress lines.new) }
     ensures end { GoesOn C.never_fails C.failures end.old end.new }

@@ -1,13 +1,13 @@
-use Rattle.std.proofs.Common.{Err, ap, arith, refl}
+use Rattle.std.proofs.Common.{arith, refl}
 use Rattle.std.proofs.lemmas.Result.{err_from_is_err_and}
 use Rattle.ing_session.proofs.CausesLaws.{goes_on}
-use Rattle.ing_session.proofs.EndingsLaws.{same_fault}
 use Rattle.ing_session.proofs.FrontsLaws.{grows_none, grows_on}
+use Rattle.ing_session.proofs.StepsLaws.{alike, ends, then_steps}
 use Rattle.ing_session.proofs.heeding.heed_all.Goals as goal
 
 pub loop-init : goal.loop-init
 loop-init g c = record {
-  heeded = λ first before settings input at_end left known. known;
+  step = λ at_end left rest. record { leads = λ began serves. serves };
   grown = grows_none (g.W.Write.contents c.args.writer.now);
   end = (omega arith, λ sure. (sure, refl));
 }
@@ -19,15 +19,16 @@ loop-preserved g c =
     let before = c.loop in
     let new = c.heed.new in
     record {
-      heeded = λ first start settings input at_end left known. c.in_ok-heed.ensures.heeded first start settings input at_end left (before.invariant.heeded first start settings input at_end left known);
+      step = λ at_end left rest.
+          alike refl (then_steps (before.invariant.step at_end left rest) (c.in_ok-heed.ensures.step at_end left rest) before.invariant.grown);
       grown = grows_on (contents c.args.writer.now) (contents before.writer) (contents new.writer) before.invariant.grown c.in_ok-heed.ensures.grown;
       end = goes_on g.C.Service.never_fails g.C.Service.failures c.args.end.now before.end new.end before.invariant.end c.in_ok-heed.ensures.end;
     }
 
 -- it says nothing more
-pub returns-then-not-branch-clause-heeded : goal.returns-then-not-branch-clause-heeded
-returns-then-not-branch-clause-heeded g c = λ first start settings input at_end left known.
-    c.in_ok-heed.ensures.heeded first start settings input at_end left (c.loop.invariant.heeded first start settings input at_end left known)
+pub returns-then-not-branch-clause-step : goal.returns-then-not-branch-clause-step
+returns-then-not-branch-clause-step g c = λ at_end left rest.
+    alike refl (then_steps (c.loop.invariant.step at_end left rest) (c.in_ok-heed.ensures.step at_end left rest) c.loop.invariant.grown)
 
 pub returns-then-not-branch-clause-grown : goal.returns-then-not-branch-clause-grown
 returns-then-not-branch-clause-grown g c =
@@ -40,29 +41,10 @@ returns-then-not-branch-clause-end g c =
 
 -- it ends early
 
-pub returns-in_err-heed-clause-no_memory : goal.returns-in_err-heed-clause-no_memory
-returns-in_err-heed-clause-no_memory g c = λ is first start settings input at_end left known.
+pub returns-in_err-heed-clause-step : goal.returns-in_err-heed-clause-step
+returns-in_err-heed-clause-step g c = λ at_end left rest.
     let p = err_from_is_err_and c.from_residual.result c.from_residual.ensures.1 in
-    c.in_err-heed.ensures.no_memory (ap (λ e. Err e) (same_fault _ _ _ _ p.1 p.2 is)) first start settings input at_end left (c.loop.invariant.heeded first start settings input at_end left known)
-
-pub returns-in_err-heed-clause-output_fault : goal.returns-in_err-heed-clause-output_fault
-returns-in_err-heed-clause-output_fault g c = λ is first start settings input at_end left grown known.
-    let contents = g.W.Write.contents in
-    let p = err_from_is_err_and c.from_residual.result c.from_residual.ensures.1 in
-    c.in_err-heed.ensures.output_fault (ap (λ e. Err e) (same_fault _ _ _ _ p.1 p.2 is)) first start settings input at_end left
-    (grows_on first (contents c.args.writer.now) (contents c.loop.writer) grown c.loop.invariant.grown) (c.loop.invariant.heeded first start settings input at_end left known)
-
-pub returns-in_err-heed-clause-broken : goal.returns-in_err-heed-clause-broken
-returns-in_err-heed-clause-broken g c = λ e is other first start settings input at_end left known.
-    let p = err_from_is_err_and c.from_residual.result c.from_residual.ensures.1 in
-    c.in_err-heed.ensures.broken e (ap (λ x. Err x) (same_fault _ _ _ _ p.1 p.2 is)) other first start settings input at_end left (c.loop.invariant.heeded first start settings input at_end left known)
-
-pub returns-in_err-heed-clause-cut : goal.returns-in_err-heed-clause-cut
-returns-in_err-heed-clause-cut g c = λ is first start settings input at_end left grown known.
-    let contents = g.W.Write.contents in
-    let p = err_from_is_err_and c.from_residual.result c.from_residual.ensures.1 in
-    c.in_err-heed.ensures.cut (ap (λ e. Err e) (same_fault _ _ _ _ p.1 p.2 is)) first start settings input at_end left
-    (grows_on first (contents c.args.writer.now) (contents c.loop.writer) grown c.loop.invariant.grown) (c.loop.invariant.heeded first start settings input at_end left known)
+    then_steps (c.loop.invariant.step at_end left rest) (ends p.1 p.2 (c.in_err-heed.ensures.step at_end left rest).leads) c.loop.invariant.grown
 
 pub returns-in_err-heed-clause-grown : goal.returns-in_err-heed-clause-grown
 returns-in_err-heed-clause-grown g c =

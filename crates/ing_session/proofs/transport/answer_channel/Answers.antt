@@ -1,8 +1,7 @@
 use Rattle.std.proofs.Common.{inl, refl, Some, []}
 use Rattle.ing_session.specs.Runs.{IsLeft}
-use Rattle.ing_session.specs.Unread.{is_ended, unread}
-use Rattle.ing_session.proofs.KnownLaws.{if_some_then, on_ok_then}
-use Rattle.ing_session.proofs.RunsLaws.{begins, channel_unread}
+use Rattle.ing_session.proofs.RunsLaws.{channel_unread}
+use Rattle.ing_session.proofs.StepsLaws.{answered_all, begins, is_cut_off, stops_off}
 use Rattle.ing_session.proofs.transport.answer_channel.Goals as goal
 
 -- there was no room to read anything
@@ -14,29 +13,18 @@ returns-in_err-lines-clause-broken g c = λ e is other.
 
 pub returns-clause-output : goal.returns-clause-output
 returns-clause-output g c =
-    let contents = g.W.Write.contents in
-    let known = g.R.Read.remaining c.args.reader.now in
-    let settings = g.C.Service.settings_of c.args.service.now in
-    on_ok_then c.answer_lines.result
-    (λ lines. if_some_then _ _ known (λ input serves. lines settings input serves)
-    (begins g.C.Service.manner settings (Some []) (g.C.Service.holds c.args.service.now) (g.C.Service.failures c.args.end.now) (contents c.args.writer.now) c.args.replies.now.items (unread c.in_ok-lines.lines) (is_ended c.in_ok-lines.lines)
-    c.requires.none c.in_ok-lines.ensures.open c.in_ok-lines.ensures.nothing_read c.requires.nothing refl known))
-    c.answer_lines.ensures.output
+    let lines = c.in_ok-lines.ensures in
+    answered_all c.answer_lines.result c.answer_lines.ensures.step
+    (begins (g.R.Read.remaining c.args.reader.now) c.requires.none lines.open lines.nothing_read refl c.requires.nothing refl)
 
 pub returns-clause-broken : goal.returns-clause-broken
-returns-clause-broken g c = λ e is other.
-    let contents = g.W.Write.contents in
-    let known = g.R.Read.remaining c.args.reader.now in
-    let settings = g.C.Service.settings_of c.args.service.now in
-    if_some_then _ _ known (λ input serves. c.answer_lines.ensures.broken e is other settings input serves)
-    (begins g.C.Service.manner settings (Some []) (g.C.Service.holds c.args.service.now) (g.C.Service.failures c.args.end.now) (contents c.args.writer.now) c.args.replies.now.items (unread c.in_ok-lines.lines) (is_ended c.in_ok-lines.lines)
-    c.requires.none c.in_ok-lines.ensures.open c.in_ok-lines.ensures.nothing_read c.requires.nothing refl known)
+returns-clause-broken g c =
+    let lines = c.in_ok-lines.ensures in
+    stops_off c.answer_lines.ensures.step
+    (begins (g.R.Read.remaining c.args.reader.now) c.requires.none lines.open lines.nothing_read refl c.requires.nothing refl)
 
 pub returns-clause-cut : goal.returns-clause-cut
-returns-clause-cut g c = λ is.
-    let contents = g.W.Write.contents in
-    let known = g.R.Read.remaining c.args.reader.now in
-    let settings = g.C.Service.settings_of c.args.service.now in
-    if_some_then _ _ known (λ input serves. c.answer_lines.ensures.cut is settings input serves)
-    (begins g.C.Service.manner settings (Some []) (g.C.Service.holds c.args.service.now) (g.C.Service.failures c.args.end.now) (contents c.args.writer.now) c.args.replies.now.items (unread c.in_ok-lines.lines) (is_ended c.in_ok-lines.lines)
-    c.requires.none c.in_ok-lines.ensures.open c.in_ok-lines.ensures.nothing_read c.requires.nothing refl known)
+returns-clause-cut g c =
+    let lines = c.in_ok-lines.ensures in
+    is_cut_off c.answer_lines.ensures.step
+    (begins (g.R.Read.remaining c.args.reader.now) c.requires.none lines.open lines.nothing_read refl c.requires.nothing refl)

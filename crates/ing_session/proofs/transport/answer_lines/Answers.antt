@@ -1,13 +1,13 @@
-use Rattle.std.proofs.Common.{Err, ap, arith, refl}
+use Rattle.std.proofs.Common.{arith, refl}
 use Rattle.std.proofs.lemmas.Result.{err_from_is_err_and}
-use Rattle.ing_session.proofs.EndingsLaws.{same_fault}
 use Rattle.ing_session.proofs.CausesLaws.{goes_on}
 use Rattle.ing_session.proofs.FrontsLaws.{grows_none, grows_on}
+use Rattle.ing_session.proofs.StepsLaws.{alike, ends, then_steps}
 use Rattle.ing_session.proofs.transport.answer_lines.Goals as goal
 
 pub loop-line-init : goal.loop-line-init
 loop-line-init g c = record {
-  served = λ settings input known. known;
+  step = record { leads = λ began serves. serves };
   grown = grows_none (g.W.Write.contents c.args.writer.now);
   end = (omega arith, λ sure. (sure, refl));
 }
@@ -37,42 +37,18 @@ loop-line-preserved g c =
     let before = c.loop-line in
     let new = c.serve.new in
     record {
-      served = λ settings input known.
-          rw c.if-not-branch.false at (c.in_ok-serve.ensures.served (contents c.args.writer.now) (g.C.Service.failures c.args.end.now) settings input (before.invariant.served settings input known));
+      step = alike c.if-not-branch.false (then_steps before.invariant.step c.in_ok-serve.ensures.step before.invariant.grown);
       grown = grows_on (contents c.args.writer.now) (contents before.writer) (contents new.writer) before.invariant.grown c.in_ok-serve.ensures.grown;
       end = goes_on g.C.Service.never_fails g.C.Service.failures c.args.end.now before.end new.end before.invariant.end c.in_ok-serve.ensures.end;
     }
 
 -- there was no line
-pub returns-then-not-branch-clause-output : goal.returns-then-not-branch-clause-output
-returns-then-not-branch-clause-output g c = λ settings input known.
-    rw c.if-not-branch.true at (c.in_ok-serve.ensures.served (g.W.Write.contents c.args.writer.now) (g.C.Service.failures c.args.end.now) settings input (c.loop-line.invariant.served settings input known))
+pub returns-then-not-branch-clause-step : goal.returns-then-not-branch-clause-step
+returns-then-not-branch-clause-step g c =
+    alike c.if-not-branch.true (then_steps c.loop-line.invariant.step c.in_ok-serve.ensures.step c.loop-line.invariant.grown)
 
--- a read failed
-pub returns-in_err-serve-clause-input_fault : goal.returns-in_err-serve-clause-input_fault
-returns-in_err-serve-clause-input_fault g c = λ is settings input known.
+-- it ends early
+pub returns-in_err-serve-clause-step : goal.returns-in_err-serve-clause-step
+returns-in_err-serve-clause-step g c =
     let p = err_from_is_err_and c.from_residual.result c.from_residual.ensures.1 in
-    c.in_err-serve.ensures.input_fault (ap (λ e. Err e) (same_fault _ _ _ _ p.1 p.2 is)) (g.W.Write.contents c.args.writer.now) (g.C.Service.failures c.args.end.now) settings input (c.loop-line.invariant.served settings input known)
-
--- memory ran out
-pub returns-in_err-serve-clause-no_memory : goal.returns-in_err-serve-clause-no_memory
-returns-in_err-serve-clause-no_memory g c = λ is settings input known.
-    let p = err_from_is_err_and c.from_residual.result c.from_residual.ensures.1 in
-    c.in_err-serve.ensures.no_memory (ap (λ e. Err e) (same_fault _ _ _ _ p.1 p.2 is)) (g.W.Write.contents c.args.writer.now) (g.C.Service.failures c.args.end.now) settings input (c.loop-line.invariant.served settings input known)
-
--- a write failed
-pub returns-in_err-serve-clause-output_fault : goal.returns-in_err-serve-clause-output_fault
-returns-in_err-serve-clause-output_fault g c = λ is settings input known.
-    let p = err_from_is_err_and c.from_residual.result c.from_residual.ensures.1 in
-    c.in_err-serve.ensures.output_fault (ap (λ e. Err e) (same_fault _ _ _ _ p.1 p.2 is)) (g.W.Write.contents c.args.writer.now) (g.C.Service.failures c.args.end.now) settings input c.loop-line.invariant.grown (c.loop-line.invariant.served settings input known)
-
--- what is left of a channel
-pub returns-in_err-serve-clause-broken : goal.returns-in_err-serve-clause-broken
-returns-in_err-serve-clause-broken g c = λ e is other settings input known.
-    let p = err_from_is_err_and c.from_residual.result c.from_residual.ensures.1 in
-    c.in_err-serve.ensures.broken e (ap (λ x. Err x) (same_fault _ _ _ _ p.1 p.2 is)) other (g.W.Write.contents c.args.writer.now) (g.C.Service.failures c.args.end.now) settings input (c.loop-line.invariant.served settings input known)
-
-pub returns-in_err-serve-clause-cut : goal.returns-in_err-serve-clause-cut
-returns-in_err-serve-clause-cut g c = λ is settings input known.
-    let p = err_from_is_err_and c.from_residual.result c.from_residual.ensures.1 in
-    c.in_err-serve.ensures.cut (ap (λ e. Err e) (same_fault _ _ _ _ p.1 p.2 is)) (g.W.Write.contents c.args.writer.now) (g.C.Service.failures c.args.end.now) settings input c.loop-line.invariant.grown (c.loop-line.invariant.served settings input known)
+    then_steps c.loop-line.invariant.step (ends p.1 p.2 c.in_err-serve.ensures.step.leads) c.loop-line.invariant.grown
