@@ -14,12 +14,12 @@ use Rattle.ing_relist.specs.Ends.{is_other}
 itself : (n : ℕ) → nat_eq n n ≡ true
 itself n = grind (arith, nat_tests)
 
-both : (a b : Bool) → (a && b) ≡ true → (a ≡ true) × (b ≡ true)
+pub both : (a b : Bool) → (a && b) ≡ true → (a ≡ true) × (b ≡ true)
 both true true h = (refl, refl)
 both true false h = absurd (cc)
 both false b h = absurd (cc)
 
-same_entry : (a b : Entry) → is_same a b ≡ true → a ≡ b
+pub same_entry : (a b : Entry) → is_same a b ≡ true → a ≡ b
 same_entry a b h =
     let p = both (nat_eq a.stamp b.stamp) (bytes_eq a.line b.line) h in
     λ i. record { stamp = eqb-true a.stamp b.stamp p.0 i; line = (bytes_eq-Decides a.line b.line).0 p.1 i }

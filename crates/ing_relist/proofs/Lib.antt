@@ -1,3 +1,4 @@
 mod CountLaws
 mod EndLaws
 mod ExtentLaws
+mod SameLaws

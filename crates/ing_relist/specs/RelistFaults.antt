@@ -1,7 +1,7 @@
 -- What a fault of a re-listing tells of the store (own).
 use Rattle.std.specs.Prelude.{◌≡◌, ℕ, ◌+◌, ◌≤◌, List, Option, Some, None, Result, Ok, Err, IfErr}
 use Rattle.sha2.specs.Sha256.{sha256}
-use Rattle.ing_codec.specs.ChunkObjects.{ChunkObject, chunk_text}
+use Rattle.ing_codec.specs.ChunkObjects.{ChunkObject}
 use Rattle.ing_codec.specs.ChunkReading.{read_chunk}
 use Rattle.ing_codec.specs.RowObjects.{RowObject}
 use Rattle.ing_parts.specs.Listings.{IsListing, blocks_in}
@@ -49,21 +49,21 @@ BadMeans P (BadObject key) = P
 abbrev pub HasBad : {T : Type 0} → Type 0 → Result T RelistFault → Type 0
 HasBad P result = IfErr result (BadMeans P)
 
--- A receipt of an object of this name was given, and the bytes that it means are not the text of a chunk of which this is told, or
--- of one that ends with another entry than this.
+-- A receipt of an object of this name was given, and the bytes that it means are not read as a chunk of which this is told, or as
+-- one that ends with another entry than this.
 abbrev pub WasOther : {R : Type 0} → (R → List ℕ) → (R → List ℕ) → List ℕ → RowObject → Option Entry → Type 0
 WasOther {R} name bytes wanted row last =
     (r : R) × (name r ≡ wanted)
     × (IsListing (bytes r) row → EndsWith last (row.extent.first + row.extent.count) (blocks_in (read_chunk (bytes r))) → ⊥)
 
--- Bytes are the text of a chunk, and this is their key.
-pub record IsTextOf (object : ChunkObject) (key bytes : List ℕ) : Type 0 where
-  pub text : bytes ≡ chunk_text object
+-- Bytes are read as a chunk, and this is their key.
+pub record IsReadAs (object : ChunkObject) (key bytes : List ℕ) : Type 0 where
+  pub read : read_chunk bytes ≡ Ok object
   pub hash : key ≡ sha256 bytes
 
--- A receipt of an object of this name was given, and the bytes that it means are not that.
-abbrev pub WasNoText : {R : Type 0} → (R → List ℕ) → (R → List ℕ) → List ℕ → ChunkObject → List ℕ → Type 0
-WasNoText {R} name bytes wanted object key = (r : R) × (name r ≡ wanted) × (IsTextOf object key (bytes r) → ⊥)
+-- A receipt of an object of this name was given, and the bytes that it means are not read as this chunk, or have another key.
+abbrev pub WasAnother : {R : Type 0} → (R → List ℕ) → (R → List ℕ) → List ℕ → ChunkObject → List ℕ → Type 0
+WasAnother {R} name bytes wanted object key = (r : R) × (name r ≡ wanted) × (IsReadAs object key (bytes r) → ⊥)
 
 -- what an end's answer comes to
 abbrev pub taken_of : {T : Type 0} → List ℕ → Result (Option T) store.StoreFault → Result T RelistFault

@@ -5,6 +5,7 @@
 mod counted;
 mod ends;
 mod relisting;
+mod same;
 
 pub use ing_refusals::RelistFault;
 pub use relisting::{relist, relist_chunk};
