@@ -53,16 +53,17 @@ impl<'a, H: Clock + Wait, R: Files> InputClock<'a, H, R> {
 
 impl<'a, H: Clock + Wait, R: Files> Ticker for InputClock<'a, H, R> {
     fn next_tick(&mut self, at_hand: bool) -> Option<Tick> {
-        if self.periods.are_none() {
+        let due = self.periods.due();
+        if due.is_some() || at_hand || self.periods.are_none() {
+            return due;
+        }
+        let feed = self.feed?;
+        let rest = self.periods.rest().ok()?;
+        // A line that has come goes before a period that only now began: periods of nanoseconds would leave it no time.
+        if feed.wait(self.rt, rest) {
             return None;
         }
-        if let Some(feed) = self.feed
-            && !at_hand
-            && let Ok(rest) = self.periods.rest()
-        {
-            feed.wait(self.rt, rest);
-        }
-        self.periods.next().ok().flatten()
+        self.periods.due()
     }
 }
 

@@ -111,11 +111,14 @@ impl Feed {
         Ok(())
     }
 
-    /// Waits for so long until there is something to be taken, or the end of the input.
-    pub(crate) fn wait<H: Wait + Clock>(&self, rt: &H, most: Duration) {
+    /// Waits for so long until there is something to be taken, or the end of the input, and gives whether there is.
+    pub(crate) fn wait<H: Wait + Clock>(&self, rt: &H, most: Duration) -> bool {
         let ahead = self.ahead.lock(rt);
-        self.changed
+        let (ahead, waited) = self
+            .changed
             .wait_timeout_while(rt, ahead, most, |ahead| ahead.is_waited_for());
+        drop(ahead);
+        !waited.timed_out()
     }
 
     /// What to read into first, once this is begun.

@@ -102,6 +102,11 @@ impl<'a, C: Clock, R: Files> Periods<'a, C, R> {
         Ok(Some(tick))
     }
 
+    /// The same, or nothing where that fails.
+    pub(crate) fn due(&mut self) -> Option<Tick> {
+        self.next().ok().flatten()
+    }
+
     /// A sweep at this time.
     fn sweep(&self) -> io::Result<Tick> {
         match sweep_at(SystemTime::now(self.clock)?) {
