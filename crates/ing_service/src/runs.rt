@@ -26,7 +26,8 @@ use std::thread::Threads;
 
 /// Reads commands line by line, answers each in a line, and writes a report at the end of input, over new shards of these settings,
 /// which have no logs; flushes put into the store by `ends`, and queries read by them. Where the settings have
-/// a `flush_check_period` the clock is asked, and what it says between lines is done, too. As `serve_all`. (Own.)
+/// a `flush_check_period` the clock is asked, and what it says between lines is done, too. What the shards hold at the end is left to the
+/// system, since the program ends then. As `serve_all`. (Own.)
 pub fn run<
     H: Threads + Sync,
     I: Read,

@@ -72,7 +72,7 @@ pub fn serve_all<
 {
     let mut service = service;
     let ended = serve_lines(alloc, reader, writer, end, &mut service, flush, ticker);
-    // All is written by now: giving back what is in memory may take a while.
+    // All is written by now: nobody waits for what letting go takes.
     service.put_away();
     ended
 }
