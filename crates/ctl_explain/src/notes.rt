@@ -5,8 +5,8 @@ ghost use Rattle.ctl_explain.specs.Notes as specs;
 
 use crate::member::Field;
 use crate::nearest::nearest;
-use crate::shape::text_at;
 use crate::walk::fields_of;
+use ing_commands::shape::text_at;
 use serde_json::{Map, Value};
 use std::alloc::{AllocError, Global};
 use std::fmt;

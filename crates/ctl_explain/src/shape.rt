@@ -1,79 +1,16 @@
 //! What is tested of each member of a command by itself. It takes no memory.
 ghost use Rattle.std.specs.Prelude.{◌≡◌, Bool};
-ghost use Rattle.serde_json.specs.View.{view, items_view, members_view};
-ghost use Rattle.ing_refusals.specs.Results.{Returns};
-ghost use Rattle.ing_commands.specs.Shapes.{text_of, text_at, text_or, number_at, array_at, object_at};
+ghost use Rattle.serde_json.specs.View.{view, items_view};
 ghost use Rattle.ctl_explain.specs.Members as members;
 
 use crate::member::Field;
 use ing_commands::LineFault;
+use ing_commands::shape::{array_at, number_at, text_at, text_of, text_or};
 use ing_rows::{Stamp, is_tenant_id};
-use serde_json::{Map, Value};
+use serde_json::Value;
 
 /// The most entries that may be asked for.
 const MAX_LIMIT: u64 = 5000;
-
-/// The text that a value is.
-fn text_of(value: &Value) -> Result<&str, LineFault>
-    ensures { Returns (λ text. text.now) result (text_of (view value.now)) }
-{
-    value.as_str().ok_or(LineFault::BadCommand)
-}
-
-/// The member of a name, if it is a text.
-pub(crate) fn text_at<'a>(value: &'a Value, name: &str) -> Result<&'a str, LineFault>
-    ensures { Returns (λ text. text.now) result (text_at name.now (view value.now)) }
-{
-    value
-        .get(name)
-        .and_then(Value::as_str)
-        .ok_or(LineFault::BadCommand)
-}
-
-/// The member of a name, if it is a text; `absent` where there is none.
-fn text_or<'a>(value: &'a Value, name: &str, absent: &'a str) -> Result<&'a str, LineFault>
-    ensures { Returns (λ text. text.now) result (text_or name.now absent.now (view value.now)) }
-{
-    match value.get(name) {
-        Some(text) => text_of(text),
-        None => Ok(absent),
-    }
-}
-
-/// The elements of the member of a name, if it is an array.
-pub(crate) fn array_at<'a>(value: &'a Value, name: &str) -> Result<&'a [Value], LineFault>
-    ensures { Returns (λ list. items_view list.now) result (array_at name.now (view value.now)) }
-{
-    let list = value
-        .get(name)
-        .and_then(Value::as_array)
-        .ok_or(LineFault::BadCommand)?;
-    Ok(list.as_slice())
-}
-
-/// The members of the member of a name, if it is an object.
-pub(crate) fn object_at<'a>(
-    value: &'a Value,
-    name: &str,
-) -> Result<&'a Map<String, Value>, LineFault>
-    ensures { Returns (λ map. members_view map.now.entries) result
-        (object_at name.now (view value.now)) }
-{
-    value
-        .get(name)
-        .and_then(Value::as_object)
-        .ok_or(LineFault::BadCommand)
-}
-
-/// The member of a name, if it is an integer from 0 to 2^64-1.
-fn number_at(value: &Value, name: &str) -> Result<u64, LineFault>
-    ensures { Returns (λ number. number) result (number_at name.now (view value.now)) }
-{
-    value
-        .get(name)
-        .and_then(Value::as_u64)
-        .ok_or(LineFault::BadCommand)
-}
 
 /// The member `after`.
 fn test_after(value: &Value) -> Result<(), LineFault>

@@ -4,7 +4,7 @@ ghost use Rattle.serde_json.specs.View.{view, members_view};
 ghost use Rattle.ctl_explain.specs.StreamNotes as specs;
 
 use crate::nearest::nearest;
-use crate::shape::{array_at, text_at};
+use ing_commands::shape::{array_at, text_at};
 use serde_json::{Map, Value};
 use std::alloc::{AllocError, Global};
 use std::fmt;

@@ -7,8 +7,9 @@ ghost use Rattle.ctl_explain.specs.Members.{IsAtFault};
 ghost use Rattle.ctl_explain.specs.Walks as walks;
 
 use crate::member::{Field, Member, Part};
-use crate::shape::{array_at, field_test, label_test, object_at, text_at, value_test};
+use crate::shape::{field_test, label_test, value_test};
 use ing_commands::LineFault;
+use ing_commands::shape::{array_at, object_at, text_at};
 use serde_json::{Map, Value};
 
 /// Whether a test ended with this fault.

@@ -8,7 +8,7 @@ mod flush;
 mod gauges;
 mod push;
 mod query;
-mod shape;
+pub mod shape;
 mod sweep;
 
 pub use catalog::Catalog;
