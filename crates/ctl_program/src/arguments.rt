@@ -191,13 +191,6 @@ fn tick<'a>(alloc: Global) -> Result<Command<'a>, AllocError> {
 }
 
 fn query<'a>(alloc: Global) -> Result<Command<'a>, AllocError> {
-    let since = word(
-        alloc,
-        "since",
-        "DURATION",
-        "From so long ago on, as 90m, 2h or 7d",
-    )
-    .conflicts_with("start")?;
     let direction = word(
         alloc,
         "direction",
@@ -209,7 +202,7 @@ fn query<'a>(alloc: Global) -> Result<Command<'a>, AllocError> {
         .long("pages")
         .action(ArgAction::SetTrue)
         .help("The reply tells where the next page begins");
-    Command::new(alloc, "query")
+    let command = Command::new(alloc, "query")
         .about("A query as a command, or why it would be refused.")
         .arg(tenant(alloc))?
         .arg(word(
@@ -218,7 +211,29 @@ fn query<'a>(alloc: Global) -> Result<Command<'a>, AllocError> {
             "SELECTOR",
             "Which streams, as {job=\"app\"}",
         )
-        .required(true))?
+        .required(true))?;
+    of_range(alloc, command)?
+        .arg(word(
+            alloc,
+            "limit",
+            "NUMBER",
+            "At most so many entries, 1 to 5000; 100 without it",
+        ))?
+        .arg(direction)?
+        .arg(pages)?
+        .arg(now(alloc))
+}
+
+/// Takes the range of stamps of a query, too.
+fn of_range<'a>(alloc: Global, command: Command<'a>) -> Result<Command<'a>, AllocError> {
+    let since = word(
+        alloc,
+        "since",
+        "DURATION",
+        "From so long ago on, as 90m, 2h or 7d",
+    )
+    .conflicts_with("start")?;
+    command
         .arg(since)?
         .arg(word(
             alloc,
@@ -231,16 +246,7 @@ fn query<'a>(alloc: Global) -> Result<Command<'a>, AllocError> {
             "end",
             "TIME",
             "What each stamp is below, or a time of RFC 3339",
-        ))?
-        .arg(word(
-            alloc,
-            "limit",
-            "NUMBER",
-            "At most so many entries, 1 to 5000; 100 without it",
-        ))?
-        .arg(direction)?
-        .arg(pages)?
-        .arg(now(alloc))
+        ))
 }
 
 fn entries<'a>(alloc: Global) -> Result<Command<'a>, AllocError> {
