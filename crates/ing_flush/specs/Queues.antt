@@ -10,14 +10,15 @@ pub record QueueState : Type 0 where
   pub name : TableId
   pub capacity : ℕ
 
--- a pass: the name of its queue, what was put and taken by it, in order, and whether it is the queue's only one
+-- A pass, by which operations are put into a queue and taken from it, as contracts see it: the queue's name, what was put and taken
+-- by this pass, in order, and whether it is the only one of the queue.
 pub record PassState : Type 0 where
   pub queue : TableId
   pub put : List Op
   pub taken : List Op
   pub alone : Bool
 
--- what contracts see of a pass
+-- a pass as contracts see it
 abbrev pub pass_of : Pass Op Moved → PassState
 pass_of pass = record { queue = pass.table_id; put = (view pass).put; taken = (view pass).taken; alone = (view pass).alone }
 

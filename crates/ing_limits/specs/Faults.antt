@@ -6,13 +6,14 @@ use Rattle.ing_limits.specs.Settings.{Refusal, not_toml, unknown_setting, bad_se
 use Rattle.ing_limits.specs.declared.fault.SettingsFault.{SettingsFault}
 use Rattle.ing_limits.specs.declared.fault.SettingsFault.TheVariants.{NoMemory, NotToml, UnknownSetting, BadSetting}
 
+-- the row of the table of refusals that a fault of settings is
 abbrev pub fault_refusal : SettingsFault → table.Refusal
 fault_refusal NoMemory = rows.NoMemory
 fault_refusal NotToml = rows.NotToml
 fault_refusal (UnknownSetting _) = rows.UnknownSetting
 fault_refusal (BadSetting _) = rows.BadSetting
 
--- what it says of the text; want of memory says nothing
+-- what a fault says of the text; want of memory says nothing of it
 abbrev pub refusal_of : SettingsFault → Option Refusal
 refusal_of NoMemory = None
 refusal_of NotToml = Some not_toml

@@ -20,7 +20,7 @@ use Rattle.ing_flush.specs.Tallies.{amount_at}
 abbrev pub key_named : List ℕ → List ℕ → StreamKey
 key_named tenant name = record { tenant = tenant; name = name }
 
--- each is of a stream of the tenant that is picked, however the streams that the matchers select are told from the others
+-- Each entry found is of a stream of the tenant that the matchers select; `picked` is any test that tells these from the others.
 abbrev pub AreSelected : List ℕ → List Match → List Found → Type 0
 AreSelected tenant ms found =
     (picked : StreamKey → Bool) → Picks tenant ms picked → All (λ f. picked (key_named tenant f.name) ≡ true) found
@@ -49,7 +49,7 @@ pub record AreAnswerOf (tenant : List ℕ) (ms : List Match) (q : Question) (fro
   pub answer : (picked : StreamKey → Bool) → Picks tenant ms picked
       → IsAnswer q.order q.limit (flat_map (wanted_of picked q) shards) found
 
--- of no shard from this one on something stands there
+-- each entry found is of a stream whose shard, of so many, is before this place
 abbrev pub AreBelow : ℕ → List ℕ → ℕ → List Found → Type 0
 AreBelow shards tenant place found = All (λ f. shard_of tenant f.name shards < place) found
 
@@ -69,13 +69,13 @@ pub record AreToldBy (asked : Asked) (told : List ShareState) (count : ℕ) (tex
   pub no_less : AreNoLess told (map length shards)
   pub adds : AddsCatalog asked (flat_map (λ rows. rows) shards) [] texts
 
--- and they are the catalog of these rows
+-- So many shards had rows when they were looked at, as `AreToldBy` says, and the texts are the catalog of all these rows.
 pub record AreCatalogOf (asked : Asked) (told : List ShareState) (count : ℕ) (texts : List (List ℕ)) : Type 0 where
   pub shards : List (List Row)
   pub all : length shards ≡ count
   pub no_less : AreNoLess told (map length shards)
   pub lists : IsCatalog asked (flat_map (λ rows. rows) shards) texts
 
--- gauges of the tenant's rows in some state
+-- the gauges of the tenant over some rows; which rows is not said
 abbrev pub AreGauges : List ℕ → Gauges → Type 0
 AreGauges tenant gauges = (rows : List Row) × (gauges ≡ gauges_of rows tenant)
