@@ -70,7 +70,7 @@ from talks import PATIENCE, Expected, Listener, Started, Talk, speak, speak_on_c
 
 # Its folder is among those of talks.py.
 from kills import CALLS as CALLS_OF_FILES
-from kills import CLOCK, SETTINGS, Fields, Folder, Model, calls_in, draw_queries, run_traced
+from kills import SETTINGS, Fields, Folder, Model, calls_in, draw_queries, run_traced, without_clock
 
 EACH = 100  # images of one history
 OF_A_KIND = 2  # images of one kind that are built in a run
@@ -271,8 +271,7 @@ class History:
             settings |= {name: self.draw.choice(values) for name, values in OF_CHANNELS.items()}
             self.numbers = range(self.draw.randint(min(2, options.channels), options.channels))
         self.place = make_place(parent / f"history-{number}", settings, above)
-        still = {name: value for name, value in settings.items() if name not in CLOCK}
-        self.image_place = make_place(parent / f"image-{number}", still, above)
+        self.image_place = make_place(parent / f"image-{number}", without_clock(settings), above)
         self.disk, self.found, self.before = Disk(self.place.top), {}, None
         self.counts, self.order, self.loss = collections.Counter(), None, None
 
