@@ -19,7 +19,7 @@ count=$(awk -v start="$crate" '
   }
   END { visit(start); print count }' crates.txt)
 
-echo "proving $crate and what it calls, $count crates: hours of processor time where nothing is kept yet" >&2
+echo "proving $crate and what it calls, $count crates: an hour or more where nothing is kept yet" >&2
 { (cd "crates/$crate" && rt run -- "$@") </dev/null 2>&1 || echo $? >"$log.status"; } | tee "$log" | awk -v count="$count" '
   /^rt: chose --jobs [0-9]+ for / { crate = $NF; printf "%s, crate %d of at most %d\n", crate, ++place, count; fflush() }
   /^so far: [0-9]+ of [0-9]+ functions checked/ { printf "%s: %s of %s functions\n", crate, $3, $5; fflush() }' >&2
