@@ -1,4 +1,7 @@
-"""Draws honest chunk objects, index rows and logs, and takes others from folders that the program wrote."""
+"""Draws honest chunk objects, index rows and logs, and takes others from folders that the program wrote.
+
+About half of the logs are of each version, and so are the chunk objects that are drawn.
+"""
 import hashlib
 import json
 import pathlib
@@ -7,8 +10,8 @@ import sys
 from dataclasses import dataclass
 
 from fitting import Shard
-from formats import FORCED, IDLE, MAXIMUM_AGE, Blocks, ChunkObject, Entry, IndexRow, Listing, Push, Seals, StoredChunk
-from formats import shard_of
+from formats import FORCED, IDLE, MAXIMUM_AGE, VERSIONS, Blocks, ChunkObject, Entry, IndexRow, Listing, Push, Seals
+from formats import StoredChunk, records_of, shard_of
 from spelling import chunk_text, payload, record, row_text
 
 sys.path.insert(0, str(pathlib.Path(__file__).resolve().parent.parent / "kills"))
@@ -59,7 +62,7 @@ def draw_chunk(draw, names):
         blocks.entries += block
     name, count = draw.choice(draw.choice(names)), len(blocks.entries)
     first = draw.choice([0, 0, 7, 2**32 - 1, 2**62 - count - 1, 2**62 - count])
-    return chunk_text(ChunkObject(name.tenant, name.name, first, blocks))
+    return chunk_text(ChunkObject(name.tenant, name.name, first, blocks), draw.choice(VERSIONS))
 
 
 def draw_row(draw, names):
@@ -74,15 +77,15 @@ def draw_row(draw, names):
 def draw_log(draw, settings, names, objects):
     """The text of a log of a shard with these streams: a checkpoint, and records that fit. What it calls stored is put among
     the objects."""
-    shard = Shard(settings, objects)
+    shard, version = Shard(settings, objects), draw.choice(VERSIONS)
     for _ in range(draw.choice([0, 2, 5, 12])):
         assert shard.fits(draw_record(draw, shard, names, objects))
-    texts = [payload(shard.said())]
+    texts = [payload(shard.said(), version)]
     shard.has_begun = True
     for _ in range(draw.choice([0, 1, 3, 6])):
         said = draw_record(draw, shard, names, objects)
         assert shard.fits(said)
-        texts.append(payload(said))
+        texts.append(payload(said, version))
     return b"".join(record(text) for text in texts)
 
 
@@ -96,8 +99,9 @@ def draw_record(draw, shard, names, objects):
         return Seals([(tenant, name, draw.choice([IDLE, MAXIMUM_AGE, FORCED])) for tenant, name in sealed])
     if kind < 0.5 and waiting:
         (tenant, name), chunk = draw.choice(waiting)
-        text = chunk_text(ChunkObject(tenant, name, chunk.first, chunk.blocks))
-        return StoredChunk(tenant, name, chunk.first, put_object(objects, text))
+        said = ChunkObject(tenant, name, chunk.first, chunk.blocks)
+        key = put_object(objects, chunk_text(said, draw.choice(VERSIONS)))  # whatever the log's version is
+        return StoredChunk(tenant, name, chunk.first, key)
     stream = draw.choice(names)
     return Push(draw.choice([0, 10**18, 2**63 - 1]), stream.tenant, stream.name, draw_entries(draw, 6))
 
@@ -126,8 +130,14 @@ def draw_commands(draw, names):
     return commands
 
 
+def spelled_in(version, text):
+    """An honest log in a version."""
+    return b"".join(record(payload(said, version)) for _, said in records_of(text) if said is not None)
+
+
 def written_logs(program, folder, settings_file, draw, names, objects):
-    """The logs that the program leaves in a new folder, by shard. Its chunk objects are put among the objects."""
+    """The logs that the program leaves in a new folder, by shard, spelled in drawn versions: it writes the last alone.
+    Its chunk objects are put among the objects."""
     lines = "".join(json.dumps(command) + "\n" for command in draw_commands(draw, names))
     words = [program, settings_file, folder]
     ran = subprocess.run(words, input=lines.encode(), capture_output=True, timeout=120)
@@ -135,4 +145,4 @@ def written_logs(program, folder, settings_file, draw, names, objects):
     assert b'"error"' not in ran.stdout, f"a command was refused: {ran.stdout}"
     for path in sorted((folder / "objects").glob("c-*")):
         assert path.name == f"c-{put_object(objects, path.read_bytes()).hex()}", f"{path} has another digest"
-    return [(folder / f"wal-{shard}").read_bytes() for shard in range(SHARDS)]
+    return [spelled_in(draw.choice(VERSIONS), (folder / f"wal-{shard}").read_bytes()) for shard in range(SHARDS)]

@@ -3,10 +3,11 @@
 
     python3 forged/forged.py PROGRAM --ctl INGESTCTL [--texts N] [--seed N] [--jobs N] [--batch N] [--parent FOLDER]
 
-Honest texts are drawn, and taken from folders that PROGRAM wrote. Most are forged: bytes, fields and records are changed, cut,
-doubled, swapped and taken from other texts, counts and lengths set to what no input covers, mostly so that all sums are right
-again. A reader of its own, written from docs/FORMATS.md alone (formats.py; what records come to, fitting.py), says what each
-has, or as what it is refused, and where. With this are compared
+Honest texts are drawn, and taken from folders that PROGRAM wrote; chunk objects and logs are of either version. Most
+are forged: bytes, fields, records and versions are changed, cut, doubled, swapped and taken from other texts, counts
+and lengths set to what no input covers, mostly so that all sums are right again. A reader of its own, written from
+docs/FORMATS.md alone (formats.py; what records come to, fitting.py), says what each has, or as what it is refused, and
+where. With this are compared
 
 - `ingestctl show --entries`: what chunk objects, index rows and the records of logs say, or their first fault;
 - `ingestctl check --room`: what a shard has that is made again from a log over the objects of its folder, or why none is. Of

@@ -1,12 +1,13 @@
 """Forges texts: changes, cuts, doubles and swaps bytes, fields and records of honest ones, also so that all sums are right."""
 import hashlib
 
-from formats import Blocks, ChunkObject, Fields, Refused, chunk_in, payload_in, read_chunk, records_of, row_in
-from spelling import chunk_text, number, record
+from formats import VERSIONS, Blocks, ChunkObject, Fields, Refused, chunk_in, payload_in, read_chunk, records_of, row_in
+from spelling import chunk_text, number, payload, record
 
 LONGEST = 2**16  # a forged text has no more bytes
 EDGES = [0, 1, 2, 3, 4, 5, 63, 64, 65, 128, 150, 151, 255, 2**16, 262144, 262145, 2**24, 2**28, 2**31, 2**32 - 1, 2**40]
 EDGES += [2**61, 2**62 - 1, 2**62, 2**62 + 1, 2**63 - 1, 2**63, 2**64 - 24, 2**64 - 1]
+BEGINNINGS = [b"INGC", b"INGR", b"\4"]  # behind which a version stands
 WORDS = [b"", b".", b"..", b"...", b"t", b"T0", b"a/b", b"a b", b"x" * 150, b"x" * 151, b"{}", b'{a=""}', b'{a="1"}', b'{a="2"}']
 WORDS += [b'{a="1",b="2"}', b'{a="1", b="2"}', b'{b="1", a="2"}', b'{a="1", a="2"}', b'{a="1", ab="2"}', b'{ab="1", a="2"}']
 WORDS += [b'{1a="1"}', b'{a_1="1"}', b'{a-1="1"}', b'{a="1" }', b'{ a="1"}', b'{a="1"', b'{a="1"}}', b'{a="\n"}', b'{a="\\n"}']
@@ -15,9 +16,9 @@ WORDS += [b"\xff", b"\xed\xa0\x80", b"\xc0\x80"]
 WORDS += [b"\xf4\x90\x80\x80", b"\xf4\x8f\xbf\xbf", b"\xf0\x9f\x98", b"\xef\xbb\xbfx", b"\xe2\x80\xa8", b"\n", b'"', b"\\"]
 
 
-def pieces_of(text, read):
-    """The numbers and texts of an honest text, by a reader."""
-    fields = Fields(text)
+def pieces_of(text, read, version=None):
+    """The numbers and texts of an honest text, by a reader; of a payload in the version of its log."""
+    fields = Fields(text, version)
     read(fields)
     return fields.pieces
 
@@ -52,6 +53,23 @@ def change_byte(draw, pieces, others):
     piece = bytearray(pieces[at])
     piece[draw.randrange(len(piece))] = draw.choice([0, 255, draw.randrange(256)])
     return [*pieces[:at], bytes(piece), *pieces[at + 1 :]]
+
+
+def change_version(draw, pieces, others):
+    """A version becomes the other, or one that there is not. Nothing else is spelled anew."""
+    if len(pieces) < 2 or pieces[0] not in BEGINNINGS:
+        return pieces
+    version = draw.choice([each for each in (b"\1", b"\2", b"\3") if each != pieces[1]])
+    return [pieces[0], version, *pieces[2:]]
+
+
+def change_metadata(draw, pieces, others):
+    """An entry tells of metadata, or behind its line stands no byte, or two."""
+    at = place_of(draw, pieces, lambda piece: piece == b"\0")  # no other number of one byte is 0
+    if at is None:
+        return pieces
+    instead = draw.choice([[b"\1"], [number(draw.randrange(1, 256), 1)], [], [b"\0", b"\0"]])
+    return [*pieces[:at], *instead, *pieces[at + 1 :]]
 
 
 def drop_run(draw, pieces, others):
@@ -97,7 +115,7 @@ def change_text(draw, pieces, others):
 
 
 FIELD_WAYS = [change_number, change_number, change_byte, drop_run, double_run, swap_runs, swap_alike, graft]
-FIELD_WAYS += [change_text, change_text]
+FIELD_WAYS += [change_text, change_text, change_version, change_metadata]
 
 
 def cut(draw, text, others):
@@ -176,15 +194,30 @@ def payloads_of(text):
     return [text[at + 16 : behind - 8] for at, behind in zip(starts, starts[1:])]
 
 
+def version_of(text):
+    """In which version a payload reads, or None. One without entries reads in both."""
+    for version in VERSIONS:
+        try:
+            payload_in(Fields(text, version))
+            return version
+        except Refused:
+            pass
+    return None
+
+
 def forge_payload(draw, text, others):
     """A payload in which fields, or bytes, are changed."""
-    if draw.random() < 0.15 or not text:
+    version, other = version_of(text), draw.choice(others)
+    if draw.random() < 0.15 or version is None:  # it was forged before
         return forge_bytes(draw, text, others)
-    try:
-        other, pieces = [pieces_of(draw.choice(others), payload_in)], pieces_of(text, payload_in)
-    except Refused:
-        return forge_bytes(draw, text, others)  # it was forged before
-    return b"".join(forge_pieces(draw, pieces, other))
+    other = [pieces_of(other, payload_in, version_of(other))]
+    return b"".join(forge_pieces(draw, pieces_of(text, payload_in, version), other))
+
+
+def spell_otherwise(text):
+    """A payload as it is in a log of the other version."""
+    version = version_of(text)
+    return text if version is None else payload(payload_in(Fields(text, version)), sum(VERSIONS) - version)
 
 
 def forge_frame(draw, text):
@@ -197,8 +230,10 @@ def forge_frame(draw, text):
 
 
 def forge_records(draw, payloads, others):
-    """Forges one payload, or drops, doubles, swaps or grafts some. The sums are right."""
+    """Forges a payload, spells it in the other version, or drops, doubles, swaps or grafts some. All sums are right."""
     way, at = draw.random(), draw.randrange(len(payloads))
+    if way < 0.05:
+        return [*payloads[:at], spell_otherwise(payloads[at]), *payloads[at + 1 :]]
     if way < 0.6:
         return [*payloads[:at], forge_payload(draw, payloads[at], others), *payloads[at + 1 :]]
     if way < 0.7:
@@ -228,6 +263,11 @@ def forge_log(draw, text, others):
     return b"".join(records)[:LONGEST]
 
 
+def in_other_version(text):
+    """An honest chunk object in its other spelling."""
+    return chunk_text(read_chunk(text), sum(VERSIONS) - text[4])
+
+
 def divided_anew(draw, text):
     """An honest chunk object with the same entries in other blocks."""
     chunk = read_chunk(text)
@@ -235,11 +275,13 @@ def divided_anew(draw, text):
     while left:
         sizes.append(draw.randint(1, left))
         left -= sizes[-1]
-    return chunk_text(ChunkObject(chunk.tenant, chunk.name, chunk.first, Blocks(sizes, chunk.blocks.entries)))
+    blocks = Blocks(sizes, chunk.blocks.entries)
+    return chunk_text(ChunkObject(chunk.tenant, chunk.name, chunk.first, blocks), draw.choice(VERSIONS))
 
 
 def forge_listed(draw, text, honest, objects):
-    """A log that lists a forged object in the place of an honest one; or the log as it was, and its object is changed or gone."""
+    """A log that lists a forged object in the place of an honest one, or that one in its other spelling; or the log as
+    it was, and its object is changed or gone."""
     payloads = payloads_of(text)
     keys = [key for key in honest if any(key in each for each in payloads)]
     if not keys:
@@ -249,7 +291,12 @@ def forge_listed(draw, text, honest, objects):
         objects.pop(key, None)
         return text
     object_text = honest[key]
-    forged = divided_anew(draw, object_text) if way < 0.3 else forge_chunk(draw, object_text, list(honest.values()))
+    if way < 0.15:
+        forged = in_other_version(object_text)
+    elif way < 0.3:
+        forged = divided_anew(draw, object_text)
+    else:
+        forged = forge_chunk(draw, object_text, list(honest.values()))
     if way > 0.9:
         objects[key] = forged
         return text

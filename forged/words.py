@@ -7,7 +7,7 @@ import re
 
 from fitting import ANOTHER, CHANGED, NOT_THERE, BadObject, made_again
 from formats import BAD_FIELD, BAD_MAGIC, BAD_VERSION, DAMAGED, OTHER_SETTINGS, OUT_OF_ORDER, TRAILING, TRUNCATED
-from formats import Checkpoint, Growing, Listed, Push, Refused, Seals, read_chunk, read_row, records_of
+from formats import VERSIONS, Checkpoint, Growing, Listed, Push, Refused, Seals, read_chunk, read_row, records_of
 
 FAULTS = {TRUNCATED: "the bytes end within a field", BAD_MAGIC: "the bytes begin as no object of this kind does"}
 FAULTS |= {BAD_VERSION: "the version is not known", BAD_FIELD: "a bad value, at byte {at}"}
@@ -121,7 +121,7 @@ def checked(text, settings, objects):
         return counts, None, shard
     version = text[17] if at == 0 and is_of_other_version(text) else None
     if version is not None:
-        return b"22 DamagedLog: it is of version %d, and version 1 is read" % version, DAMAGED, None
+        return b"22 DamagedLog: it is of version %d, and versions 1 and 2 are read" % version, DAMAGED, None
     return b"22 DamagedLog: damaged at byte %d; before it stand %b" % (at, counts), DAMAGED, None
 
 
@@ -137,8 +137,8 @@ def chunk_fault(fault):
 
 
 def is_of_other_version(text):
-    """Whether a log begins with a whole record that has the kind of a checkpoint and another version."""
-    if len(text) < 26 or text[16] != 4 or text[17] == 1:
+    """Whether a log begins with a whole record that has the kind of a checkpoint and a version that is not read."""
+    if len(text) < 26 or text[16] != 4 or text[17] in VERSIONS:
         return False
     length, complement = int.from_bytes(text[:8], "big"), int.from_bytes(text[8:16], "big")
     payload = text[16 : 16 + length]

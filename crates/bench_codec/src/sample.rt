@@ -2,7 +2,7 @@
 ghost use Rattle.std.specs.Prelude.{◌≡◌, ◌<◌, ◌≤◌, ◌+◌, ◌-◌, ◌*◌, ◌^◌, length, IfOk, OnOk};
 
 use anyhow::Result;
-use ing_codec::{put_line, put_name, put_tenant, put_u32, put_u64};
+use ing_codec::{WRITTEN_VERSION, put_line, put_meta, put_name, put_tenant, put_u32, put_u64};
 use ing_rows::{Line, Tenant};
 use std::alloc::{AllocError, Global};
 
@@ -28,11 +28,13 @@ pub fn entries_a_block(line_bytes: u32) -> u32
 /// Writes an entry, a millisecond after the one with the number before.
 fn put_entry(out: &mut Vec<u8>, number: u32, line: &Line) -> Result<(), AllocError>
     requires { length line.now < 2 ^ 32 }
-    ensures { OnOk result (length out.new.items ≡ length out.old.items + (16 + length line.now)) }
+    ensures { OnOk result (length out.new.items ≡ length out.old.items + (17 + length line.now)) }
 {
     put_u32(out, number)?;
     put_u64(out, u64::from(number) * 1_000_000)?;
-    put_line(out, line)
+    put_line(out, line)?;
+    put_meta(out)?;
+    Ok(())
 }
 
 /// Writes a block of so many entries, from this number on.
@@ -40,7 +42,7 @@ fn put_block(out: &mut Vec<u8>, from: u32, count: u32, line: &Line) -> Result<()
     requires line { length line.now < 2 ^ 32 }
     requires numbers { from + count < 2 ^ 32 }
     ensures { OnOk result
-        (length out.new.items ≡ length out.old.items + (4 + count * (16 + length line.now))) }
+        (length out.new.items ≡ length out.old.items + (4 + count * (17 + length line.now))) }
 {
     put_u32(out, count)?;
     for number in from..from + count {
@@ -53,7 +55,8 @@ fn put_block(out: &mut Vec<u8>, from: u32, count: u32, line: &Line) -> Result<()
 fn put_head(out: &mut Vec<u8>, tenant: &Tenant) -> Result<(), AllocError>
     ensures { OnOk result (length out.new.items ≡ length out.old.items + (50 + length tenant.now)) }
 {
-    out.extend_from_slice(b"INGC\x01")?;
+    out.extend_from_slice(b"INGC")?;
+    out.push(WRITTEN_VERSION.byte())?;
     put_tenant(out, tenant)?;
     put_name(out, "{cluster=\"main\", job=\"logs\"}")?;
     put_u64(out, 0)?;
@@ -66,7 +69,7 @@ pub fn object(alloc: Global, count: u32, line: &Line) -> Result<Vec<u8>>
     requires line { length line.now < 2 ^ 32 }
     requires few { count ≤ 0x4000 }
     ensures { IfOk result
-        (λ bytes. length bytes.items ≡ 55 + 6 * (4 + count * (16 + length line.now))) }
+        (λ bytes. length bytes.items ≡ 55 + 6 * (4 + count * (17 + length line.now))) }
 {
     let tenant = Tenant::of_text(alloc, "bench")?;
     let mut out = Vec::new(alloc);

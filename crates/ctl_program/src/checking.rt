@@ -189,7 +189,7 @@ pub fn damage_words(alloc: Global, text: &[u8], at: usize, checked: Checked) -> 
     let (code, name) = (Refusal::DamagedLog.number(), Refusal::DamagedLog.name());
     if let Some(version) = other_version(text) {
         let words = format!(in alloc;
-            "{code} {name}: it is of version {version}, and version 1 is read"
+            "{code} {name}: it is of version {version}, and versions 1 and 2 are read"
         )?;
         return Ok(words);
     }

@@ -3,6 +3,7 @@ use Rattle.std.proofs.Common.{◌≡◌, ℕ, suc, ◌-◌, ◌+◌, ◌≤◌, 
 use Rattle.ing_chunk.specs.declared.numbered.Numbered.{Numbered}
 use Rattle.ing_codec.specs.declared.chunk_reading.Part.{Part}
 use Rattle.ing_codec.specs.declared.fault.CodecFault.{CodecFault}
+use Rattle.ing_codec.specs.declared.version.Version.{Version}
 use Rattle.ing_codec.specs.Fields.{Rest}
 use Rattle.ing_codec.specs.ChunkReading.{read_entry, read_entries, read_block, read_blocks}
 
@@ -29,25 +30,25 @@ entries_done p count i before r total le so_far =
     let one : read_entries p (count - i) before r ≡ Ok (before, r) = rw k refl in
     sym so_far ∙ one
 
-pub blocks_go_on : (first count i start : ℕ) (before : List (List Numbered)) (r : Rest) (b : List Numbered) (after : Rest) (total : Result (List (List Numbered) × Rest) CodecFault) → i < count → read_block first start r ≡ Ok (b, after)
-    → read_blocks first (count - i) start before r ≡ total → read_blocks first (count - (i + 1)) (start + length b) (before ++ b ∷ []) after ≡ total
+pub blocks_go_on : (v : Version) (first count i start : ℕ) (before : List (List Numbered)) (r : Rest) (b : List Numbered) (after : Rest) (total : Result (List (List Numbered) × Rest) CodecFault) → i < count → read_block v first start r ≡ Ok (b, after)
+    → read_blocks v first (count - i) start before r ≡ total → read_blocks v first (count - (i + 1)) (start + length b) (before ++ b ∷ []) after ≡ total
 unfolding read_blocks
-blocks_go_on first count i start before r b after total lt h so_far =
+blocks_go_on v first count i start before r b after total lt h so_far =
     let k : count - i ≡ suc (count - (i + 1)) = omega arith in
-    let one : read_blocks first (count - i) start before r ≡ read_blocks first (count - (i + 1)) (start + length b) (before ++ b ∷ []) after = rw (k, h) refl in
+    let one : read_blocks v first (count - i) start before r ≡ read_blocks v first (count - (i + 1)) (start + length b) (before ++ b ∷ []) after = rw (k, h) refl in
     sym one ∙ so_far
 
-pub blocks_stop : (first count i start : ℕ) (before : List (List Numbered)) (r : Rest) (f : CodecFault) (total : Result (List (List Numbered) × Rest) CodecFault) → i < count → read_block first start r ≡ Err f
-    → read_blocks first (count - i) start before r ≡ total → total ≡ Err f
+pub blocks_stop : (v : Version) (first count i start : ℕ) (before : List (List Numbered)) (r : Rest) (f : CodecFault) (total : Result (List (List Numbered) × Rest) CodecFault) → i < count → read_block v first start r ≡ Err f
+    → read_blocks v first (count - i) start before r ≡ total → total ≡ Err f
 unfolding read_blocks
-blocks_stop first count i start before r f total lt h so_far =
+blocks_stop v first count i start before r f total lt h so_far =
     let k : count - i ≡ suc (count - (i + 1)) = omega arith in
-    let one : read_blocks first (count - i) start before r ≡ Err f = rw (k, h) refl in
+    let one : read_blocks v first (count - i) start before r ≡ Err f = rw (k, h) refl in
     sym so_far ∙ one
 
-pub blocks_done : (first count i start : ℕ) (before : List (List Numbered)) (r : Rest) (total : Result (List (List Numbered) × Rest) CodecFault) → count ≤ i → read_blocks first (count - i) start before r ≡ total → total ≡ Ok (before, r)
+pub blocks_done : (v : Version) (first count i start : ℕ) (before : List (List Numbered)) (r : Rest) (total : Result (List (List Numbered) × Rest) CodecFault) → count ≤ i → read_blocks v first (count - i) start before r ≡ total → total ≡ Ok (before, r)
 unfolding read_blocks
-blocks_done first count i start before r total le so_far =
+blocks_done v first count i start before r total le so_far =
     let k : count - i ≡ 0 = omega arith in
-    let one : read_blocks first (count - i) start before r ≡ Ok (before, r) = rw k refl in
+    let one : read_blocks v first (count - i) start before r ≡ Ok (before, r) = rw k refl in
     sym so_far ∙ one

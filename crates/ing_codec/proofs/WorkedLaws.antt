@@ -7,16 +7,21 @@ use Rattle.std.proofs.lemmas.Str.{is_utf8-from_IsUtf8, IsUtf8-from_ascii}
 use Rattle.ing_labels.specs.CanonicalTests.{is_canonical}
 use Rattle.ing_chunk.specs.Chunks.{AreInOrder}
 use Rattle.ing_codec.specs.Fields.{is_name}
-use Rattle.ing_codec.specs.ChunkObjects.{IsObject, chunk_text}
+use Rattle.ing_codec.specs.declared.version.Version.TheVariants.{First, Second}
+use Rattle.ing_codec.specs.ChunkObjects.{IsObject, chunk_text, text_in}
 use Rattle.ing_codec.specs.ChunkReading.{numbered, read_chunk}
-use Rattle.ing_codec.specs.WorkedObjects.{worked_chunk, worked_bytes}
-use Rattle.ing_codec.proofs.ChunkLaws.{chunk_again}
+use Rattle.ing_codec.specs.WorkedObjects.{worked_chunk, worked_bytes, worked_bytes_of_first}
+use Rattle.ing_codec.proofs.ChunkLaws.{text_again}
 use Rattle.ing_codec.proofs.TextLaws.{is_less}
 use Rattle.ing_codec.proofs.Order.{in_order_more}
 
 pub written : chunk_text worked_chunk ≡ worked_bytes
-unfolding chunk_text
+unfolding text_in
 written = refl
+
+pub of_first : text_in First worked_chunk ≡ worked_bytes_of_first
+unfolding text_in
+of_first = refl
 
 canonical : is_canonical (codes "{a=\"1\"}") ≡ true
 unfolding is_canonical
@@ -65,4 +70,7 @@ is_object = record {
 }
 
 pub read : read_chunk worked_bytes ≡ Ok worked_chunk
-read = ap read_chunk (sym written) ∙ chunk_again worked_chunk is_object
+read = ap read_chunk (sym written) ∙ text_again Second worked_chunk is_object
+
+pub read_of_first : read_chunk worked_bytes_of_first ≡ Ok worked_chunk
+read_of_first = ap read_chunk (sym of_first) ∙ text_again First worked_chunk is_object

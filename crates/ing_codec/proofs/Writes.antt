@@ -7,6 +7,7 @@ use Rattle.std.proofs.lemmas.List.Concat.{flat_map-cons}
 use Rattle.ing_chunk.specs.declared.numbered.Numbered.{Numbered}
 use Rattle.ing_chunk.specs.Chunks.{in_blocks}
 use Rattle.ing_chunk.specs.Parts.{IsWithin, AreParts}
+use Rattle.ing_codec.specs.declared.version.Version.{Version}
 use Rattle.ing_codec.specs.ChunkObjects.{ChunkObject, head_text, block_text, IsNumbered, IsBlock, IsObject}
 use Rattle.ing_codec.specs.Writable.{IsWritable, IsBlockWritable, IsLent}
 
@@ -30,13 +31,13 @@ written_more f xs i x old front out new lt is so_far more =
     let last : f x ≡ f (get_or xs i x) = ap f is in
     rw (more, so_far, last, flat_map_more f xs i x lt) (simp append_assoc)
 
-pub blocks_more : (o p : ChunkObject) (i : ℕ) (b : List Numbered) (out new : List ℕ) → p ≡ o → i < length p.blocks → b ≡ get_or p.blocks i b → out ≡ head_text o ++ flat_map (block_text o.first) (take i o.blocks)
-    → new ≡ out ++ block_text p.first b → new ≡ head_text o ++ flat_map (block_text o.first) (take (i + 1) o.blocks)
-blocks_more o p i b out new same lt is so_far more =
+pub blocks_more : (v : Version) (o p : ChunkObject) (i : ℕ) (b : List Numbered) (out new : List ℕ) → p ≡ o → i < length p.blocks → b ≡ get_or p.blocks i b → out ≡ head_text v o ++ flat_map (block_text v o.first) (take i o.blocks)
+    → new ≡ out ++ block_text v p.first b → new ≡ head_text v o ++ flat_map (block_text v o.first) (take (i + 1) o.blocks)
+blocks_more v o p i b out new same lt is so_far more =
     let inside : i < length o.blocks = subst (λ (q : ChunkObject). i < length q.blocks) same lt in
     let there : b ≡ get_or o.blocks i b = subst (λ (q : ChunkObject). b ≡ get_or q.blocks i b) same is in
-    let goes : new ≡ out ++ block_text o.first b = subst (λ (q : ChunkObject). new ≡ out ++ block_text q.first b) same more in
-    written_more (block_text o.first) o.blocks i b (head_text o) [] out new inside there so_far goes
+    let goes : new ≡ out ++ block_text v o.first b = subst (λ (q : ChunkObject). new ≡ out ++ block_text v q.first b) same more in
+    written_more (block_text v o.first) o.blocks i b (head_text v o) [] out new inside there so_far goes
 
 -- ---- what fits
 
@@ -104,3 +105,7 @@ object_of o p i same lent le h =
 -- three parts written one after another
 pub three_written : (old a b c o1 o2 o3 : List ℕ) → o1 ≡ old ++ a → o2 ≡ o1 ++ b → o3 ≡ o2 ++ c → o3 ≡ old ++ (a ++ (b ++ c))
 three_written old a b c o1 o2 o3 e1 e2 e3 = rw (e3, e2, e1) (simp append_assoc)
+
+-- and four
+pub four_written : (old a b c d o1 o2 o3 o4 : List ℕ) → o1 ≡ old ++ a → o2 ≡ o1 ++ b → o3 ≡ o2 ++ c → o4 ≡ o3 ++ d → o4 ≡ old ++ (a ++ (b ++ (c ++ d)))
+four_written old a b c d o1 o2 o3 o4 e1 e2 e3 e4 = rw (e4, e3, e2, e1) (simp append_assoc)

@@ -7,7 +7,9 @@ use Rattle.ing_rows.specs.Texts.{is_tenant}
 use Rattle.ing_chunk.specs.declared.numbered.Numbered.{Numbered}
 use Rattle.ing_chunk.specs.Chunks.{AreInOrder, in_blocks}
 use Rattle.ing_chunk.specs.Parts.{AreParts}
-use Rattle.ing_codec.specs.Fields.{front_text, long_text, is_name, chunk_version}
+use Rattle.ing_codec.specs.declared.version.Version.{Version}
+use Rattle.ing_codec.specs.Fields.{front_text, long_text, meta_text, is_name}
+use Rattle.ing_codec.specs.Versions.{version_byte, written_version}
 
 -- whose it is, the number of its first entry, and the entries of each block
 pub record ChunkObject : Type 0 where
@@ -16,22 +18,32 @@ pub record ChunkObject : Type 0 where
   pub first : ℕ
   pub blocks : List (List Numbered)
 
--- ---- the bytes of a chunk
+-- ---- the bytes of a chunk, in a version
 
 -- an entry, by its number from the first of the chunk on
-abbrev pub entry_text : ℕ → Numbered → List ℕ
-entry_text first e = to_be_bytes w32 (e.number - first) ++ (to_be_bytes w64 e.entry.stamp ++ long_text e.entry.line)
+abbrev pub entry_text : Version → ℕ → Numbered → List ℕ
+entry_text v first e =
+    to_be_bytes w32 (e.number - first) ++ (to_be_bytes w64 e.entry.stamp ++ (long_text e.entry.line ++ meta_text v))
 
-abbrev pub block_text : ℕ → List Numbered → List ℕ
-block_text first b = to_be_bytes w32 (length b) ++ flat_map (entry_text first) b
+abbrev pub block_text : Version → ℕ → List Numbered → List ℕ
+block_text v first b = to_be_bytes w32 (length b) ++ flat_map (entry_text v first) b
 
 -- what stands before the first block
-abbrev pub head_text : ChunkObject → List ℕ
-head_text o = front_text (codes "INGC") chunk_version o.tenant o.name ++ (to_be_bytes w64 o.first ++ to_be_bytes w32 (length o.blocks))
+abbrev pub head_text : Version → ChunkObject → List ℕ
+head_text v o = front_text (codes "INGC") (version_byte v) o.tenant o.name ++ (to_be_bytes w64 o.first ++ to_be_bytes w32 (length o.blocks))
 
--- all of them: each chunk has this one spelling
-unfoldable pub chunk_text : ChunkObject → List ℕ
-chunk_text o = head_text o ++ flat_map (block_text o.first) o.blocks
+-- all of them: each chunk has this one spelling in the version
+unfoldable pub text_in : Version → ChunkObject → List ℕ
+text_in v o = head_text v o ++ flat_map (block_text v o.first) o.blocks
+
+-- as they are written
+abbrev pub chunk_text : ChunkObject → List ℕ
+chunk_text o = text_in written_version o
+
+-- the bytes spell the chunk, in a version
+pub record Spells (bytes : List ℕ) (o : ChunkObject) : Type 0 where
+  pub version : Version
+  pub is : bytes ≡ text_in version o
 
 -- ---- which chunks there are
 

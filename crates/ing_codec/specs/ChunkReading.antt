@@ -7,7 +7,8 @@ use Rattle.ing_chunk.specs.Chunks.{comes_before}
 use Rattle.ing_codec.specs.declared.chunk_reading.Part.{Part}
 use Rattle.ing_codec.specs.declared.fault.CodecFault.{CodecFault}
 use Rattle.ing_codec.specs.declared.fault.CodecFault.TheVariants.{BadField, OutOfOrder, Trailing}
-use Rattle.ing_codec.specs.Fields.{Rest, whole, read_number, read_line, read_stamp, read_first, read_front, chunk_version}
+use Rattle.ing_codec.specs.declared.version.Version.{Version}
+use Rattle.ing_codec.specs.Fields.{Rest, whole, read_number, read_line, read_meta, read_stamp, read_first, read_magic, read_known_version, read_owner}
 use Rattle.ing_chunk.specs.Parts.{is_taken}
 use Rattle.ing_codec.specs.ChunkObjects.{ChunkObject}
 
@@ -33,14 +34,15 @@ numbered n stamp line = record { number = n; entry = record { stamp = stamp; lin
 abbrev pub in_turn : List Numbered → Numbered → Rest → Result (Numbered × Rest) CodecFault
 in_turn before e r = if goes_on before e then Ok (e, r) else Err OutOfOrder
 
--- one entry, after those before it in its block
+-- one entry, after those before it in its block: what is behind its line is read before its order is tested
 unfoldable pub read_entry : Part → List Numbered → Rest → Result (Numbered × Rest) CodecFault
 read_entry p before r = do
   o ← read_number w32 r
   if is_free p before (p.first + o.0) then (do
     s ← read_stamp o.1
     l ← read_line s.1
-    in_turn before (numbered (p.first + o.0) s.0 l.0) l.1)
+    m ← read_meta p.version l.1
+    in_turn before (numbered (p.first + o.0) s.0 l.0) m.1)
       else Err (BadField r.at)
 
 -- so many more entries
@@ -50,25 +52,25 @@ read_entries p (suc k) before r = do
   e ← read_entry p before r
   read_entries p k (before ++ e.0 ∷ []) e.1
 
-abbrev pub part : ℕ → ℕ → ℕ → Part
-part first start count = record { first = first; start = start; count = count }
+abbrev pub part : Version → ℕ → ℕ → ℕ → Part
+part v first start count = record { version = v; first = first; start = start; count = count }
 
 -- a block has an entry, and no number reaches 2^62, and no count 2^32
 abbrev pub is_count : ℕ → ℕ → ℕ → Bool
 is_count first start n = not (n == 0) && (nat_le (first + start + n) (2 ^ 62) && nat_lt (start + n) (2 ^ 32))
 
 -- one block, after so many entries of earlier blocks
-unfoldable pub read_block : ℕ → ℕ → Rest → Result (List Numbered × Rest) CodecFault
-read_block first start r = do
+unfoldable pub read_block : Version → ℕ → ℕ → Rest → Result (List Numbered × Rest) CodecFault
+read_block v first start r = do
   n ← read_number w32 r
-  if is_count first start n.0 then read_entries (part first start n.0) n.0 [] n.1 else Err (BadField r.at)
+  if is_count first start n.0 then read_entries (part v first start n.0) n.0 [] n.1 else Err (BadField r.at)
 
 -- so many more blocks, after so many entries
-unfoldable pub read_blocks : ℕ → ℕ → ℕ → List (List Numbered) → Rest → Result (List (List Numbered) × Rest) CodecFault
-read_blocks first zero start before r = Ok (before, r)
-read_blocks first (suc k) start before r = do
-  b ← read_block first start r
-  read_blocks first k (start + length b.0) (before ++ b.0 ∷ []) b.1
+unfoldable pub read_blocks : Version → ℕ → ℕ → ℕ → List (List Numbered) → Rest → Result (List (List Numbered) × Rest) CodecFault
+read_blocks v first zero start before r = Ok (before, r)
+read_blocks v first (suc k) start before r = do
+  b ← read_block v first start r
+  read_blocks v first k (start + length b.0) (before ++ b.0 ∷ []) b.1
 
 -- how many blocks: one or more
 unfoldable pub read_block_count : Rest → Result (ℕ × Rest) CodecFault
@@ -83,11 +85,19 @@ ended x r = if length r.bytes == 0 then Ok x else Err Trailing
 abbrev pub chunk_object : List ℕ → List ℕ → ℕ → List (List Numbered) → ChunkObject
 chunk_object tenant name first blocks = record { tenant = tenant; name = name; first = first; blocks = blocks }
 
--- all of the bytes: the chunk, or the first fault
+-- what a chunk begins with: its version, and whose it is
+unfoldable pub read_chunk_front : Rest → Result (Version × (List ℕ × List ℕ × Rest)) CodecFault
+read_chunk_front r = do
+  m ← read_magic (codes "INGC") r
+  v ← read_known_version m
+  o ← read_owner v.1
+  Ok (v.0, o)
+
+-- all of the bytes, in one version or the other: the chunk, or the first fault
 unfoldable pub read_chunk : List ℕ → Result ChunkObject CodecFault
 read_chunk bytes = do
-  h ← read_front (codes "INGC") chunk_version (whole bytes)
-  f ← read_first h.2
+  h ← read_chunk_front (whole bytes)
+  f ← read_first h.1.2
   k ← read_block_count f.1
-  b ← read_blocks f.0 k.0 0 [] k.1
-  ended (chunk_object h.0 h.1 f.0 b.0) b.1
+  b ← read_blocks h.0 f.0 k.0 0 [] k.1
+  ended (chunk_object h.1.0 h.1.1 f.0 b.0) b.1

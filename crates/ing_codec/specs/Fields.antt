@@ -1,6 +1,6 @@
 -- The fields of objects: how each is written, and how each is read from the front of the bytes that are left.
 -- Every number is unsigned and big-endian. What names no standard is own.
-use Rattle.std.specs.Prelude.{ℕ, ◌+◌, ◌^◌, Bool, ◌&&◌, ◌||◌, ◌==◌, nat_lt, nat_le, List, [], ◌∷◌, ◌++◌, length, take, drop, bytes_eq, Result, Ok, Err, if◌then◌else◌}
+use Rattle.std.specs.Prelude.{⊤, ℕ, ◌+◌, ◌^◌, Bool, ◌&&◌, ◌||◌, ◌==◌, nat_lt, nat_le, List, [], ◌∷◌, ◌++◌, length, take, drop, bytes_eq, Result, Ok, Err, if◌then◌else◌}
 use Rattle.std.specs.Int.{Width, w32, w64, byte_len, from_be_bytes, to_be_bytes}
 use Rattle.std.specs.Str.{is_utf8}
 use Rattle.ing_refusals.specs.Results.{◌>>=◌}
@@ -9,6 +9,8 @@ use Rattle.ing_chunk.specs.Parts.{max_line}
 use Rattle.ing_labels.specs.CanonicalTests.{is_canonical}
 use Rattle.ing_codec.specs.declared.fault.CodecFault.{CodecFault}
 use Rattle.ing_codec.specs.declared.fault.CodecFault.TheVariants.{Truncated, BadMagic, BadVersion, BadField}
+use Rattle.ing_codec.specs.declared.version.Version.{Version}
+use Rattle.ing_codec.specs.declared.version.Version.TheVariants.{First, Second}
 
 -- ---- how fields are written
 
@@ -20,13 +22,14 @@ short_text text = length text ∷ text
 abbrev pub long_text : List ℕ → List ℕ
 long_text text = to_be_bytes w32 (length text) ++ text
 
--- the version of a chunk
-abbrev pub chunk_version : ℕ
-chunk_version = 1
-
 -- the version of a row
 abbrev pub row_version : ℕ
 row_version = 1
+
+-- what stands behind a line: nothing in the first version, and in the second how many pairs of metadata the entry has, which is none
+abbrev pub meta_text : Version → List ℕ
+meta_text First = []
+meta_text Second = 0 ∷ []
 
 -- the letters of a kind of object, its version, a tenant and a canonical name, with which each object begins
 abbrev pub front_text : List ℕ → ℕ → List ℕ → List ℕ → List ℕ
@@ -75,6 +78,18 @@ read_version version r = do
   v ← read_byte r
   if v.0 == version then Ok v.1 else Err BadVersion
 
+abbrev pub known_version : ℕ → Rest → Result (Version × Rest) CodecFault
+known_version byte r =
+    if byte == 1 then Ok (First, r) else
+    if byte == 2 then Ok (Second, r) else
+    Err BadVersion
+
+-- a version of a chunk
+unfoldable pub read_known_version : Rest → Result (Version × Rest) CodecFault
+read_known_version r = do
+  v ← read_byte r
+  known_version v.0 v.1
+
 -- a text, where it is UTF-8 (RFC 3629), which begins at an offset
 abbrev pub utf8_at : ℕ → List ℕ → Result (List ℕ) CodecFault
 utf8_at at text = if is_utf8 text then Ok text else Err (BadField at)
@@ -106,6 +121,13 @@ read_line r = do
     t ← read_bytes n.0 n.1
     if is_utf8 t.0 then Ok t else Err (BadField n.1.at)
 
+-- what stands behind a line
+unfoldable pub read_meta : Version → Rest → Result (⊤ × Rest) CodecFault
+read_meta First r = Ok (tt, r)
+read_meta Second r = do
+  n ← read_byte r
+  if n.0 == 0 then Ok (tt, n.1) else Err (BadField r.at)
+
 -- a stamp, in nanoseconds
 unfoldable pub read_stamp : Rest → Result (ℕ × Rest) CodecFault
 read_stamp r = do
@@ -118,11 +140,16 @@ read_first r = do
   n ← read_number w64 r
   if nat_le n.0 (2 ^ 62) then Ok n else Err (BadField r.at)
 
--- what each object begins with: the tenant, the name, and what is left
+-- whose it is: the tenant, the name, and what is left
+unfoldable pub read_owner : Rest → Result (List ℕ × List ℕ × Rest) CodecFault
+read_owner r = do
+  t ← read_tenant r
+  n ← read_name t.1
+  Ok (t.0, n.0, n.1)
+
+-- what an object of one version begins with: the tenant, the name, and what is left
 unfoldable pub read_front : List ℕ → ℕ → Rest → Result (List ℕ × List ℕ × Rest) CodecFault
 read_front letters version r = do
   m ← read_magic letters r
   v ← read_version version m
-  t ← read_tenant v
-  n ← read_name t.1
-  Ok (t.0, n.0, n.1)
+  read_owner v

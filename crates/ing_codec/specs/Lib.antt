@@ -1,4 +1,5 @@
 pub mod CodecFaults
+pub mod Versions
 pub mod Fields
 pub mod ChunkObjects
 pub mod ChunkReading

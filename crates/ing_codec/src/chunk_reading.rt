@@ -9,13 +9,14 @@ ghost use Rattle.ing_codec.specs.Seen.{HasSeen, is_seen};
 use crate::fault::CodecFault;
 use crate::fields::Fields;
 use crate::lent_chunk::{LentBlock, LentEntry};
+use crate::version::Version;
 use std::alloc::{AllocError, Global};
 use std::collections::BTreeSet;
 
-/// The fewest bytes of an entry.
+/// The fewest bytes of an entry, in the first version.
 const ENTRY_BYTES: usize = 16;
 
-/// The fewest bytes of a block.
+/// The fewest bytes of a block, in the first version.
 const BLOCK_BYTES: usize = 20;
 
 /// The most entries of a stream (own).
@@ -63,6 +64,7 @@ fn entry<'a>(
     }
     let (stamp, rest) = rest.stamp()?;
     let (line, rest) = rest.line()?;
+    let rest = rest.meta(part.version)?;
     let lent = LentEntry::of(number, stamp, line);
     if goes_on(before, &lent) {
         Ok((lent, rest))
@@ -103,17 +105,18 @@ fn is_count(first: u64, start: u64, count: u32) -> bool
     count != 0 && first + end <= MAX_NUMBERS && end < COUNT_END
 }
 
-/// One block, after `start` entries of earlier ones.
+/// One block of a version, after `start` entries of earlier ones.
 #[tactic(auto, unfolding(crate::specs::ChunkReading::read_block))]
 fn block<'a>(
     alloc: Global,
     fields: Fields<'a>,
+    version: Version,
     first: u64,
     start: u64,
 ) -> Result<(LentBlock<'a>, Fields<'a>), CodecFault>
     requires first { first ≤ 2 ^ 62 }
     requires start { start < 2 ^ 32 }
-    ensures value { Gives CodecFault.NoMemory (λ x. x) result (read_block first start fields.entry) }
+    ensures value { Gives CodecFault.NoMemory (λ x. x) result (read_block version first start fields.entry) }
     ensures few { IfOk result (λ x. start + length x.0 < 2 ^ 32) }
 {
     let at = fields.at();
@@ -122,6 +125,7 @@ fn block<'a>(
         return Err(CodecFault::BadField { at });
     }
     let part = Part {
+        version,
         first,
         start,
         count,
@@ -131,24 +135,25 @@ fn block<'a>(
 }
 
 impl<'a> Fields<'a> {
-    /// So many blocks, which go on from a first number of at most 2^62, one after the other: each has a count of
+    /// So many blocks of a version, which go on from a first number of at most 2^62, one after the other: each has a count of
     /// one entry or more, and its entries, whose lines stay in the bytes. `Truncated` where a field passes the
     /// end; `BadField` of a count that is 0 or with which a number reaches 2^62 or the entries 2^32, of an
-    /// entry's number outside of its block or there before, of a stamp, and of a line's length or text, as the
-    /// field of its kind; `OutOfOrder` of an entry that is not above the one before it. `NoMemory` may stand in
+    /// entry's number outside of its block or there before, of a stamp, of a line's length or text, and of
+    /// what stands behind it, as the field of its kind; `OutOfOrder` of an entry that is not above the one before it. `NoMemory` may stand in
     /// place of any answer: memory is taken for as many blocks and entries as the bytes that are left can hold,
     /// at most, whatever the counts are, and for what was read. (Own.)
     pub fn blocks(
         self,
         alloc: Global,
+        version: Version,
         first: u64,
         count: u32,
     ) -> Result<(Vec<LentBlock<'a>>, Fields<'a>), CodecFault>
         requires { first ≤ 2 ^ 62 }
         ensures { Gives CodecFault.NoMemory (λ x. (x.0.items, x.1)) result
-            (read_blocks first count 0 [] self.entry) }
+            (read_blocks version first count 0 [] self.entry) }
     {
-        blocks(alloc, self, first, count)
+        blocks(alloc, self, version, first, count)
     }
 }
 
@@ -169,23 +174,24 @@ fn room_for_blocks(left: usize, count: u32) -> usize
     (left / BLOCK_BYTES).min(count as usize)
 }
 
-/// The blocks of a chunk.
+/// The blocks of a chunk, or of one of a log.
 fn blocks<'a>(
     alloc: Global,
     fields: Fields<'a>,
+    version: Version,
     first: u64,
     count: u32,
 ) -> Result<(Vec<LentBlock<'a>>, Fields<'a>), CodecFault>
     requires { first ≤ 2 ^ 62 }
     ensures { Gives CodecFault.NoMemory (λ x. (x.0.items, x.1)) result
-        (read_blocks first count 0 [] fields.entry) }
+        (read_blocks version first count 0 [] fields.entry) }
 {
     let room = room_for_blocks(fields.left(), count);
     let mut found = Vec::with_capacity(alloc, room)?;
     let mut start: u64 = 0;
     let mut rest = fields;
     for _ in 0..count {
-        let (next, after) = block(alloc, rest, first, start)?;
+        let (next, after) = block(alloc, rest, version, first, start)?;
         start += next.entries().len() as u64;
         found.push(next)?;
         rest = after;
@@ -193,10 +199,11 @@ fn blocks<'a>(
     Ok((found, rest))
 }
 
-/// The numbers from `first` and `start` on, `count` of them: `first` is that of the chunk, and `start`
-/// entries are in the blocks before.
+/// The entries of a block: how they are spelled, and their numbers, which are `count` from `first` and `start`
+/// on: `first` is that of the chunk, and `start` entries are in the blocks before.
 #[derive(Clone, Copy, Debug)]
 pub(crate) struct Part {
+    pub(crate) version: Version,
     pub(crate) first: u64,
     pub(crate) start: u64,
     pub(crate) count: u32,

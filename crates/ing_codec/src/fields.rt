@@ -5,12 +5,13 @@ ghost use Rattle.ing_labels.specs.Canonical.{canonical_of};
 ghost use Rattle.std.specs.Int.{w32, w64};
 ghost use Rattle.ing_refusals.specs.Results.{Returns, Gives};
 ghost use Rattle.ing_codec.specs.Fields.{whole, read_number, read_byte, read_bytes, read_magic};
-ghost use Rattle.ing_codec.specs.Fields.{read_version, read_tenant, read_name, read_line, read_stamp};
-ghost use Rattle.ing_codec.specs.Fields.{read_first, read_front, is_name};
+ghost use Rattle.ing_codec.specs.Fields.{read_version, read_known_version, read_tenant, read_name, read_line};
+ghost use Rattle.ing_codec.specs.Fields.{read_meta, read_stamp, read_first, read_owner, read_front, is_name};
 ghost use Rattle.ing_codec.specs.Fields as spec;
 ghost use Rattle.ing_codec.specs.ChunkReading.{read_block_count, ended};
 
 use crate::fault::CodecFault;
+use crate::version::Version;
 use byteorder::{BigEndian, ByteOrder};
 use ing_labels::{Labels, TextFault, canonical_names_are_decided};
 use ing_rows::{RowFault, Stamp, Tenant};
@@ -140,6 +141,19 @@ impl<'a> Fields<'a> {
         }
     }
 
+    /// The version of a chunk. `Truncated` where no byte is left, `BadVersion` where there is no such version.
+    #[tactic(auto, unfolding(crate::specs::Fields::read_known_version))]
+    pub fn known_version(self) -> Result<(Version, Fields<'a>), CodecFault>
+        ensures { Returns (λ x. x) result (read_known_version self.entry) }
+    {
+        let (byte, after) = self.byte()?;
+        match byte {
+            1 => Ok((Version::First, after)),
+            2 => Ok((Version::Second, after)),
+            _ => Err(CodecFault::BadVersion),
+        }
+    }
+
     /// A tenant id: one byte of length, 1 to 150, and the text. `Truncated` where the length or the text
     /// passes the end; `BadField` of the length where it is another, and of the text where it is no tenant
     /// id.
@@ -188,6 +202,27 @@ impl<'a> Fields<'a> {
         Ok((utf8_at(bytes, at)?, after))
     }
 
+    /// What stands behind a line: nothing in the first version; in the second one byte, how many pairs of
+    /// metadata the entry has, which is none. `Truncated` where that byte passes the end; `BadField` of it where
+    /// it is another than 0.
+    #[tactic(auto, unfolding(crate::specs::Fields::read_meta))]
+    pub fn meta(self, version: Version) -> Result<Fields<'a>, CodecFault>
+        ensures { Returns (λ x. (tt, x)) result (read_meta version self.entry) }
+    {
+        match version {
+            Version::First => Ok(self),
+            Version::Second => {
+                let at = self.at;
+                let (count, after) = self.byte()?;
+                if count == 0 {
+                    Ok(after)
+                } else {
+                    Err(CodecFault::BadField { at })
+                }
+            }
+        }
+    }
+
     /// A stamp: a number of eight bytes, in nanoseconds. `Truncated` where fewer are left, `BadField` from
     /// 2^63 on.
     #[tactic(auto, unfolding(crate::specs::Fields::read_stamp))]
@@ -202,8 +237,20 @@ impl<'a> Fields<'a> {
         }
     }
 
-    /// What each object begins with: the letters of its kind, the version that is expected, a tenant id and a
-    /// canonical name.
+    /// Whose an object is: a tenant id and a canonical name.
+    #[tactic(auto, unfolding(crate::specs::Fields::read_owner))]
+    pub(crate) fn owner(self, alloc: Global) -> Result<(Tenant, Labels, Fields<'a>), CodecFault>
+        ensures value { Gives CodecFault.NoMemory (λ x. (x.0, canonical_of x.1, x.2)) result
+            (read_owner self.entry) }
+        ensures few { IfOk result (λ x. length (canonical_of x.1) < 2 ^ 32) }
+    {
+        let (tenant, rest) = self.tenant(alloc)?;
+        let (labels, after) = rest.name(alloc)?;
+        Ok((tenant, labels, after))
+    }
+
+    /// What an object of one version begins with: the letters of its kind, the version that is expected, a
+    /// tenant id and a canonical name.
     #[tactic(auto, unfolding(crate::specs::Fields::read_front))]
     pub fn front(
         self,
@@ -215,9 +262,7 @@ impl<'a> Fields<'a> {
             (read_front letters.now version self.entry) }
         ensures few { IfOk result (λ x. length (canonical_of x.1) < 2 ^ 32) }
     {
-        let (tenant, rest) = self.magic(letters)?.version(version)?.tenant(alloc)?;
-        let (labels, after) = rest.name(alloc)?;
-        Ok((tenant, labels, after))
+        self.magic(letters)?.version(version)?.owner(alloc)
     }
 
     /// How many blocks a chunk has: a number of four bytes. `Truncated` where fewer are left, `BadField`

@@ -3,7 +3,8 @@
 ghost use Rattle.std.specs.Prelude.{◌≡◌, ◌++◌, ◌<◌, ◌^◌, OnOk, length, true};
 ghost use Rattle.std.specs.Str.{is_utf8};
 ghost use Rattle.std.specs.Int.{w32, w64, to_be_bytes};
-ghost use Rattle.ing_codec.specs.Fields.{short_text, long_text, front_text};
+ghost use Rattle.ing_codec.specs.Fields.{short_text, long_text, meta_text, front_text};
+ghost use Rattle.ing_codec.specs.Versions.{written_version};
 
 use byteorder::{BigEndian, ByteOrder};
 use ing_rows::{Line, Stamp, Tenant};
@@ -62,6 +63,14 @@ pub fn put_line(out: &mut Vec<u8>, line: &Line) -> Result<(), AllocError>
     let text = text_of(line);
     put_u32(out, text.len() as u32)?;
     out.extend_from_slice(text.as_bytes())
+}
+
+/// Writes what stands behind a line: one byte, how many pairs of metadata the entry has, which is none.
+pub fn put_meta(out: &mut Vec<u8>) -> Result<(), AllocError>
+    ensures { OnOk result (out.new.items ≡ out.old.items ++ meta_text written_version) }
+{
+    out.push(0)?;
+    Ok(())
 }
 
 /// The text of a line, which is UTF-8.

@@ -3,6 +3,7 @@
 mod aside;
 mod channels;
 mod clock;
+mod earlier;
 mod faults;
 mod flushes;
 mod folders;

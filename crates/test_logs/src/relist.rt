@@ -13,11 +13,20 @@ use std::test::Fail;
 
 /// The chunk of the tenant `t` and the stream `{a="1"}` with two entries: number 1, `yz` at stamp 3, and number 0, `x` at 5
 /// (written by another program).
-const CHUNK: [u8; 69] =
-    *b"INGC\x01\x01t\0\0\0\x07{a=\"1\"}\0\0\0\0\0\0\0\0\0\0\0\x01\0\0\0\x02\0\0\0\x01\0\0\0\0\0\0\0\x03\0\0\0\x02yz\0\0\0\0\0\0\0\0\0\0\0\x05\0\0\0\x01x";
+const CHUNK: [u8; 71] =
+    *b"INGC\x02\x01t\0\0\0\x07{a=\"1\"}\0\0\0\0\0\0\0\0\0\0\0\x01\0\0\0\x02\0\0\0\x01\0\0\0\0\0\0\0\x03\0\0\0\x02yz\0\0\0\0\0\0\0\0\0\0\0\0\x05\0\0\0\x01x\0";
 
 /// Its SHA-256 (computed by another program).
 const KEY: [u8; 32] = [
+    218, 100, 97, 251, 178, 150, 192, 230, 2, 147, 225, 136, 107, 126, 73, 64, 125, 70, 74, 167,
+    94, 228, 81, 139, 10, 60, 101, 176, 99, 106, 221, 159,
+];
+
+/// The same chunk in the first version, and the SHA-256 of that.
+const FIRST_CHUNK: [u8; 69] =
+    *b"INGC\x01\x01t\0\0\0\x07{a=\"1\"}\0\0\0\0\0\0\0\0\0\0\0\x01\0\0\0\x02\0\0\0\x01\0\0\0\0\0\0\0\x03\0\0\0\x02yz\0\0\0\0\0\0\0\0\0\0\0\x05\0\0\0\x01x";
+
+const FIRST_KEY: [u8; 32] = [
     167, 124, 250, 217, 151, 187, 123, 135, 242, 67, 141, 252, 208, 215, 176, 79, 246, 69, 122,
     105, 213, 201, 74, 75, 115, 252, 72, 59, 0, 159, 131, 242,
 ];
@@ -126,6 +135,34 @@ fn a_stored_chunk_is_listed_again(rt: HostRuntime) -> Result<(), Fail> {
     assert!(rt; put_whole(rt.alloc(), &mut end)? == KEY);
     assert!(rt; is_listed_again(rt.alloc(), &mut end, &stream)?);
     assert!(rt; end.failures() == 0);
+    Ok(())
+}
+
+/// What a log of the first version lists is of the first version, too, and stays as it is.
+#[test]
+fn a_chunk_of_the_first_version_is_listed_again(rt: HostRuntime) -> Result<(), Fail> {
+    let alloc = rt.alloc();
+    let stream = stream_of(alloc, "t", "{a=\"1\"}")?;
+    let store = MemoryStore::new(alloc)?;
+    let mut end = store.end(&rt, Fuse::None);
+    let name = chunk_name(alloc, &FIRST_KEY)?;
+    let _ = end.put(alloc, name.as_str(), &FIRST_CHUNK)?;
+    let last = Entry {
+        stamp: Stamp::of_nanoseconds(3).ok_or("a stamp")?,
+        line: Line::of_text(alloc, "yz")?,
+    };
+    let (tenant, labels) = (&stream.tenant, &stream.labels);
+    let listing = relist(
+        alloc,
+        &mut end,
+        tenant,
+        labels,
+        extent()?,
+        &FIRST_KEY,
+        Some(&last),
+    )?;
+    assert!(rt; listing.key() == FIRST_KEY && listing.extent() == extent()?);
+    assert!(rt; end.get(alloc, listing.receipt())?.as_slice() == FIRST_CHUNK.as_slice());
     Ok(())
 }
 
@@ -238,13 +275,13 @@ fn fault_over<R: Wait>(
     Ok(fault_of(alloc, &mut end, stream, extent()?, None))
 }
 
-/// An object that has a byte changed, and one that lacks its last.
+/// An object that has a byte changed, one that lacks its last, and the chunk in the first version, whose key is another.
 #[test]
 fn a_damaged_object_is_not_listed(rt: HostRuntime) -> Result<(), Fail> {
     let stream = stream_of(rt.alloc(), "t", "{a=\"1\"}")?;
     let mut changed = CHUNK;
-    changed[68] = b'z';
-    for bytes in [changed.as_slice(), &CHUNK[..68]] {
+    changed[69] = b'z';
+    for bytes in [changed.as_slice(), &CHUNK[..70], &FIRST_CHUNK] {
         let fault = fault_over(&rt, rt.alloc(), &stream, bytes)?;
         assert!(rt; fault == Some(RelistFault::BadObject { key: KEY }));
     }

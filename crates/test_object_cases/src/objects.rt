@@ -19,15 +19,18 @@ pub fn chunk_told(alloc: Global, bytes: &[u8]) -> Result<String> {
     }
 }
 
-/// What a chunk is, which has to be written again as these bytes.
+/// What a chunk is, and how it is written: as these bytes, or, of the first version, as a chunk of another name.
 fn whole_told(alloc: Global, bytes: &[u8], chunk: &StoredChunk) -> Result<String> {
-    if encode_chunk(alloc, &chunk.view())?.as_slice() != bytes {
-        bail!("a chunk is written in another way");
-    }
     let parts = parts_told(alloc, chunk)?;
     let last = last_told(alloc, &decode_lent(alloc, bytes)?)?;
     let name = chunk_name(alloc, &chunk_key(bytes))?;
-    Ok(format!(in alloc; "{parts}, the last {last}, {name}")?)
+    let told = format!(in alloc; "{parts}, the last {last}, {name}")?;
+    let written = encode_chunk(alloc, &chunk.view())?;
+    if written.as_slice() == bytes {
+        return Ok(told);
+    }
+    let other = chunk_name(alloc, &chunk_key(&written))?;
+    Ok(format!(in alloc; "{told}, written as {other}")?)
 }
 
 /// Whose a chunk is, and what it has.

@@ -9,11 +9,11 @@ use std::test::Fail;
 use std::thread;
 
 /// The name of the object of that chunk.
-const CHUNK_NAME: &str = "c-a77cfad997bb7b87f2438dfcd0d7b04ff6457a69d5c94a4b73fc483b009f83f2";
+const CHUNK_NAME: &str = "c-da6461fbb296c0e60293e1886b7e49407d464aa75ee4518b0a3c65b0636add9f";
 
 /// The name of the row's object.
 const ROW_NAME: &str =
-    "r-23908dbe68dd19f9-a77cfad997bb7b87f2438dfcd0d7b04ff6457a69d5c94a4b73fc483b009f83f2";
+    "r-23908dbe68dd19f9-da6461fbb296c0e60293e1886b7e49407d464aa75ee4518b0a3c65b0636add9f";
 
 /// Whether an object of this name with these bytes is found, by an end that does not fail.
 fn has<R: Wait>(rt: &R, store: &MemoryStore, alloc: Global, name: &str, bytes: &[u8]) -> bool {

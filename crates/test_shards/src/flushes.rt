@@ -11,11 +11,11 @@ use std::test::Fail;
 /// The name of the chunk of tenant `t` with labels `{a="1"}`: number 1 at stamp 3 with `yz` and number 0 at stamp 5 with `x`,
 /// in one block.
 pub(crate) const CHUNK_NAME: &str =
-    "c-a77cfad997bb7b87f2438dfcd0d7b04ff6457a69d5c94a4b73fc483b009f83f2";
+    "c-da6461fbb296c0e60293e1886b7e49407d464aa75ee4518b0a3c65b0636add9f";
 
 /// The name of its row.
 pub(crate) const ROW_NAME: &str =
-    "r-23908dbe68dd19f9-a77cfad997bb7b87f2438dfcd0d7b04ff6457a69d5c94a4b73fc483b009f83f2";
+    "r-23908dbe68dd19f9-da6461fbb296c0e60293e1886b7e49407d464aa75ee4518b0a3c65b0636add9f";
 
 /// How many of the chunk and its row are found; the row is not there without the chunk.
 fn standing<R: Wait + Abort>(rt: &R, alloc: Global, store: &MemoryStore) -> Result<usize, Fail> {

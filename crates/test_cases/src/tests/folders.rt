@@ -15,7 +15,8 @@ use std::{fs, process};
 /// A query that finds what `PUSHES` has of one tenant.
 const QUERY: &str = "{\"cmd\":\"query\",\"tenant\":\"t\",\"query\":\"{a=\\\"1\\\"}\"}\n";
 
-const CHECKPOINT: &str = "{\"cmd\":\"checkpoint\"}\n";
+/// A checkpoint of each shard.
+pub const CHECKPOINT: &str = "{\"cmd\":\"checkpoint\"}\n";
 
 /// A folder of one test alone, and a settings file.
 #[derive(Drop)]
@@ -41,7 +42,7 @@ pub fn remove(rt: &HostRuntime, places: &Places) -> Result<(), Fail> {
 }
 
 /// What a run over the folder writes, which ends well.
-fn written<
+pub fn written<
     H: Files + AllocGlobal + Threads + Wait + Sync,
     D: LogDisk + Drop + Send,
     Q: Receipt + Send + Sync,

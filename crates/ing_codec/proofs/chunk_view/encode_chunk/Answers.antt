@@ -1,3 +1,4 @@
+use Rattle.ing_codec.specs.Versions.{written_version}
 use Rattle.ing_codec.specs.ChunkReading.{chunk_object}
 use Rattle.ing_codec.proofs.Writes.{are_writable, blocks_more, blocks_through, object_of}
 use Rattle.ing_codec.proofs.chunk_view.encode_chunk.Goals as goal
@@ -12,7 +13,7 @@ loop-block-preserved c =
     let inside = c.chunk.inside in
     let p = chunk_object inside.tenant.now inside.name.now inside.first inside.blocks.now in
     record {
-      text = blocks_more c.args.chunk.now p c.loop-block.block-index c.block-item.result c.loop-block.out.items c.put_block.new.out.items c.chunk.view_is c.loop-block-test.true c.block-item.is c.loop-block.invariant.text c.in_ok-put_block.ensures.text;
+      text = blocks_more written_version c.args.chunk.now p c.loop-block.block-index c.block-item.result c.loop-block.out.items c.put_block.new.out.items c.chunk.view_is c.loop-block-test.true c.block-item.is c.loop-block.invariant.text c.in_ok-put_block.ensures.text;
       blocks = blocks_through c.args.chunk.now p c.loop-block.block-index c.block-item.result c.chunk.view_is c.loop-block-test.true c.block-item.is c.loop-block.invariant.blocks c.in_ok-put_block.ensures.block;
     }
 
