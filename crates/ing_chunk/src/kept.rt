@@ -5,7 +5,7 @@ ghost use Rattle.ing_chunk.specs.Kept.{IsKeptOf};
 ghost use Rattle.ing_chunk.specs.declared.numbered.Numbered.{Numbered};
 
 use super::block::Block;
-use super::numbered::{LAST_STAMP, Numbered, size_of};
+use super::numbered::{LAST_STAMP, Numbered};
 
 /// How many entries there are, their size in bytes, and their least and greatest stamp in nanoseconds.
 #[derive(Clone, Copy, Debug)]
@@ -29,10 +29,10 @@ impl Kept {
     pub fn of_one(numbered: &Numbered) -> Kept
         ensures { IsKeptOf result (numbered.now ∷ []) }
     {
-        let stamp = numbered.entry.stamp.nanoseconds();
+        let stamp = numbered.entry.stamp().nanoseconds();
         Kept {
             count: 1,
-            size: size_of(&numbered.entry),
+            size: numbered.entry.size(),
             least: stamp,
             greatest: stamp,
         }
