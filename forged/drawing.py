@@ -21,8 +21,6 @@ SHARDS = 64
 STREAMS = 4  # of each shard
 TENANTS = ["t", "acme", "!-_.*'()", "x" * 150]
 OTHER_LABELS = [{}, {"app": "web"}, {"m": 'a"b\\c\nd'}, {"Z_9": "ä€😀"}, {"long": "v" * 300}]
-NAMES = [b"k", b"level", b"trace_id", b"n" * 1024, "ä€".encode()]
-VALUES = [b"", b"v", b"info", "😀".encode(), b"w" * 300]
 LINES = [b"", b"x", b"a line of some length", b'quote " and \\', b"line\nfeed\r\t\0", "ä€😀\u200b\u0301".encode(), b"y" * 700]
 
 
@@ -51,28 +49,20 @@ def draw_stamp(draw):
     return draw.choice([draw.randrange(10), draw.randrange(10**6), 2**63 - 1 - draw.randrange(3)])
 
 
-def draw_metadata(draw, version):
-    """What an entry has beside its line: mostly nothing, and in the first version never anything."""
-    if version == 1 or draw.random() < 0.7:
-        return ()
-    names = draw.choice([NAMES[:1], NAMES[1:3], draw.sample(NAMES, 3), [b"%03d" % at for at in range(128)]])
-    return tuple((name, draw.choice(VALUES)) for name in sorted(names))
-
-
-def draw_entries(draw, most, version):
-    return [Entry(draw_stamp(draw), draw.choice(LINES), draw_metadata(draw, version)) for _ in range(draw.randint(1, most))]
+def draw_entries(draw, most):
+    return [Entry(draw_stamp(draw), draw.choice(LINES)) for _ in range(draw.randint(1, most))]
 
 
 def draw_chunk(draw, names):
     """The text of a chunk object."""
-    blocks, version = Blocks(), draw.choice(VERSIONS)
+    blocks = Blocks()
     for _ in range(draw.randint(1, 3)):
-        block = draw_entries(draw, 5, version)
+        block = draw_entries(draw, 5)
         blocks.sizes.append(len(block))
         blocks.entries += block
     name, count = draw.choice(draw.choice(names)), len(blocks.entries)
     first = draw.choice([0, 0, 7, 2**32 - 1, 2**62 - count - 1, 2**62 - count])
-    return chunk_text(ChunkObject(name.tenant, name.name, first, blocks), version)
+    return chunk_text(ChunkObject(name.tenant, name.name, first, blocks), draw.choice(VERSIONS))
 
 
 def draw_row(draw, names):
@@ -89,18 +79,18 @@ def draw_log(draw, settings, names, objects):
     the objects."""
     shard, version = Shard(settings, objects), draw.choice(VERSIONS)
     for _ in range(draw.choice([0, 2, 5, 12])):
-        assert shard.fits(draw_record(draw, shard, names, objects, version))
+        assert shard.fits(draw_record(draw, shard, names, objects))
     texts = [payload(shard.said(), version)]
     shard.has_begun = True
     for _ in range(draw.choice([0, 1, 3, 6])):
-        said = draw_record(draw, shard, names, objects, version)
+        said = draw_record(draw, shard, names, objects)
         assert shard.fits(said)
         texts.append(payload(said, version))
     return b"".join(record(text) for text in texts)
 
 
-def draw_record(draw, shard, names, objects, version):
-    """A record of a log of this version that fits what the shard has: a push where no other does."""
+def draw_record(draw, shard, names, objects):
+    """A record that fits what the shard has: a push where no other does."""
     kind, streams = draw.random(), list(shard.streams.items())
     growing = [key for key, stream in streams if stream.chunks[-1].grows()]
     waiting = [(key, chunk) for key, stream in streams for chunk in stream.chunks if chunk.waits()]
@@ -110,11 +100,10 @@ def draw_record(draw, shard, names, objects, version):
     if kind < 0.5 and waiting:
         (tenant, name), chunk = draw.choice(waiting)
         said = ChunkObject(tenant, name, chunk.first, chunk.blocks)
-        told = any(entry.metadata for entry in chunk.blocks.entries)
-        key = put_object(objects, chunk_text(said, 2 if told else draw.choice(VERSIONS)))  # whatever the log's version is
+        key = put_object(objects, chunk_text(said, draw.choice(VERSIONS)))  # whatever the log's version is
         return StoredChunk(tenant, name, chunk.first, key)
     stream = draw.choice(names)
-    return Push(draw.choice([0, 10**18, 2**63 - 1]), stream.tenant, stream.name, draw_entries(draw, 6, version))
+    return Push(draw.choice([0, 10**18, 2**63 - 1]), stream.tenant, stream.name, draw_entries(draw, 6))
 
 
 def put_object(objects, text):

@@ -64,7 +64,7 @@ def change_version(draw, pieces, others):
 
 
 def change_metadata(draw, pieces, others):
-    """An entry without metadata tells of some, or behind its line stands no byte, or two."""
+    """An entry tells of metadata, or behind its line stands no byte, or two."""
     at = place_of(draw, pieces, lambda piece: piece == b"\0")  # no other number of one byte is 0
     if at is None:
         return pieces

@@ -33,7 +33,7 @@ fn put_entry(out: &mut Vec<u8>, number: u32, line: &Line) -> Result<(), AllocErr
     put_u32(out, number)?;
     put_u64(out, u64::from(number) * 1_000_000)?;
     put_line(out, line)?;
-    put_meta(out, &[])?;
+    put_meta(out)?;
     Ok(())
 }
 

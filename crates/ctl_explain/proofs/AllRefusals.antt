@@ -5,12 +5,12 @@ use Rattle.std.proofs.lemmas.List.Folds.{list_any_at}
 use Rattle.std.proofs.lemmas.Bool.Decides.{nat_tests}
 use Rattle.std.specs.List.Sorted.{IsStrictlyIncreasing}
 use Rattle.ing_refusals.specs.declared.refusal.Refusal.{Refusal}
-use Rattle.ing_refusals.specs.declared.refusal.Refusal.TheVariants.{NoMemory, BadName, TwiceNamed, NoLabels, TooMany, NameTooLong, ValueTooLong, NotCanonical, BadSelector, TooWide, NotToml, UnknownSetting, BadSetting, Truncated, BadMagic, BadVersion, BadField, OutOfOrder, Trailing, CounterFull, Failed, Damaged, DamagedLog, OtherSettings, Stranger, QueueFull, StoreFault, BadObject, StillOut, Mismatch, BadTenant, BadStamp, TooManyEntries, BadCommand, Metadata, LogFault, InputFault, OutputFault, BadArguments, NoSettings, BadMeta, MetaTwice, TooMuchMeta, Misplaced, FolderInUse, MissingLog}
+use Rattle.ing_refusals.specs.declared.refusal.Refusal.TheVariants.{NoMemory, BadName, TwiceNamed, NoLabels, TooMany, NameTooLong, ValueTooLong, NotCanonical, BadSelector, TooWide, NotToml, UnknownSetting, BadSetting, Truncated, BadMagic, BadVersion, BadField, OutOfOrder, Trailing, CounterFull, Failed, Damaged, DamagedLog, OtherSettings, Stranger, QueueFull, StoreFault, BadObject, StillOut, Mismatch, BadTenant, BadStamp, TooManyEntries, BadCommand, Metadata, LogFault, InputFault, OutputFault, BadArguments, NoSettings, Misplaced, FolderInUse, MissingLog}
 use Rattle.ing_refusals.specs.Refusals.{refusal_number}
 
 abbrev pub all_refusals : List Refusal
 all_refusals =
-    NoMemory ∷ BadName ∷ TwiceNamed ∷ NoLabels ∷ TooMany ∷ NameTooLong ∷ ValueTooLong ∷ NotCanonical ∷ BadSelector ∷ TooWide ∷ NotToml ∷ UnknownSetting ∷ BadSetting ∷ Truncated ∷ BadMagic ∷ BadVersion ∷ BadField ∷ OutOfOrder ∷ Trailing ∷ CounterFull ∷ Failed ∷ Damaged ∷ DamagedLog ∷ OtherSettings ∷ Stranger ∷ QueueFull ∷ StoreFault ∷ BadObject ∷ StillOut ∷ Mismatch ∷ BadTenant ∷ BadStamp ∷ TooManyEntries ∷ BadCommand ∷ Metadata ∷ LogFault ∷ InputFault ∷ OutputFault ∷ BadArguments ∷ NoSettings ∷ BadMeta ∷ MetaTwice ∷ TooMuchMeta ∷ Misplaced ∷ FolderInUse ∷ MissingLog ∷ []
+    NoMemory ∷ BadName ∷ TwiceNamed ∷ NoLabels ∷ TooMany ∷ NameTooLong ∷ ValueTooLong ∷ NotCanonical ∷ BadSelector ∷ TooWide ∷ NotToml ∷ UnknownSetting ∷ BadSetting ∷ Truncated ∷ BadMagic ∷ BadVersion ∷ BadField ∷ OutOfOrder ∷ Trailing ∷ CounterFull ∷ Failed ∷ Damaged ∷ DamagedLog ∷ OtherSettings ∷ Stranger ∷ QueueFull ∷ StoreFault ∷ BadObject ∷ StillOut ∷ Mismatch ∷ BadTenant ∷ BadStamp ∷ TooManyEntries ∷ BadCommand ∷ Metadata ∷ LogFault ∷ InputFault ∷ OutputFault ∷ BadArguments ∷ NoSettings ∷ Misplaced ∷ FolderInUse ∷ MissingLog ∷ []
 
 pub all_are_there : (refusal : Refusal) → Contains all_refusals refusal
 all_are_there NoMemory = (0, omega arith, refl)
@@ -53,12 +53,9 @@ all_are_there InputFault = (36, omega arith, refl)
 all_are_there OutputFault = (37, omega arith, refl)
 all_are_there BadArguments = (38, omega arith, refl)
 all_are_there NoSettings = (39, omega arith, refl)
-all_are_there BadMeta = (40, omega arith, refl)
-all_are_there MetaTwice = (41, omega arith, refl)
-all_are_there TooMuchMeta = (42, omega arith, refl)
-all_are_there Misplaced = (43, omega arith, refl)
-all_are_there FolderInUse = (44, omega arith, refl)
-all_are_there MissingLog = (45, omega arith, refl)
+all_are_there Misplaced = (40, omega arith, refl)
+all_are_there FolderInUse = (41, omega arith, refl)
+all_are_there MissingLog = (42, omega arith, refl)
 
 pub number_is_small : (refusal : Refusal) → refusal_number refusal < 2 ^ 32
 number_is_small NoMemory = omega arith
@@ -101,9 +98,6 @@ number_is_small InputFault = omega arith
 number_is_small OutputFault = omega arith
 number_is_small BadArguments = omega arith
 number_is_small NoSettings = omega arith
-number_is_small BadMeta = omega arith
-number_is_small MetaTwice = omega arith
-number_is_small TooMuchMeta = omega arith
 number_is_small Misplaced = omega arith
 number_is_small FolderInUse = omega arith
 number_is_small MissingLog = omega arith

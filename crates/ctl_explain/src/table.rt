@@ -31,8 +31,8 @@ impl fmt::Display for Page {
     }
 }
 
-/// What is told of each refusal: all 46, in order of number.
-pub(crate) static TABLE: [Page; 46] = [
+/// What is told of each refusal: all 41, in order of number.
+pub(crate) static TABLE: [Page; 43] = [
     Page {
         refusal: Refusal::NoMemory,
         meaning: "Memory ran out.",
@@ -272,24 +272,6 @@ pub(crate) static TABLE: [Page; 46] = [
         meaning: "The settings file cannot be read.",
         when: "Before any input is read; status 1.",
         advice: "Look at its path and rights.",
-    },
-    Page {
-        refusal: Refusal::BadMeta,
-        meaning: "A pair of metadata has no name, a name of more than 1,024 bytes, or a value of more than 65,536.",
-        when: "By the library alone, where metadata is made of pairs: no command takes metadata yet.",
-        advice: "Give each value a name of 1 to 1,024 bytes, and shorten the value.",
-    },
-    Page {
-        refusal: Refusal::MetaTwice,
-        meaning: "Two pairs of metadata have one name.",
-        when: "By the library alone, where metadata is made of pairs: no command takes metadata yet.",
-        advice: "Give each name once.",
-    },
-    Page {
-        refusal: Refusal::TooMuchMeta,
-        meaning: "An entry has more than 128 pairs of metadata, or more than 65,536 bytes of names and values.",
-        when: "By the library alone, where metadata is made of pairs: no command takes metadata yet.",
-        advice: "Put less beside the line.",
     },
     Page {
         refusal: Refusal::Misplaced,

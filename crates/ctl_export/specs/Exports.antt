@@ -9,10 +9,10 @@ use Rattle.ing_query.specs.Fetched.{NotBad}
 use Rattle.ing_query.specs.declared.fault.QueryFault.{QueryFault}
 use Rattle.ing_query.specs.declared.fault.QueryFault.TheVariants as query
 use Rattle.ing_rows.specs.Rows.{Row, StreamKey}
-use Rattle.ing_rows.specs.Entries.{Entry}
+use Rattle.ing_rows.specs.declared.entry.Entry.{Entry}
 use Rattle.ctl_export.specs.Reads.{AreInOrder, AreOf}
 use Rattle.ctl_export.specs.declared.fault.ExportFault.{ExportFault}
-use Rattle.ctl_export.specs.declared.fault.ExportFault.TheVariants.{NoMemory, Query, OutputFault, NoName, TooLong, HasMetadata}
+use Rattle.ctl_export.specs.declared.fault.ExportFault.TheVariants.{NoMemory, Query, OutputFault, NoName, TooLong}
 
 -- without its number
 abbrev pub entry_of : Numbered → Entry
@@ -58,7 +58,6 @@ IsNoQuery (Query fault) = ⊥
 IsNoQuery OutputFault = Unit {0}
 IsNoQuery NoName = Unit {0}
 IsNoQuery TooLong = Unit {0}
-IsNoQuery HasMetadata = Unit {0}
 
 -- it is no bad object
 abbrev pub IsNoBadObject : ExportFault → Type 0
@@ -67,4 +66,3 @@ IsNoBadObject (Query fault) = NotBad fault
 IsNoBadObject OutputFault = Unit {0}
 IsNoBadObject NoName = Unit {0}
 IsNoBadObject TooLong = Unit {0}
-IsNoBadObject HasMetadata = Unit {0}

@@ -18,8 +18,6 @@ pub enum ExportFault {
     /// Its labels, or an entry, take more than a command may have; under no settings does `ingestd`
     /// accept such.
     TooLong,
-    /// An entry has metadata, which a command cannot tell.
-    HasMetadata,
 }
 
 impl From<AllocError> for ExportFault {
@@ -77,7 +75,6 @@ impl From<LoadFault> for ExportFault {
     fn from(fault: LoadFault) -> ExportFault {
         match fault {
             LoadFault::NoMemory => ExportFault::NoMemory,
-            LoadFault::HasMetadata => ExportFault::HasMetadata,
             _ => ExportFault::TooLong,
         }
     }
@@ -91,7 +88,6 @@ impl From<EntryFault> for ExportFault {
     fn from(fault: EntryFault) -> ExportFault {
         match fault {
             EntryFault::TooLong => ExportFault::TooLong,
-            EntryFault::HasMetadata => ExportFault::HasMetadata,
             EntryFault::Ended(FeedEnding::NoMemory) => ExportFault::NoMemory,
             EntryFault::Ended(_) => ExportFault::OutputFault,
         }

@@ -56,7 +56,7 @@ impl From<AllocError> for ShardFault {
 /// not all read is left out, and told in `unread`. A flush comes before a stream where a tenant has as many live ones as may be.
 ///
 /// `NotRestored` where the shard is not made again; then nothing is written. `Stream` where a write failed, or the stream has no
-/// place in a command, or an entry of it has metadata; `NoMemory`. (Own.)
+/// place in a command; `NoMemory`. (Own.)
 pub fn export_log<S: StoreEnd, W: Write>(
     alloc: Global,
     settings: Settings,

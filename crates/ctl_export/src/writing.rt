@@ -26,9 +26,8 @@ pub struct Exported {
 /// a line, with the stream's tenant and labels. `now` of the commands is no less than any of the
 /// stamps. Nothing is written where there is no entry.
 ///
-/// `OutputFault` where a write failed; then the last line may be cut. `HasMetadata` where an entry
-/// has metadata, and `NoMemory`; then entries may be lost. `NoName` and `TooLong` come of no stream
-/// that `ingestd` took. (Own.)
+/// `OutputFault` where a write failed; then the last line may be cut. `NoMemory`, and then entries
+/// may be lost. `NoName` and `TooLong` come of no stream that `ingestd` took. (Own.)
 pub fn write_stream<W: Write>(
     alloc: Global,
     writer: &mut W,
@@ -60,7 +59,7 @@ fn greatest_of(entries: &[Numbered]) -> Stamp
 {
     let mut greatest = Stamp::of_nanoseconds(0).unwrap();
     for numbered in entries {
-        let stamp = numbered.entry.stamp();
+        let stamp = numbered.entry.stamp;
         if stamp.nanoseconds() > greatest.nanoseconds() {
             greatest = stamp;
         }

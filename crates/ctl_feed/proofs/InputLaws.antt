@@ -6,7 +6,7 @@ use Rattle.std.specs.Io.KnownBytes.{Appends}
 use Rattle.std.proofs.lemmas.Bool.Decides.{nat_tests}
 use Rattle.std.proofs.lemmas.Grind.{flat_map-append}
 use Rattle.ing_refusals.specs.Results.{◌>>=◌}
-use Rattle.ing_rows.specs.Entries.{Entry, plain}
+use Rattle.ing_rows.specs.declared.entry.Entry.{Entry}
 use Rattle.ctl_feed.specs.declared.load_fault.LoadFault.{LoadFault}
 use Rattle.ctl_feed.specs.declared.load_fault.LoadFault.TheVariants.{NoStamp, TooLong}
 use Rattle.ctl_feed.specs.Loads.{Finishes, Load, Takes, entry_at, entry_of, max_bytes, size_of, sized, stamp_for, stamped, with_entry}
@@ -54,9 +54,9 @@ sized_same : (b : Bool) (made entry : Entry) → ◌≡◌ {A = Result Entry Loa
 sized_same true made entry h = cc
 sized_same false made entry h = absurd cc
 
-stamped_as : (b : Bool) (stamp : ℕ) (text : List ℕ) (entry : Entry) → (cond b (Ok (plain stamp text)) (Err NoStamp) >>= sized) ≡ Ok entry → entry.stamp ≡ stamp
+stamped_as : (b : Bool) (stamp : ℕ) (text : List ℕ) (entry : Entry) → (cond b (Ok (record { stamp = stamp; line = text })) (Err NoStamp) >>= sized) ≡ Ok entry → entry.stamp ≡ stamp
 stamped_as true stamp text entry h =
-    let made : Entry = plain stamp text in
+    let made : Entry = record { stamp = stamp; line = text } in
     ap (λ e. e.stamp) (sym (sized_same (nat_le (size_of made) max_bytes) made entry h))
 stamped_as false stamp text entry h = absurd cc
 

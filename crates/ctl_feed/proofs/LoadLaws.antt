@@ -3,7 +3,7 @@ use Rattle.std.proofs.Common.{◌≡◌, ℕ, ◌<◌, true, List, [], ◌∷◌
 use Rattle.std.specs.Prelude.{IfOk, OnOk}
 use Rattle.std.specs.List.{list_all}
 use Rattle.serde_json.specs.Written.{compact_text}
-use Rattle.ing_rows.specs.Entries.{Entry}
+use Rattle.ing_rows.specs.declared.entry.Entry.{Entry}
 use Rattle.ctl_feed.specs.Loads.{IsCommand, IsLoad, sizes_of}
 use Rattle.ctl_feed.specs.Pushes.{Says, is_stamp, push_data, push_of}
 use Rattle.ctl_feed.proofs.SizeLaws.{command_short, values_within}

@@ -1,10 +1,9 @@
 -- A push that is written is read back.
-use Rattle.std.proofs.Common.{◌≡◌, ℕ, ◌^◌, ◌<◌, ◌≤◌, ◌&&◌, Bool, true, false, List, [], ◌∷◌, map, length, codes, decimal, Some, Result, Ok, Err, refl, ap, ap₂, ◌∙◌, ◌==◌, arith, rules}
+use Rattle.std.proofs.Common.{◌≡◌, ℕ, ◌^◌, ◌<◌, ◌≤◌, ◌&&◌, Bool, true, false, List, [], ◌∷◌, map, length, codes, decimal, Some, Result, Ok, Err, refl, ap, ap₂, ◌∙◌, arith, rules}
 use Rattle.std.specs.Prelude.{nat_lt, nat_le, is_ok}
 use Rattle.std.specs.List.{list_all, list_any}
 use Rattle.std.specs.Result.{result_unwrap_or}
 use Rattle.std.specs.Str.{IsUtf8}
-use Rattle.std.proofs.Math.Dec.{eqb-suc-zero}
 use Rattle.std.proofs.lemmas.Bool.Decides.{nat_tests}
 use Rattle.std.proofs.lemmas.Fmt.{decimal_nonempty, length-decimal-le, digits_decimal, digits_value-decimal}
 use Rattle.std.proofs.lemmas.Str.{is_utf8-from_IsUtf8}
@@ -15,14 +14,13 @@ use Rattle.serde_json.specs.View.{items_of}
 use Rattle.serde_json.specs.Written.{has_float, items_have_float, members_have_float}
 use Rattle.ing_refusals.specs.Results.{◌>>=◌}
 use Rattle.ing_rows.specs.Texts.{is_tenant, is_digit, digits_value, stamp_of}
-use Rattle.ing_labels.specs.Labels.{Pair}
-use Rattle.ing_rows.specs.Entries.{Entry, plain}
+use Rattle.ing_rows.specs.declared.entry.Entry.{Entry}
 use Rattle.ing_commands.specs.declared.fault.LineFault.{LineFault}
 use Rattle.ing_commands.specs.Commands.{Push, said_by, command_of}
 use Rattle.ing_commands.specs.PushCommands.{RawValue, RawStream, RawPush, raw_value, raw_labels, raw_stream, raw_push, is_no_stamp, entry_of, checked}
 use Rattle.ing_commands.specs.Shapes.{each, text_of}
 use Rattle.ctl_feed.specs.Labels.{labels_read, label_members, labels_data}
-use Rattle.ctl_feed.specs.Pushes.{push_of, push_data, value_data, is_plain, is_stamp}
+use Rattle.ctl_feed.specs.Pushes.{push_of, push_data, value_data, is_stamp}
 
 -- ---- stamps in digits
 
@@ -74,20 +72,11 @@ good_values (entry ∷ entries) h =
     let p = both_true (is_stamp entry) (list_all is_stamp entries) h in
     rw (decimal_good entry.stamp (is_below entry.stamp (2 ^ 63) p.0), good_values entries p.1)
 
-plain_again : (stamp : ℕ) (line : List ℕ) (meta : List Pair) → (length meta == 0) ≡ true → plain stamp line ≡ record { stamp = stamp; line = line; meta = meta }
-plain_again stamp line [] h = refl
-plain_again stamp line (pair ∷ meta) h = absurd (cc (eqb-suc-zero (length meta)))
-
--- an entry without metadata is its stamp and its line
-plain_is : (entry : Entry) → is_plain entry ≡ true → plain entry.stamp entry.line ≡ entry
-plain_is entry h = plain_again entry.stamp entry.line entry.meta h
-
-entries_back : (entries : List Entry) → list_all is_stamp entries ≡ true → list_all is_plain entries ≡ true → map entry_of (map raw_of entries) ≡ entries
-entries_back [] h k = refl
-entries_back (entry ∷ entries) h k =
+entries_back : (entries : List Entry) → list_all is_stamp entries ≡ true → map entry_of (map raw_of entries) ≡ entries
+entries_back [] h = refl
+entries_back (entry ∷ entries) h =
     let p = both_true (is_stamp entry) (list_all is_stamp entries) h in
-    let q = both_true (is_plain entry) (list_all is_plain entries) k in
-    rw (stamp_of-decimal entry.stamp (is_below entry.stamp (2 ^ 63) p.0)) (ap₂ (λ (e : Entry) (es : List Entry). e ∷ es) (plain_is entry q.0) (entries_back entries p.1 q.1))
+    rw (stamp_of-decimal entry.stamp (is_below entry.stamp (2 ^ 63) p.0), entries_back entries p.1)
 
 -- ---- the labels
 
@@ -150,23 +139,23 @@ push_read : (tenant : List ℕ) (now : ℕ) (labels : List (List ℕ × List ℕ
 unfolding raw_push
 push_read tenant now labels entries = rw (stream_read labels entries)
 
-push_checked : (tenant : List ℕ) (now : ℕ) (labels : List (List ℕ × List ℕ)) (entries : List Entry) → is_tenant tenant ≡ true → now < 2 ^ 63 → list_all is_stamp entries ≡ true → list_all is_plain entries ≡ true
+push_checked : (tenant : List ℕ) (now : ℕ) (labels : List (List ℕ × List ℕ)) (entries : List Entry) → is_tenant tenant ≡ true → now < 2 ^ 63 → list_all is_stamp entries ≡ true
     → checked (push_texts tenant now labels entries) ≡ Ok (push_of tenant now labels entries)
-push_checked tenant now labels entries good time stamps plain =
-    rw (no_third entries, good, decimal_good now time, good_values entries stamps, stamp_of-decimal now time, entries_back entries stamps plain)
+push_checked tenant now labels entries good time stamps =
+    rw (no_third entries, good, decimal_good now time, good_values entries stamps, stamp_of-decimal now time, entries_back entries stamps)
 
-push_said : (tenant : List ℕ) (now : ℕ) (labels : List (List ℕ × List ℕ)) (entries : List Entry) → is_tenant tenant ≡ true → now < 2 ^ 63 → list_all is_stamp entries ≡ true → list_all is_plain entries ≡ true
+push_said : (tenant : List ℕ) (now : ℕ) (labels : List (List ℕ × List ℕ)) (entries : List Entry) → is_tenant tenant ≡ true → now < 2 ^ 63 → list_all is_stamp entries ≡ true
     → said_by (push_data tenant now labels entries) ≡ Ok (Push (push_of tenant now labels entries))
 unfolding said_by
-push_said tenant now labels entries good time stamps plain =
-    rw (push_read tenant now labels entries, push_checked tenant now labels entries good time stamps plain)
+push_said tenant now labels entries good time stamps =
+    rw (push_read tenant now labels entries, push_checked tenant now labels entries good time stamps)
 
 -- the reader takes a text of that data as the push
 pub read_as_push : (text tenant : List ℕ) (now : ℕ) (labels : List (List ℕ × List ℕ)) (entries : List Entry) → IsUtf8 text → read text ≡ Some (push_data tenant now labels entries)
-    → is_tenant tenant ≡ true → now < 2 ^ 63 → list_all is_stamp entries ≡ true → list_all is_plain entries ≡ true
+    → is_tenant tenant ≡ true → now < 2 ^ 63 → list_all is_stamp entries ≡ true
     → command_of text ≡ Ok (Push (push_of tenant now labels entries))
-read_as_push text tenant now labels entries utf8 is good time stamps plain =
-    rw (is_utf8-from_IsUtf8 text utf8, is) (push_said tenant now labels entries good time stamps plain)
+read_as_push text tenant now labels entries utf8 is good time stamps =
+    rw (is_utf8-from_IsUtf8 text utf8, is) (push_said tenant now labels entries good time stamps)
 
 -- ---- how deep it nests, and that it has no float
 

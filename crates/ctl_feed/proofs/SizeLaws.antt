@@ -9,7 +9,7 @@ use Rattle.std.proofs.lemmas.Fmt.{length-decimal-le, digits_decimal}
 use Rattle.serde_json.specs.View.{items_of}
 use Rattle.serde_json.specs.Written.{comma_if, compact_text, items_text}
 use Rattle.ing_rows.specs.Texts.{is_digit}
-use Rattle.ing_rows.specs.Entries.{Entry}
+use Rattle.ing_rows.specs.declared.entry.Entry.{Entry}
 use Rattle.ctl_feed.specs.Labels.{labels_data}
 use Rattle.ctl_feed.specs.Loads.{head_size, size_of, sizes_of, value_length}
 use Rattle.ctl_feed.specs.Pushes.{is_stamp, push_data, value_data}

@@ -9,8 +9,8 @@ use Rattle.serde_json.specs.Data.{Data, depth}
 use Rattle.serde_json.specs.Read.{read, max_depth}
 use Rattle.serde_json.specs.Written.{compact_text, has_float}
 use Rattle.ing_rows.specs.Texts.{is_tenant}
-use Rattle.ing_rows.specs.Entries.{Entry}
-use Rattle.ctl_feed.specs.Pushes.{Says, is_plain, is_stamp, push_data, push_of}
+use Rattle.ing_rows.specs.declared.entry.Entry.{Entry}
+use Rattle.ctl_feed.specs.Pushes.{Says, is_stamp, push_data, push_of}
 use Rattle.ctl_feed.proofs.OneLine.{printed_clean}
 use Rattle.ctl_feed.proofs.ReadBack.{read_as_push, push_depth, push_has_none}
 
@@ -18,13 +18,13 @@ module _ {X E : Type 0} (items : X → List ℕ) (tenant : List ℕ) (now : ℕ)
   -- a text that is written of the value
   pub written_says : (r : Result X E) (d : Data) → d ≡ push_data tenant now labels entries
       → IfOk r (λ b. items b ≡ print (tokens (items b))) → IfOk r (λ b. IsUtf8 (items b)) → IfOk r (λ b. depth d ≤ max_depth → read (items b) ≡ Some d)
-      → is_tenant tenant ≡ true → now < 2 ^ 63 → list_all is_stamp entries ≡ true → list_all is_plain entries ≡ true
+      → is_tenant tenant ≡ true → now < 2 ^ 63 → list_all is_stamp entries ≡ true
       → IfOk r (λ b. Says (items b) (push_of tenant now labels entries))
-  written_says (Err e) d is compact utf8 back good time stamps plain = tt
-  written_says (Ok b) d is compact utf8 back good time stamps plain =
+  written_says (Err e) d is compact utf8 back good time stamps = tt
+  written_says (Ok b) d is compact utf8 back good time stamps =
       let shallow : depth d ≤ max_depth = rw is (push_depth tenant now labels entries) in
       record {
-        read = read_as_push (items b) tenant now labels entries utf8 (back shallow ∙ ap Some is) good time stamps plain;
+        read = read_as_push (items b) tenant now labels entries utf8 (back shallow ∙ ap Some is) good time stamps;
         one_line = printed_clean (items b) compact;
       }
 

@@ -2,7 +2,7 @@
 use Rattle.std.specs.Prelude.{◌≡◌, ℕ, ◌≤◌, List, ◌++◌, flat_map, length, Option}
 use Rattle.std.specs.List.{AllByRecursion}
 use Rattle.std.specs.Io.KnownBytes.{Appends}
-use Rattle.ing_rows.specs.Entries.{Entry}
+use Rattle.ing_rows.specs.declared.entry.Entry.{Entry}
 use Rattle.ctl_feed.specs.declared.entries.EntryFault.{EntryFault}
 use Rattle.ctl_feed.specs.declared.entries.EntryFault.TheVariants as fault
 use Rattle.ctl_feed.specs.declared.inputs.FeedEnding.TheVariants as ending
@@ -46,4 +46,3 @@ entry_fault load.NoMemory = fault.Ended ending.NoMemory
 entry_fault load.LabelsTooLong = fault.TooLong
 entry_fault load.TooLong = fault.TooLong
 entry_fault load.NoStamp = fault.TooLong
-entry_fault load.HasMetadata = fault.HasMetadata

@@ -1,7 +1,7 @@
 -- What is written of the lines of an input.
 use Rattle.std.specs.Prelude.{◌≡◌, ℕ, ◌+◌, ◌<◌, List, [], ◌∷◌, ◌++◌, flat_map, length, Option, Some, None, Ok, Err, ⊤}
 use Rattle.std.specs.Io.KnownBytes.{Appends}
-use Rattle.ing_rows.specs.Entries.{Entry}
+use Rattle.ing_rows.specs.declared.entry.Entry.{Entry}
 use Rattle.ctl_feed.specs.declared.load_fault.LoadFault.{LoadFault}
 use Rattle.ctl_feed.specs.Lines.{lines_of, with_feed}
 use Rattle.ctl_feed.specs.Loads.{IsCommand, Load, entry_at, entry_of}

@@ -1,14 +1,13 @@
 -- Lines of text, as push commands of one stream.
-use Rattle.std.specs.Prelude.{◌≡◌, ℕ, suc, ◌+◌, ◌^◌, ◌<◌, ◌≤◌, max, nat_lt, nat_le, List, [], ◌∷◌, ◌++◌, length, sum_by, Bool, true, false, not, ◌&&◌, if◌then◌else◌, Option, Some, None, unwrap_or, Result, Ok, Err}
-use Rattle.std.specs.List.{list_all}
+use Rattle.std.specs.Prelude.{◌≡◌, ℕ, suc, ◌+◌, ◌^◌, ◌<◌, ◌≤◌, max, nat_lt, nat_le, List, [], ◌∷◌, ◌++◌, length, sum_by, Bool, true, false, ◌&&◌, if◌then◌else◌, Option, Some, None, unwrap_or, Result, Ok, Err}
 use Rattle.std.specs.Str.Lossy.{utf8_lossy}
 use Rattle.json.specs.Print.{quoted}
 use Rattle.serde_json.specs.Written.{compact_text}
 use Rattle.ing_refusals.specs.Results.{◌>>=◌}
-use Rattle.ing_rows.specs.Entries.{Entry, plain}
+use Rattle.ing_rows.specs.declared.entry.Entry.{Entry}
 use Rattle.ctl_feed.specs.declared.load_fault.LoadFault.{LoadFault}
-use Rattle.ctl_feed.specs.declared.load_fault.LoadFault.TheVariants.{HasMetadata, TooLong, NoStamp}
-use Rattle.ctl_feed.specs.Pushes.{Says, is_plain, max_line, push_data, push_of, value_data}
+use Rattle.ctl_feed.specs.declared.load_fault.LoadFault.TheVariants.{TooLong, NoStamp}
+use Rattle.ctl_feed.specs.Pushes.{Says, max_line, push_data, push_of, value_data}
 
 -- ---- sizes, in bytes of JSON
 
@@ -47,14 +46,12 @@ pub record Load : Type 0 where
   pub last : Option ℕ
   pub entries : List Entry
 
--- What a loader keeps true of its fields: the size is that of the entries, which have no metadata and fit into a command with what
--- stands around.
+-- What a loader keeps true of its fields: the size is that of the entries, which fit into a command with what stands around.
 pub record IsLoad (tenant : List ℕ) (now : ℕ) (labels : List (List ℕ × List ℕ)) (size : ℕ) (entries : List Entry) : Type 0 where
   pub size_is : size ≡ sizes_of entries
   pub small : size ≤ max_bytes
   pub few : length entries ≤ max_values
   pub head : head_size tenant now labels ≤ max_bytes
-  pub plain : list_all is_plain entries ≡ true
 
 -- The stamp of a line of this time, if it has one: its time where that is above the stamp of the line before, and else a
 -- nanosecond above that. The first line without a time has that of the load.
@@ -64,11 +61,11 @@ stamp_for now (Some last) time = max (suc last) (unwrap_or time 0)
 
 -- the entry of a line of this time, with U+FFFD for what is no UTF-8
 abbrev pub stamped : ℕ → List ℕ → Result Entry LoadFault
-stamped stamp line = if nat_lt stamp (2 ^ 63) then Ok (plain stamp (utf8_lossy line)) else Err NoStamp
+stamped stamp line = if nat_lt stamp (2 ^ 63) then Ok (record { stamp = stamp; line = utf8_lossy line }) else Err NoStamp
 
--- an entry that a command can tell, as it has no metadata, and that fits into one by itself; or why not
+-- an entry that fits into a command by itself
 abbrev pub sized : Entry → Result Entry LoadFault
-sized entry = if not (is_plain entry) then Err HasMetadata else (if nat_le (size_of entry) max_bytes then Ok entry else Err TooLong)
+sized entry = if nat_le (size_of entry) max_bytes then Ok entry else Err TooLong
 
 -- the entry of a line of this time, behind one of the stamp last in a load that began at now; or why it has none
 abbrev pub entry_at : ℕ → Option ℕ → Option ℕ → List ℕ → Result Entry LoadFault

@@ -1,9 +1,9 @@
 -- Push commands of one stream, and the lines that say them.
-use Rattle.std.specs.Prelude.{◌≡◌, ◌==◌, ℕ, ◌^◌, nat_lt, List, [], ◌∷◌, length, map, codes, decimal, Bool, false, Ok}
+use Rattle.std.specs.Prelude.{◌≡◌, ◌==◌, ℕ, ◌^◌, nat_lt, List, [], ◌∷◌, map, codes, decimal, Bool, false, Ok}
 use Rattle.std.specs.List.{list_any}
 use Rattle.serde_json.specs.Data.{Data, string, array, object, item, no_items, member, no_members}
 use Rattle.serde_json.specs.View.{items_of}
-use Rattle.ing_rows.specs.Entries.{Entry}
+use Rattle.ing_rows.specs.declared.entry.Entry.{Entry}
 use Rattle.ing_commands.specs.Commands.{Push, command_of}
 use Rattle.ing_commands.specs.PushCommands.{PushCommand}
 use Rattle.ctl_feed.specs.Labels.{labels_data}
@@ -15,10 +15,6 @@ push_of tenant now labels entries = record { tenant = tenant; now = now; streams
 -- the time of an entry is a stamp: nanoseconds below 2^63
 abbrev pub is_stamp : Entry → Bool
 is_stamp entry = nat_lt entry.stamp (2 ^ 63)
-
--- an entry has no metadata, which a command cannot tell
-abbrev pub is_plain : Entry → Bool
-is_plain entry = length entry.meta == 0
 
 -- how many bytes a line of input may have for the session, its line feed not counted
 abbrev pub max_line : ℕ
@@ -33,7 +29,7 @@ pub record Says (line : List ℕ) (push : PushCommand) : Type 0 where
   pub read : command_of line ≡ Ok (Push push)
   pub one_line : has_feed line ≡ false
 
--- the JSON value of an entry without metadata: its stamp in digits, and its line
+-- the JSON value of an entry: its stamp in digits, and its line
 abbrev pub value_data : Entry → Data
 value_data entry = array (item (string (decimal entry.stamp)) (item (string entry.line) no_items))
 

@@ -16,8 +16,6 @@ pub enum EntryFault {
     Ended(FeedEnding),
     /// An entry takes more than 8,388,608 bytes of a command by itself.
     TooLong,
-    /// An entry has metadata, which a command cannot tell.
-    HasMetadata,
 }
 
 impl From<FeedEnding> for EntryFault {
@@ -40,7 +38,6 @@ impl From<LoadFault> for EntryFault {
     fn from(fault: LoadFault) -> EntryFault {
         match fault {
             LoadFault::NoMemory => EntryFault::Ended(FeedEnding::NoMemory),
-            LoadFault::HasMetadata => EntryFault::HasMetadata,
             _ => EntryFault::TooLong,
         }
     }
@@ -49,9 +46,9 @@ impl From<LoadFault> for EntryFault {
 /// Writes entries, in their order and with their own stamps, as push commands of at most `most`
 /// entries, each a line. None may wait in the loader before, and none does then.
 ///
-/// `HasMetadata` only where an entry has metadata, and `TooLong` only where one takes more than
-/// `MAX_BYTES` of a command by itself; `Ended` where memory runs out or a write fails. Then entries
-/// may be lost, and the last line that was written may be cut. (Own.)
+/// `TooLong` only where an entry takes more than `MAX_BYTES` of a command by itself; `Ended` where
+/// memory runs out or a write fails. Then entries may be lost, and the last line that was written
+/// may be cut. (Own.)
 pub fn feed_entries<W: Write>(
     alloc: Global,
     writer: &mut W,

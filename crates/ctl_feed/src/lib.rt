@@ -22,6 +22,7 @@ pub use inputs::{FeedEnding, Loaded, load_input, load_rest};
 pub use labels::{LabelFault, Labels};
 pub use load_fault::LoadFault;
 pub use loader::{Loader, MAX_VALUES};
+pub use push::push_line;
 pub use reading::Reading;
 pub use size::MAX_BYTES;
 pub use stamps::Stamps;

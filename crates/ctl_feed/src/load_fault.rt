@@ -12,8 +12,6 @@ pub enum LoadFault {
     TooLong,
     /// The stamps are used up: the line before has the greatest one, 2^63-1.
     NoStamp,
-    /// The entry has metadata, which a command cannot tell.
-    HasMetadata,
 }
 
 impl From<AllocError> for LoadFault {

@@ -50,12 +50,11 @@ impl Model for Loader {
 }
 
 impl Loader {
-    ghost use Rattle.std.specs.Prelude.{◌≡◌, ◌≢◌, ◌+◌, ◌<◌, ◌≤◌, IfOk, IfErr, OnOk, [], None, Err, Ok, true};
+    ghost use Rattle.std.specs.Prelude.{◌≡◌, ◌≢◌, ◌+◌, ◌<◌, ◌≤◌, IfOk, IfErr, OnOk, [], None, Err, Ok};
     ghost use Rattle.std.specs.Prelude.{length, option_map};
-    ghost use Rattle.ing_rows.specs.Entries.{Entry};
+    ghost use Rattle.ing_rows.specs.declared.entry.Entry.{Entry};
     ghost use Rattle.ctl_feed.specs.Loads.{Finishes, IsWaiting, MakesRoom, Takes, entry_of, head_size};
-    ghost use Rattle.ctl_feed.specs.Loads.{size_of, sized, sizes_of, with_entry};
-    ghost use Rattle.ctl_feed.specs.Pushes.{is_plain};
+    ghost use Rattle.ctl_feed.specs.Loads.{size_of, sizes_of, with_entry};
 
     /// A loader of lines for a tenant's stream with these labels, where none waits yet. `now` is the time of
     /// the pushes, and the stamp of the first line where that has no time. `LabelsTooLong` exactly where a
@@ -122,19 +121,14 @@ impl Loader {
     /// Takes an entry as it is, with its own stamp, which need not be above that of the one before.
     /// Gives the line of a push as `take` does.
     ///
-    /// `HasMetadata` exactly where the entry has metadata; else `TooLong` exactly where it takes more
-    /// than `MAX_BYTES` of a command by itself. Then all is as before. After `NoMemory` entries may be
-    /// lost. (Own.)
+    /// `TooLong` exactly where the entry takes more than `MAX_BYTES` of a command by itself. Then
+    /// all is as before. After `NoMemory` entries may be lost. (Own.)
     pub fn take_entry(&mut self, alloc: Global, entry: Entry) -> Result<Option<Vec<u8>>, LoadFault>
         ensures taken { IfOk result (λ command.
             Takes self.old self.new entry (option_map (λ text. text.items) command)) }
-        ensures sized { OnOk result (sized entry ≡ Ok entry) }
         ensures fault { IfErr result (λ fault. fault ≢ LoadFault.NoMemory
-            → (sized entry ≡ Err fault) × (self.new ≡ self.old)) }
+            → (fault ≡ LoadFault.TooLong) × (MAX_BYTES < size_of entry) × (self.new ≡ self.old)) }
     {
-        if !entry.meta().is_empty() {
-            return Err(LoadFault::HasMetadata);
-        }
         let Some(size) = size_in_bounds(&entry) else {
             return Err(LoadFault::TooLong);
         };
@@ -176,7 +170,6 @@ impl Loader {
     ) -> Result<(Entry, usize), LoadFault>
         ensures entry { IfOk result (λ made. entry_of self.entry.now time line.now ≡ Ok made.0) }
         ensures size { IfOk result (λ made. (made.1 ≡ size_of made.0) × (made.1 ≤ MAX_BYTES)) }
-        ensures plain { IfOk result (λ made. is_plain made.0 ≡ true) }
         ensures fault { IfErr result (λ fault. fault ≢ LoadFault.NoMemory
             → entry_of self.entry.now time line.now ≡ Err fault) }
     {
@@ -187,7 +180,10 @@ impl Loader {
             return Err(LoadFault::NoStamp);
         };
         let text = String::from_utf8_lossy(alloc, line)?;
-        let entry = Entry::new(stamp, Line::of_string(text));
+        let entry = Entry {
+            stamp,
+            line: Line::of_string(text),
+        };
         let Some(size) = size_in_bounds(&entry) else {
             return Err(LoadFault::TooLong);
         };
@@ -212,10 +208,9 @@ impl Loader {
         requires size { size ≡ size_of entry }
         requires few { length self.old.entries < MAX_VALUES }
         requires small { sizes_of self.old.entries + size ≤ MAX_BYTES }
-        requires plain { is_plain entry ≡ true }
         ensures { OnOk result (self.new ≡ with_entry self.old entry) }
     {
-        let stamp = entry.stamp();
+        let stamp = entry.stamp;
         self.entries.push(entry)?;
         self.size += size;
         self.last = Some(stamp);

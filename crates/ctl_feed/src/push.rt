@@ -4,7 +4,7 @@ ghost use Rattle.std.specs.List.{list_all};
 ghost use Rattle.serde_json.specs.Data.{array};
 ghost use Rattle.serde_json.specs.View.{view, items_of};
 ghost use Rattle.ing_rows.specs.Texts.{is_tenant};
-ghost use Rattle.ctl_feed.specs.Pushes.{Says, is_plain, is_stamp, push_data, push_of, value_data};
+ghost use Rattle.ctl_feed.specs.Pushes.{Says, is_stamp, push_data, push_of, value_data};
 ghost use Rattle.serde_json.specs.Written.{compact_text};
 
 use crate::labels::Labels;
@@ -12,17 +12,16 @@ use ing_rows::{Entry, Stamp, Tenant};
 use serde_json::{Value, json};
 use std::alloc::{AllocError, Global};
 
-/// The line, without a line feed, of a push of entries without metadata to one stream, in the order of the
-/// entries. It may be longer than `MAX_LINE`: `Loader` gives none that is. It fails only where memory runs out.
-/// (Loki documentation: push API; the command's form is own.)
-pub(crate) fn push_line(
+/// The line, without a line feed, of a push of entries to one stream, in the order of the entries. It may be
+/// longer than `MAX_LINE`: `Loader` gives none that is. It fails only where memory runs out. (Loki
+/// documentation: push API; the command's form is own.)
+pub fn push_line(
     alloc: Global,
     tenant: &Tenant,
     now: Stamp,
     labels: &Labels,
     entries: Vec<Entry>,
 ) -> Result<Vec<u8>, AllocError>
-    requires { list_all is_plain entries.items ≡ true }
     ensures says { IfOk result (λ line.
         Says line.items (push_of tenant.now now labels.now entries.items)) }
     ensures stamps { OnOk result (list_all is_stamp entries.items ≡ true) }
@@ -74,6 +73,6 @@ fn value_of(alloc: Global, entry: Entry) -> Result<Value, AllocError>
     ensures value { IfOk result (λ value. view value ≡ value_data entry) }
     ensures stamp { OnOk result (is_stamp entry ≡ true) }
 {
-    let digits = entry.stamp().nanoseconds().to_string(alloc)?;
-    json!(in alloc; [digits, entry.into_line().into_string()])
+    let digits = entry.stamp.nanoseconds().to_string(alloc)?;
+    json!(in alloc; [digits, entry.line.into_string()])
 }

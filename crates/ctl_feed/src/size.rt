@@ -16,7 +16,7 @@ const AROUND: usize = 25;
 pub(crate) fn size_in_bounds(entry: &Entry) -> Option<usize>
     ensures { SomeIff result (size_of entry.now ≤ MAX_BYTES) (size_of entry.now) }
 {
-    let line = entry.line().as_str();
+    let line = entry.line.as_str();
     if line.len() > MAX_BYTES {
         return None;
     }

@@ -87,7 +87,11 @@ impl<'a> Export<'a> {
                 ShardFault::NoMemory
                 | ShardFault::NotRestored(
                     RecoverFault::NoMemory | RecoverFault::Relist(RelistFault::NoMemory),
-                ),
+                )
+                | ShardFault::Stream {
+                    fault: ExportFault::NoMemory,
+                    ..
+                },
             ) => bail!("out of memory"),
             Err(ShardFault::NotRestored(_)) => {
                 let alloc = self.rt.alloc();
@@ -95,7 +99,15 @@ impl<'a> Export<'a> {
                 check_shard(self.rt, self.folder, &self.settings, number, &text, errors)?;
                 Ok(false)
             }
-            Err(ShardFault::Stream { number, fault }) => end_at(number, fault),
+            Err(
+                ShardFault::Stream {
+                    fault: ExportFault::OutputFault,
+                    ..
+                },
+            ) => bail!("the output cannot be written"),
+            Err(ShardFault::Stream { number, .. }) => {
+                bail!("no command has room for stream {number}")
+            }
         }
     }
 
@@ -150,17 +162,5 @@ impl<'a> Export<'a> {
         Ok(format!(in self.rt.alloc();
             "ingestctl: streams: {streams}, entries: {entries}, commands: {commands}\n"
         )?)
-    }
-}
-
-/// Ends at the stream of this number, which is not written.
-fn end_at(number: u64, fault: ExportFault) -> Result<bool> {
-    match fault {
-        ExportFault::NoMemory => bail!("out of memory"),
-        ExportFault::OutputFault => bail!("the output cannot be written"),
-        ExportFault::HasMetadata => {
-            bail!("stream {number}: an entry has metadata, which a command cannot tell")
-        }
-        _ => bail!("no command has room for stream {number}"),
     }
 }

@@ -131,7 +131,6 @@ fn words_of(fault: LoadFault) -> &'static str {
         LoadFault::LabelsTooLong => "the labels take more than 8388608 bytes",
         LoadFault::TooLong => "the line takes more than 8388608 bytes of a command",
         LoadFault::NoStamp => "no stamp is left, nor for the lines behind it",
-        LoadFault::HasMetadata => "an entry has metadata, which a command cannot tell",
     }
 }
 

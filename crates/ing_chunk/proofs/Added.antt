@@ -1,7 +1,7 @@
 -- Accepted entries: what the code's steps come to.
 use Rattle.std.proofs.Common.{◌≡◌, ℕ, ◌+◌, Bool, true, false, [], ◌∷◌, ◌++◌, sym, ap, subst, ◌∙◌, Some, None, ◌<◌, List, length, nat_le, refl, arith, append_assoc, length-append}
 use Rattle.std.specs.Option.{unwrap_or}
-use Rattle.ing_rows.specs.Entries.{Entry}
+use Rattle.ing_rows.specs.declared.entry.Entry.{Entry}
 use Rattle.ing_rows.specs.declared.rules.Rules.{Rules}
 use Rattle.ing_chunk.specs.Chunks.{ChunkContents, ChunksContents, with_entry, chunk_to_grow, empty_chunk, settled, placed, is_full, is_to_cut, Settles, TakesOne, size_of_entries, size_of_chunk, size_of_all, with_run, numbered_from, Takes}
 use Rattle.std.proofs.lemmas.Bool.Decides.{nat_tests}

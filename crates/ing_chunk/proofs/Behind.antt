@@ -3,7 +3,7 @@ use Rattle.std.proofs.Common.{◌≡◌, ℕ, ◌+◌, ◌<◌, ◌≤◌, ◌^�
 use Rattle.std.specs.Prelude.{All, IsPermutation, sum_by}
 use Rattle.std.proofs.lemmas.Bool.Decides.{nat_tests}
 use Rattle.std.proofs.lemmas.List.Sums.{sum_by-append, sum_by-cons}
-use Rattle.ing_rows.specs.Entries.{Entry, plain}
+use Rattle.ing_rows.specs.declared.entry.Entry.{Entry}
 use Rattle.ing_rows.specs.declared.place.SealReason.TheVariants.{Full}
 use Rattle.ing_rows.specs.declared.rules.Rules.{Rules}
 use Rattle.ing_rows.specs.Rows.{size_of}
@@ -325,9 +325,9 @@ pub crosses : (rules : Rules) (now : ℕ) (es : List Entry) (count : ℕ) (old :
     → (front rest : List Entry) (size next : ℕ) → front ≡ take (count + 1) es → rest ≡ drop (count + 1) es → size ≡ size_of_chunk (chunk_to_grow old) + size_of_all front → next ≡ old.next + length front → Continues rules now size next rest later → Crosses rules now es front old later
 crosses rules now es count old before reaches later counted few target short front rest size next is rest_is size_is next_is goes =
     let g = reaches.chunk in
-    let e : Entry = get_or es count (plain 0 []) in
+    let e : Entry = get_or es count (record { stamp = 0; line = [] }) in
     let p = take count es in
-    let split : take (count + 1) es ≡ p ++ e ∷ [] = take_more es count (plain 0 []) reaches.below in
+    let split : take (count + 1) es ≡ p ++ e ∷ [] = take_more es count (record { stamp = 0; line = [] }) reaches.below in
     let there = is ∙ split in
     let whole : (p ++ e ∷ []) ++ rest ≡ es = (λ i. (sym split) i ++ rest_is i) ∙ take-append-drop (count + 1) es in
     let sized : size ≡ size_of_chunk g + size_of_all (p ++ e ∷ []) = size_is ∙ (λ i. size_of_chunk (some_grows old g reaches.grows i) + size_of_all (there i)) in

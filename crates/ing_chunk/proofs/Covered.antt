@@ -6,7 +6,7 @@ use Rattle.std.proofs.lemmas.Bool.Decides.{nat_tests}
 use Rattle.std.proofs.lemmas.List.Elements.{All-from_recursion, recursion_from_All}
 use Rattle.std.proofs.lemmas.List.Sorted.{All-permutation, length_permutation, sum_by-IsPermutation}
 use Rattle.std.proofs.lemmas.List.Sums.{sum_by-cons}
-use Rattle.ing_rows.specs.Entries.{Entry}
+use Rattle.ing_rows.specs.declared.entry.Entry.{Entry}
 use Rattle.ing_rows.specs.Rows.{size_of}
 use Rattle.ing_chunk.specs.declared.numbered.Numbered.{Numbered}
 use Rattle.ing_chunk.specs.Parts.{IsShort, is_taken, AreApart, IsWithin, IsPart, AreParts, AreNumbered}
@@ -44,7 +44,7 @@ once n from (e ∷ es) (is, short, rest) = grind (arith, nat_tests, is, sum_by-c
 within_of : (from at count : ℕ) (es : List Numbered) → from ≤ at → at + length es ≤ from + count → AreNumbered at es → AllByRecursion (IsWithin from count) es
 within_of from at count [] low high h = tt
 within_of from at count (e ∷ es) low high (is, short, rest) =
-    (record { low = omega (arith, is); high = omega (arith, is); short = short }, within_of from (at + 1) count es (omega arith) (omega arith) rest)
+    (record { low = omega (arith, is); high = omega (arith, is); line = short }, within_of from (at + 1) count es (omega arith) (omega arith) rest)
 
 block_part : (from : ℕ) (head block : List Numbered) → AreNumbered from head → 0 < length head → IsPermutation head block → IsPart from block
 block_part from head block h some moved =

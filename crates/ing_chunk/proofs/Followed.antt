@@ -7,7 +7,7 @@ use Rattle.std.proofs.lemmas.List.Folds.{list_any_none}
 use Rattle.std.proofs.lemmas.Simd.{map-map}
 use Rattle.std.proofs.lemmas.List.Elements.{All-cons, All-head, All-tail, All-weaker}
 use Rattle.std.proofs.lemmas.List.Sorted.{IsPermutation-refl, IsPermutation-trans, IsPermutation-map, IsPermutation-cons, IsPermutation-append, IsPermutation-to_front, IsPermutation-append_comm, IsPermutation-sym, All-permutation, sum_by-IsPermutation}
-use Rattle.ing_rows.specs.Entries.{Entry}
+use Rattle.ing_rows.specs.declared.entry.Entry.{Entry}
 use Rattle.ing_rows.specs.declared.place.Place.TheVariants.{Head, Block}
 use Rattle.ing_rows.specs.declared.place.SealReason.TheVariants.{Full}
 use Rattle.ing_rows.specs.declared.rules.Rules.{Rules}

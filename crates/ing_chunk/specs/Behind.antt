@@ -1,6 +1,6 @@
 -- Entries that are put in behind a head that they close, and what they come to.
 use Rattle.std.specs.Prelude.{◌≡◌, ℕ, ◌*◌, ◌<◌, ◌≤◌, ◌^◌, Bool, true, false, nat_le, ◌||◌, ◌-◌, List, [], ◌∷◌, ◌++◌, take, length, is_none, sum_by, Some, None, ◌+◌}
-use Rattle.ing_rows.specs.Entries.{Entry}
+use Rattle.ing_rows.specs.declared.entry.Entry.{Entry}
 use Rattle.ing_rows.specs.declared.rules.Rules.{Rules}
 use Rattle.ing_rows.specs.declared.place.SealReason.TheVariants.{Full}
 use Rattle.ing_chunk.specs.Chunks.{ChunkContents, ChunksContents, AreChunks, Closes, Takes, chunk_to_grow, count_in, numbered_from, size_of_chunk, size_of_entries, size_of_all, with_run}

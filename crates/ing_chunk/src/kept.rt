@@ -5,7 +5,7 @@ ghost use Rattle.ing_chunk.specs.Kept.{IsKeptOf};
 ghost use Rattle.ing_chunk.specs.declared.numbered.Numbered.{Numbered};
 
 use super::block::Block;
-use super::numbered::{LAST_STAMP, Numbered};
+use super::numbered::{LAST_STAMP, Numbered, size_of};
 
 /// How many entries there are, their size in bytes, and their least and greatest stamp in nanoseconds.
 #[derive(Clone, Copy, Debug)]
@@ -29,10 +29,10 @@ impl Kept {
     pub fn of_one(numbered: &Numbered) -> Kept
         ensures { IsKeptOf result (numbered.now ∷ []) }
     {
-        let stamp = numbered.entry.stamp().nanoseconds();
+        let stamp = numbered.entry.stamp.nanoseconds();
         Kept {
             count: 1,
-            size: numbered.entry.size(),
+            size: size_of(&numbered.entry),
             least: stamp,
             greatest: stamp,
         }

@@ -1,9 +1,9 @@
 -- What holds of entries that were read: their order, their numbers, and how many they are.
 use Rattle.std.proofs.Common.{◌≡◌, ◌≢◌, ℕ, zero, suc, ◌+◌, ◌<◌, ◌≤◌, ◌^◌, true, cond, List, [], ◌∷◌, ◌++◌, length, Ok, Err, sym, ap, subst, ◌∙◌, arith, length-append}
+use Rattle.std.specs.Prelude.{⊤}
 use Rattle.std.specs.Int.{w32}
 use Rattle.std.proofs.lemmas.Bool.Decides.{nat_tests}
 use Rattle.ing_refusals.specs.Results.{◌>>=◌}
-use Rattle.ing_labels.specs.Labels.{Pair}
 use Rattle.ing_chunk.specs.declared.numbered.Numbered.{Numbered}
 use Rattle.ing_chunk.specs.Chunks.{AreInOrder}
 use Rattle.ing_codec.specs.declared.chunk_reading.Part.{Part}
@@ -19,25 +19,25 @@ pub record EntryRead (p : Part) (before : List Numbered) (r : Rest) (e : Numbere
   pub offset : ℕ × Rest
   pub stamp : ℕ × Rest
   pub line : List ℕ × Rest
-  pub meta : List Pair × Rest
+  pub meta : ⊤ × Rest
   pub offset_read : read_number w32 r ≡ Ok offset
   pub free : is_free p before (p.first + offset.0) ≡ true
   pub stamp_read : read_stamp offset.1 ≡ Ok stamp
   pub line_read : read_line stamp.1 ≡ Ok line
   pub meta_read : read_meta p.version line.1 ≡ Ok meta
   pub goes : goes_on before e ≡ true
-  pub is : e ≡ numbered (p.first + offset.0) stamp.0 line.0 meta.0
+  pub is : e ≡ numbered (p.first + offset.0) stamp.0 line.0
   pub rest : after ≡ meta.1
 
 pub entry_read : (p : Part) (before : List Numbered) (r : Rest) (e : Numbered) (after : Rest) → read_entry p before r ≡ Ok (e, after) → EntryRead p before r e after
 unfolding read_entry
 entry_read p before r e after h =
-    let o = bind_ok (read_number w32 r) (λ o. cond (is_free p before (p.first + o.0)) (read_stamp o.1 >>= λ s. read_line s.1 >>= λ l. read_meta p.version l.1 >>= λ m. in_turn before (numbered (p.first + o.0) s.0 l.0 m.0) m.1) (Err (BadField r.at))) (e, after) h in
-    let g = passed (is_free p before (p.first + o.0.0)) (BadField r.at) (read_stamp o.0.1 >>= λ s. read_line s.1 >>= λ l. read_meta p.version l.1 >>= λ m. in_turn before (numbered (p.first + o.0.0) s.0 l.0 m.0) m.1) (e, after) o.2 in
-    let s = bind_ok (read_stamp o.0.1) (λ s. read_line s.1 >>= λ l. read_meta p.version l.1 >>= λ m. in_turn before (numbered (p.first + o.0.0) s.0 l.0 m.0) m.1) (e, after) g.1 in
-    let l = bind_ok (read_line s.0.1) (λ l. read_meta p.version l.1 >>= λ m. in_turn before (numbered (p.first + o.0.0) s.0.0 l.0 m.0) m.1) (e, after) s.2 in
-    let m = bind_ok (read_meta p.version l.0.1) (λ m. in_turn before (numbered (p.first + o.0.0) s.0.0 l.0.0 m.0) m.1) (e, after) l.2 in
-    let made = numbered (p.first + o.0.0) s.0.0 l.0.0 m.0.0 in
+    let o = bind_ok (read_number w32 r) (λ o. cond (is_free p before (p.first + o.0)) (read_stamp o.1 >>= λ s. read_line s.1 >>= λ l. read_meta p.version l.1 >>= λ m. in_turn before (numbered (p.first + o.0) s.0 l.0) m.1) (Err (BadField r.at))) (e, after) h in
+    let g = passed (is_free p before (p.first + o.0.0)) (BadField r.at) (read_stamp o.0.1 >>= λ s. read_line s.1 >>= λ l. read_meta p.version l.1 >>= λ m. in_turn before (numbered (p.first + o.0.0) s.0 l.0) m.1) (e, after) o.2 in
+    let s = bind_ok (read_stamp o.0.1) (λ s. read_line s.1 >>= λ l. read_meta p.version l.1 >>= λ m. in_turn before (numbered (p.first + o.0.0) s.0 l.0) m.1) (e, after) g.1 in
+    let l = bind_ok (read_line s.0.1) (λ l. read_meta p.version l.1 >>= λ m. in_turn before (numbered (p.first + o.0.0) s.0.0 l.0) m.1) (e, after) s.2 in
+    let m = bind_ok (read_meta p.version l.0.1) (λ m. in_turn before (numbered (p.first + o.0.0) s.0.0 l.0.0) m.1) (e, after) l.2 in
+    let made = numbered (p.first + o.0.0) s.0.0 l.0.0 in
     let t = passed (goes_on before made) OutOfOrder (Ok (made, m.0.1)) (e, after) m.2 in
     let both = ok_is (made, m.0.1) (e, after) t.1 in
     let is : made ≡ e = ap (λ (x : Numbered × Rest). x.0) both in

@@ -14,7 +14,7 @@ use Rattle.ing_codec.specs.declared.version.Version.{Version}
 use Rattle.ing_codec.specs.Fields.{Rest, whole, read_number, read_first, front_text}
 use Rattle.ing_codec.specs.Versions.{version_byte}
 use Rattle.ing_chunk.specs.Parts.{IsWithin, IsPart, AreParts}
-use Rattle.ing_codec.specs.ChunkObjects.{ChunkObject, AreTold, IsBlock, IsObject, Spells, entry_text, block_text, head_text, text_in}
+use Rattle.ing_codec.specs.ChunkObjects.{ChunkObject, IsBlock, IsObject, Spells, entry_text, block_text, head_text, text_in}
 use Rattle.ing_codec.specs.ChunkReading.{read_block, read_blocks, read_block_count, read_chunk_front, read_chunk, part, is_count, ended, chunk_object}
 use Rattle.ing_codec.proofs.Binds.{bind_ok, passed, not_stopped, ok_is, done}
 use Rattle.ing_codec.proofs.Built.{block_read, few_from_count}
@@ -29,7 +29,6 @@ pub record BlockTaken (v : Version) (first start : ℕ) (r : Rest) (x : List Num
   pub takes : Takes r (block_text v first x.0) x.1
   pub part : IsPart (first + start) x.0
   pub block : IsBlock x.0
-  pub told : AreTold v x.0
   pub last : first + start + length x.0 ≤ 2 ^ 62
   pub few : start + length x.0 < 2 ^ 32
 
@@ -54,7 +53,6 @@ block_takes v first start r x fits e =
         apart = all.built.apart;
       };
       block = record { in_order = all.built.in_order; entries = all.built.entries };
-      told = all.built.told;
       last = omega (arith, len, count.1);
       few = omega (arith, len, count.2);
     }
@@ -66,11 +64,11 @@ some_of : (b : List Numbered) → b ≢ [] → 0 < length b
 some_of [] h = absurd (h refl)
 some_of (e ∷ es) h = omega arith
 
-pub block_again : (v : Version) (first start : ℕ) (b : List Numbered) → IsPart (first + start) b → IsBlock b → AreTold v b → first + start + length b ≤ 2 ^ 62 → start + length b < 2 ^ 32 → Again (read_block v first start) (block_text v first b) b
+pub block_again : (v : Version) (first start : ℕ) (b : List Numbered) → IsPart (first + start) b → IsBlock b → first + start + length b ≤ 2 ^ 62 → start + length b < 2 ^ 32 → Again (read_block v first start) (block_text v first b) b
 unfolding read_block
-block_again v first start b p block told last few at more =
+block_again v first start b p block last few at more =
     let n = number_again w32 (2 ^ 32) wide32 (length b) (omega arith) at (flat_map (entry_text v first) b ++ more) in
-    let es = entries_again (part v first start (length b)) b [] (record { count = few; within = p.within; apart = p.apart; in_order = block.in_order; entries = block.entries; told = told }) n.0 more in
+    let es = entries_again (part v first start (length b)) b [] (record { count = few; within = p.within; apart = p.apart; in_order = block.in_order; entries = block.entries }) n.0 more in
     let regrouped : block_text v first b ++ more ≡ to_be_bytes w32 (length b) ++ (flat_map (entry_text v first) b ++ more) = append_assoc (to_be_bytes w32 (length b)) (flat_map (entry_text v first) b) more in
     (es.0, ap (λ (t : List ℕ). read_block v first start (rest at t)) regrouped ∙ rw (n.1, counted first start (length b) (some_of b p.some) last few, es.1) refl)
 
@@ -83,7 +81,6 @@ pub record BlocksTaken (v : Version) (first k start : ℕ) (before : List (List 
   pub takes : Takes r (flat_map (block_text v first) more) x.1
   pub parts : AreParts (first + start) more
   pub blocks : AllByRecursion IsBlock more
-  pub told : AllByRecursion (AreTold v) more
   pub last : first + start + length (in_blocks more) ≤ 2 ^ 62
   pub few : start + length (in_blocks more) < 2 ^ 32
 
@@ -97,7 +94,6 @@ blocks_take v first zero start before r x fits low small e =
       takes = record { parts = refl; fits = fits };
       parts = tt;
       blocks = tt;
-      told = tt;
       last = omega arith;
       few = omega arith;
     })
@@ -113,20 +109,19 @@ blocks_take v first (suc k) start before r x fits low small e =
       takes = subst (λ (t : List ℕ). Takes r t x.1) (sym (flat_map-cons (block_text v first) b.0.0 all.more)) (then_takes r (block_text v first b.0.0) b.0.1 (flat_map (block_text v first) all.more) x.1 one.takes all.takes);
       parts = (one.part, subst (λ (n : ℕ). AreParts n all.more) next all.parts);
       blocks = (one.block, all.blocks);
-      told = (one.told, all.told);
       last = omega (arith, all.last, length-append b.0.0 (in_blocks all.more));
       few = omega (arith, all.few, length-append b.0.0 (in_blocks all.more));
     }
 
-pub blocks_again : (v : Version) (first : ℕ) (bs : List (List Numbered)) (start : ℕ) (before : List (List Numbered)) → AreParts (first + start) bs → AllByRecursion IsBlock bs → AllByRecursion (AreTold v) bs → first + start + length (in_blocks bs) ≤ 2 ^ 62 → start + length (in_blocks bs) < 2 ^ 32
+pub blocks_again : (v : Version) (first : ℕ) (bs : List (List Numbered)) (start : ℕ) (before : List (List Numbered)) → AreParts (first + start) bs → AllByRecursion IsBlock bs → first + start + length (in_blocks bs) ≤ 2 ^ 62 → start + length (in_blocks bs) < 2 ^ 32
     → Again (read_blocks v first (length bs) start before) (flat_map (block_text v first) bs) (before ++ bs)
 unfolding read_blocks
-blocks_again v first [] start before parts blocks told last few at more = (at, ap (λ (b : List (List Numbered)). done (b, rest at more)) (sym (append-nil before)))
-blocks_again v first (b ∷ bs) start before parts blocks told last few at more =
+blocks_again v first [] start before parts blocks last few at more = (at, ap (λ (b : List (List Numbered)). done (b, rest at more)) (sym (append-nil before)))
+blocks_again v first (b ∷ bs) start before parts blocks last few at more =
     let len = length-append b (in_blocks bs) in
-    let one = block_again v first start b parts.0 blocks.0 told.0 (omega (arith, len)) (omega (arith, len)) at (flat_map (block_text v first) bs ++ more) in
+    let one = block_again v first start b parts.0 blocks.0 (omega (arith, len)) (omega (arith, len)) at (flat_map (block_text v first) bs ++ more) in
     let next : first + start + length b ≡ first + (start + length b) = omega arith in
-    let others = blocks_again v first bs (start + length b) (before ++ b ∷ []) (subst (λ (n : ℕ). AreParts n bs) next parts.1) blocks.1 told.1 (omega (arith, len)) (omega (arith, len)) one.0 more in
+    let others = blocks_again v first bs (start + length b) (before ++ b ∷ []) (subst (λ (n : ℕ). AreParts n bs) next parts.1) blocks.1 (omega (arith, len)) (omega (arith, len)) one.0 more in
     let regrouped : flat_map (block_text v first) (b ∷ bs) ++ more ≡ block_text v first b ++ (flat_map (block_text v first) bs ++ more) = ap (λ (t : List ℕ). t ++ more) (flat_map-cons (block_text v first) b bs) ∙ append_assoc (block_text v first b) (flat_map (block_text v first) bs) more in
     (others.0, ap (λ (t : List ℕ). read_blocks v first (suc (length bs)) start before (rest at t)) regrouped ∙ rw (one.1, others.1) (ap (λ (l : List (List Numbered)). done (l, rest others.0 more)) (append_assoc before (b ∷ []) bs)))
 
@@ -200,25 +195,25 @@ chunk_takes bytes o fits e =
       };
       blocks = bt.blocks;
     } in
-    let spells : Spells bytes made = record { version = v; is = spelt; told = bt.told } in
+    let spells : Spells bytes made = record { version = v; is = spelt } in
     let same : made ≡ o = ap (λ (bs : List (List Numbered)). chunk_object owner.0 owner.1 f.0.0 bs) (sym bt.is) ∙ n.1 in
     subst (λ (x : ChunkObject). IsObject x × Spells bytes x) same (object, spells)
 
 four_parts : (w a b f : List ℕ) → (w ++ (a ++ b)) ++ f ≡ w ++ (a ++ (b ++ (f ++ [])))
 four_parts w a b f = simp (append_assoc, append-nil)
 
-pub text_again : (v : Version) (o : ChunkObject) → IsObject o → AllByRecursion (AreTold v) o.blocks → read_chunk (text_in v o) ≡ Ok o
+pub text_again : (v : Version) (o : ChunkObject) → IsObject o → read_chunk (text_in v o) ≡ Ok o
 unfolding read_chunk text_in
-text_again v o h told =
+text_again v o h =
     let front = front_text (codes "INGC") (version_byte v) o.tenant o.name in
     let blocks = flat_map (block_text v o.first) o.blocks in
     let start : AreParts (o.first + 0) o.blocks = subst (λ (m : ℕ). AreParts m o.blocks) (sym (add-zero o.first)) h.numbered.parts in
     let hd = chunk_front_again v o.tenant o.name h.tenant h.name h.numbered.name_length 0 (to_be_bytes w64 o.first ++ (to_be_bytes w32 (length o.blocks) ++ (blocks ++ []))) in
     let f = first_again o.first (omega (arith, h.numbered.last)) hd.0 (to_be_bytes w32 (length o.blocks) ++ (blocks ++ [])) in
     let k = count_again (length o.blocks) (count_fits o h.numbered) (some_of_blocks o.blocks h.numbered.some) f.0 (blocks ++ []) in
-    let b = blocks_again v o.first o.blocks 0 [] start h.blocks told (omega (arith, h.numbered.last)) (omega (arith, h.numbered.few)) k.0 [] in
+    let b = blocks_again v o.first o.blocks 0 [] start h.blocks (omega (arith, h.numbered.last)) (omega (arith, h.numbered.few)) k.0 [] in
     let regrouped : head_text v o ++ blocks ≡ front ++ (to_be_bytes w64 o.first ++ (to_be_bytes w32 (length o.blocks) ++ (blocks ++ []))) = four_parts front (to_be_bytes w64 o.first) (to_be_bytes w32 (length o.blocks)) blocks in
     ap read_chunk regrouped ∙ rw (hd.1, f.1, k.1, b.1) refl
 
 pub chunk_again : (bytes : List ℕ) (o : ChunkObject) → IsObject o → Spells bytes o → read_chunk bytes ≡ Ok o
-chunk_again bytes o h spells = ap read_chunk spells.is ∙ text_again spells.version o h spells.told
+chunk_again bytes o h spells = ap read_chunk spells.is ∙ text_again spells.version o h

@@ -9,20 +9,18 @@ use Rattle.std.proofs.lemmas.Option.{slice_get-get_or}
 use Rattle.std.proofs.Math.Seq.{get_or-append_seam}
 use Rattle.std.proofs.lemmas.List.{append-nil, get_or_append_left}
 use Rattle.std.proofs.lemmas.List.Concat.{flat_map-cons}
-use Rattle.ing_labels.specs.Labels.{Pair}
 use Rattle.ing_chunk.specs.declared.numbered.Numbered.{Numbered}
 use Rattle.ing_chunk.specs.Chunks.{AreInOrder, comes_before}
 use Rattle.ing_codec.specs.declared.chunk_reading.Part.{Part}
-use Rattle.ing_codec.specs.Fields.{Rest, IsMetaText, IsTold, long_text, meta_text}
+use Rattle.ing_codec.specs.Fields.{Rest, long_text, meta_text}
 use Rattle.ing_chunk.specs.Parts.{max_line, IsWithin, AreApart, is_taken}
-use Rattle.ing_codec.specs.ChunkObjects.{AreTold, IsEntry, entry_text}
+use Rattle.ing_codec.specs.ChunkObjects.{IsEntry, entry_text}
 use Rattle.ing_codec.specs.ChunkReading.{read_entry, read_entries, is_free, goes_on, is_above, numbered}
 use Rattle.ing_codec.proofs.Binds.{bind_ok, ok_is, done}
 use Rattle.ing_codec.proofs.Built.{entry_read}
 use Rattle.ing_codec.proofs.Order.{in_order_more, one_comes_before}
 use Rattle.ing_codec.proofs.FieldLaws.{IsBytes, Takes, then_takes, rest, Again, wide32, number_takes, number_again}
-use Rattle.ing_codec.proofs.TextLaws.{stamp_takes, stamp_again, line_takes, line_again}
-use Rattle.ing_codec.proofs.MetaLaws.{small, meta_takes, meta_again}
+use Rattle.ing_codec.proofs.TextLaws.{stamp_takes, stamp_again, line_takes, line_again, meta_takes, meta_again}
 
 -- ---- numbers apart
 
@@ -72,21 +70,18 @@ pub record EntryTaken (p : Part) (before : List Numbered) (r : Rest) (e : Number
   pub within : IsWithin (p.first + p.start) p.count e
   pub fresh : is_taken e.number before ≡ false
   pub entry : IsEntry e
-  pub told : IsTold p.version e.entry.meta
   pub goes : goes_on before e ≡ true
 
-made_takes : (p : Part) (before : List Numbered) (r : Rest) (e : Numbered) (after : Rest) (offset s : ℕ) (l : List ℕ) (m : List Pair) → e ≡ numbered (p.first + offset) s l m
-    → Takes r (to_be_bytes w32 offset ++ (to_be_bytes w64 s ++ (long_text l ++ meta_text p.version m))) after
-    → is_free p before (p.first + offset) ≡ true → s < 2 ^ 63 → is_utf8 l ≡ true → length l ≤ max_line → IsMetaText m → IsTold p.version m → goes_on before e ≡ true → EntryTaken p before r e after
-made_takes p before r e after offset s l m is takes free stamp utf8 line meta told goes =
+made_takes : (p : Part) (before : List Numbered) (r : Rest) (e : Numbered) (after : Rest) (offset s : ℕ) (l : List ℕ) → e ≡ numbered (p.first + offset) s l → Takes r (to_be_bytes w32 offset ++ (to_be_bytes w64 s ++ (long_text l ++ meta_text p.version))) after
+    → is_free p before (p.first + offset) ≡ true → s < 2 ^ 63 → is_utf8 l ≡ true → length l ≤ max_line → goes_on before e ≡ true → EntryTaken p before r e after
+made_takes p before r e after offset s l is takes free stamp utf8 line goes =
     let f = free_parts p before (p.first + offset) free in
     let back : offset ≡ p.first + offset - p.first = omega arith in
-    let made : EntryTaken p before r (numbered (p.first + offset) s l m) after = record {
-      takes = subst (λ (k : ℕ). Takes r (to_be_bytes w32 k ++ (to_be_bytes w64 s ++ (long_text l ++ meta_text p.version m))) after) back takes;
-      within = record { low = f.0; high = f.1; short = record { line = line; meta = (small m meta.is_meta).1 } };
+    let made : EntryTaken p before r (numbered (p.first + offset) s l) after = record {
+      takes = subst (λ (k : ℕ). Takes r (to_be_bytes w32 k ++ (to_be_bytes w64 s ++ (long_text l ++ meta_text p.version))) after) back takes;
+      within = record { low = f.0; high = f.1; line = line };
       fresh = f.2;
-      entry = record { stamp = stamp; utf8 = utf8; meta = meta };
-      told = told;
+      entry = record { stamp = stamp; utf8 = utf8 };
       goes = subst (λ (x : Numbered). goes_on before x ≡ true) is goes;
     } in
     subst (λ (x : Numbered). EntryTaken p before r x after) (sym is) made
@@ -98,22 +93,22 @@ entry_takes p before r x fits e =
     let s = stamp_takes read.offset.1 read.stamp o.0.fits read.stamp_read in
     let l = line_takes read.stamp.1 read.line s.0.fits read.line_read in
     let m = meta_takes p.version read.line.1 read.meta l.0.fits read.meta_read in
-    let lm = then_takes read.stamp.1 (long_text read.line.0) read.line.1 (meta_text p.version read.meta.0) read.meta.1 l.0 m.0 in
-    let slm = then_takes read.offset.1 (to_be_bytes w64 read.stamp.0) read.stamp.1 (long_text read.line.0 ++ meta_text p.version read.meta.0) read.meta.1 s.0 lm in
-    let oslm = then_takes r (to_be_bytes w32 read.offset.0) read.offset.1 (to_be_bytes w64 read.stamp.0 ++ (long_text read.line.0 ++ meta_text p.version read.meta.0)) read.meta.1 o.0 slm in
-    let all = subst (λ (y : Rest). Takes r (to_be_bytes w32 read.offset.0 ++ (to_be_bytes w64 read.stamp.0 ++ (long_text read.line.0 ++ meta_text p.version read.meta.0))) y) (sym read.rest) oslm in
-    made_takes p before r x.0 x.1 read.offset.0 read.stamp.0 read.line.0 read.meta.0 read.is all read.free s.1 l.1 l.2 m.1.0 m.1.1 read.goes
+    let lm = then_takes read.stamp.1 (long_text read.line.0) read.line.1 (meta_text p.version) read.meta.1 l.0 m in
+    let slm = then_takes read.offset.1 (to_be_bytes w64 read.stamp.0) read.stamp.1 (long_text read.line.0 ++ meta_text p.version) read.meta.1 s.0 lm in
+    let oslm = then_takes r (to_be_bytes w32 read.offset.0) read.offset.1 (to_be_bytes w64 read.stamp.0 ++ (long_text read.line.0 ++ meta_text p.version)) read.meta.1 o.0 slm in
+    let all = subst (λ (y : Rest). Takes r (to_be_bytes w32 read.offset.0 ++ (to_be_bytes w64 read.stamp.0 ++ (long_text read.line.0 ++ meta_text p.version))) y) (sym read.rest) oslm in
+    made_takes p before r x.0 x.1 read.offset.0 read.stamp.0 read.line.0 read.is all read.free s.1 l.1 l.2 read.goes
 
-pub entry_again : (p : Part) (before : List Numbered) (e : Numbered) → p.count < 2 ^ 32 → p.start + p.count < 2 ^ 32 → IsWithin (p.first + p.start) p.count e → is_taken e.number before ≡ false → IsEntry e → IsTold p.version e.entry.meta → goes_on before e ≡ true
+pub entry_again : (p : Part) (before : List Numbered) (e : Numbered) → p.count < 2 ^ 32 → p.start + p.count < 2 ^ 32 → IsWithin (p.first + p.start) p.count e → is_taken e.number before ≡ false → IsEntry e → goes_on before e ≡ true
     → Again (read_entry p before) (entry_text p.version p.first e) e
 unfolding read_entry
-entry_again p before e few less within fresh entry told goes at more =
+entry_again p before e few small within fresh entry goes at more =
     let offset = e.number - p.first in
-    let behind = meta_text p.version e.entry.meta ++ more in
+    let behind = meta_text p.version ++ more in
     let o = number_again w32 (2 ^ 32) wide32 offset (omega (arith, within.low, within.high)) at (to_be_bytes w64 e.entry.stamp ++ (long_text e.entry.line ++ behind)) in
     let s = stamp_again e.entry.stamp entry.stamp o.0 (long_text e.entry.line ++ behind) in
-    let l = line_again e.entry.line entry.utf8 within.short.line s.0 behind in
-    let m = meta_again p.version e.entry.meta entry.meta told l.0 more in
+    let l = line_again e.entry.line entry.utf8 within.line s.0 behind in
+    let m = meta_again p.version l.0 more in
     let n : p.first + offset ≡ e.number = omega (arith, within.low) in
     let free : is_free p before e.number ≡ true = free_again (p.first + p.start) (p.first + p.start + p.count) e.number (is_taken e.number before) within.low within.high fresh in
     let regrouped : entry_text p.version p.first e ++ more ≡ to_be_bytes w32 offset ++ (to_be_bytes w64 e.entry.stamp ++ (long_text e.entry.line ++ behind)) = simp append_assoc in
@@ -127,14 +122,13 @@ pub record Built (p : Part) (es : List Numbered) : Type 0 where
   pub apart : AreApart es
   pub in_order : AreInOrder es
   pub entries : AllByRecursion IsEntry es
-  pub told : AreTold p.version es
 
 all_more : {X : Type 0} (P : X → Type 0) (xs : List X) (x : X) → AllByRecursion P xs → P x → AllByRecursion P (xs ++ x ∷ [])
 all_more P [] x h p = (p, tt)
 all_more P (y ∷ xs) x h p = (h.0, all_more P xs x h.1 p)
 
 pub none_built : (p : Part) → Built p []
-none_built p = record { within = tt; apart = tt; in_order = λ k d low high. absurd (omega arith); entries = tt; told = tt }
+none_built p = record { within = tt; apart = tt; in_order = λ k d low high. absurd (omega arith); entries = tt }
 
 pub record EntriesTaken (p : Part) (k : ℕ) (before : List Numbered) (r : Rest) (x : List Numbered × Rest) : Type 0 where
   pub more : List Numbered
@@ -155,7 +149,6 @@ entries_take p (suc k) before r x fits built h =
       apart = apart_more before e.0.0 built.apart one.fresh;
       in_order = in_order_more before e.0.0 built.in_order one.goes;
       entries = all_more IsEntry before e.0.0 built.entries one.entry;
-      told = all_more (λ e. IsTold p.version e.entry.meta) before e.0.0 built.told one.told;
     } in
     let all = entries_take p k (before ++ e.0.0 ∷ []) e.0.1 x one.takes.fits next e.2 in
     record {
@@ -197,14 +190,13 @@ pub record Follow (p : Part) (before es : List Numbered) : Type 0 where
   pub apart : AreApart (before ++ es)
   pub in_order : AreInOrder (before ++ es)
   pub entries : AllByRecursion IsEntry es
-  pub told : AreTold p.version es
 
 pub entries_again : (p : Part) (es before : List Numbered) → Follow p before es → Again (read_entries p (length es) before) (flat_map (entry_text p.version p.first) es) (before ++ es)
 unfolding read_entries
 entries_again p [] before h at more = (at, ap (λ (b : List Numbered). done (b, rest at more)) (sym (append-nil before)))
 entries_again p (e ∷ es) before h at more =
     let goes = goes_from_order before es e h.in_order h.apart in
-    let one = entry_again p before e (omega (arith, h.count)) h.count h.within.0 (untaken_before before es e h.apart) h.entries.0 h.told.0 goes at (flat_map (entry_text p.version p.first) es ++ more) in
+    let one = entry_again p before e (omega (arith, h.count)) h.count h.within.0 (untaken_before before es e h.apart) h.entries.0 goes at (flat_map (entry_text p.version p.first) es ++ more) in
     let joined : before ++ e ∷ es ≡ (before ++ e ∷ []) ++ es = sym (append_assoc before (e ∷ []) es) in
     let next : Follow p (before ++ e ∷ []) es = record {
       count = h.count;
@@ -212,7 +204,6 @@ entries_again p (e ∷ es) before h at more =
       apart = subst (λ (b : List Numbered). AreApart b) joined h.apart;
       in_order = subst (λ (b : List Numbered). AreInOrder b) joined h.in_order;
       entries = h.entries.1;
-      told = h.told.1;
     } in
     let others = entries_again p es (before ++ e ∷ []) next one.0 more in
     let regrouped : flat_map (entry_text p.version p.first) (e ∷ es) ++ more ≡ entry_text p.version p.first e ++ (flat_map (entry_text p.version p.first) es ++ more) = ap (λ (t : List ℕ). t ++ more) (flat_map-cons (entry_text p.version p.first) e es) ∙ append_assoc (entry_text p.version p.first e) (flat_map (entry_text p.version p.first) es) more in

@@ -11,7 +11,7 @@ use Rattle.ing_chunk.specs.Parts.{AreParts, max_line}
 use Rattle.ing_codec.specs.declared.fault.CodecFault.{CodecFault}
 use Rattle.ing_codec.specs.declared.fault.CodecFault.TheVariants.{BadField}
 use Rattle.ing_codec.specs.declared.version.Version.{Version}
-use Rattle.ing_codec.specs.Fields.{Rest, IsMetaText, IsTold, short_text, long_text, meta_text, is_name, read_bytes, read_number, read_known_version, read_tenant, read_name, read_line, read_meta, read_stamp, read_first}
+use Rattle.ing_codec.specs.Fields.{Rest, short_text, long_text, meta_text, is_name, read_bytes, read_number, read_known_version, read_tenant, read_name, read_line, read_meta, read_stamp, read_first}
 use Rattle.ing_codec.specs.Versions.{version_byte}
 use Rattle.ing_codec.specs.ChunkObjects.{block_text}
 use Rattle.ing_codec.specs.ChunkReading.{read_block_count, read_blocks}
@@ -19,8 +19,7 @@ use Rattle.ing_codec.specs.RowObjects.{IsExtent, extent_text, read_extent}
 use Rattle.ing_codec.specs.Laws.{FieldIsExact, FieldsAreExact, AreBlocks}
 use Rattle.ing_codec.proofs.Binds.{bind_ok, not_stopped, ok_is}
 use Rattle.ing_codec.proofs.FieldLaws.{IsBytes, Takes, Again, bytes_take, bytes_again, wide32, wide64, number_takes, number_again}
-use Rattle.ing_codec.proofs.TextLaws.{tenant_takes, tenant_again, name_takes, name_again, line_takes, line_again, known_takes, known_again, stamp_takes, stamp_again, first_takes, first_again}
-use Rattle.ing_codec.proofs.MetaLaws.{meta_takes, meta_again}
+use Rattle.ing_codec.proofs.TextLaws.{tenant_takes, tenant_again, name_takes, name_again, line_takes, line_again, known_takes, known_again, meta_takes, meta_again, stamp_takes, stamp_again, first_takes, first_again}
 use Rattle.ing_codec.proofs.ChunkLaws.{blocks_take, blocks_again, count_again}
 use Rattle.ing_codec.proofs.RowLaws.{extent_takes, extent_again}
 
@@ -54,24 +53,23 @@ keys_take : (r : Rest) (x : List ℕ × Rest) → IsBytes r.bytes → read_bytes
 keys_take r x fits e = let t = bytes_take 32 r x fits e in (t.0, t.1)
 
 -- blocks that are read follow one another from the first number on
-first_blocks_take : (v : Version) (first count : ℕ) → first ≤ 2 ^ 62 → (r : Rest) (x : List (List Numbered) × Rest) → IsBytes r.bytes → read_blocks v first count 0 [] r ≡ Ok x → Takes r (flat_map (block_text v first) x.0) x.1 × AreBlocks v first count x.0
+first_blocks_take : (v : Version) (first count : ℕ) → first ≤ 2 ^ 62 → (r : Rest) (x : List (List Numbered) × Rest) → IsBytes r.bytes → read_blocks v first count 0 [] r ≡ Ok x → Takes r (flat_map (block_text v first) x.0) x.1 × AreBlocks first count x.0
 first_blocks_take v first count low r x fits e =
     let t = blocks_take v first count 0 [] r x fits (omega (arith, low)) (omega arith) e in
-    let are : AreBlocks v first count t.more = record {
+    let are : AreBlocks first count t.more = record {
       count = t.count;
       parts = subst (λ (m : ℕ). AreParts m t.more) (add-zero first) t.parts;
       last = omega (arith, t.last);
       few = omega (arith, t.few);
       each = t.blocks;
-      told = t.told;
     } in
-    subst (λ (bs : List (List Numbered)). Takes r (flat_map (block_text v first) bs) x.1 × AreBlocks v first count bs) (sym t.is) (t.takes, are)
+    subst (λ (bs : List (List Numbered)). Takes r (flat_map (block_text v first) bs) x.1 × AreBlocks first count bs) (sym t.is) (t.takes, are)
 
 -- and are read again
-first_blocks_again : (v : Version) (first count : ℕ) (bs : List (List Numbered)) → AreBlocks v first count bs → Again (read_blocks v first count 0 []) (flat_map (block_text v first) bs) bs
+first_blocks_again : (v : Version) (first count : ℕ) (bs : List (List Numbered)) → AreBlocks first count bs → Again (read_blocks v first count 0 []) (flat_map (block_text v first) bs) bs
 first_blocks_again v first count bs h =
     let parts : AreParts (first + 0) bs = subst (λ (m : ℕ). AreParts m bs) (sym (add-zero first)) h.parts in
-    subst (λ (k : ℕ). Again (read_blocks v first k 0 []) (flat_map (block_text v first) bs) bs) h.count (blocks_again v first bs 0 [] parts h.each h.told (omega (arith, h.last)) (omega (arith, h.few)))
+    subst (λ (k : ℕ). Again (read_blocks v first k 0 []) (flat_map (block_text v first) bs) bs) h.count (blocks_again v first bs 0 [] parts h.each (omega (arith, h.last)) (omega (arith, h.few)))
 
 pub fields_exact : FieldsAreExact
 fields_exact = record {
@@ -84,8 +82,8 @@ fields_exact = record {
   names = exact (λ t. (is_name t ≡ true) × (length t < 2 ^ 32)) long_text read_name (λ t h. name_again t h.0 h.1) names_take;
   versions = exact (λ _. ⊤) (λ v. version_byte v ∷ []) read_known_version (λ v _. known_again v) (λ r x fits e. (known_takes r x fits e, tt));
   lines = exact (λ t. (is_utf8 t ≡ true) × (length t ≤ max_line)) long_text read_line (λ t h. line_again t h.0 h.1) lines_take;
-  metas = λ v. exact (λ m. IsMetaText m × IsTold v m) (meta_text v) (read_meta v) (λ m h. meta_again v m h.0 h.1) (meta_takes v);
+  metas = λ v. exact (λ _. ⊤) (λ _. meta_text v) (read_meta v) (λ _ _. meta_again v) (λ r x fits e. (meta_takes v r x fits e, tt));
   extents = exact IsExtent extent_text read_extent extent_again extent_takes;
   keys = exact (λ k. length k ≡ 32) (λ k. k) (read_bytes 32) (λ k h. bytes_again k 32 h) keys_take;
-  blocks = λ v first count low. exact (AreBlocks v first count) (flat_map (block_text v first)) (read_blocks v first count 0 []) (first_blocks_again v first count) (first_blocks_take v first count low);
+  blocks = λ v first count low. exact (AreBlocks first count) (flat_map (block_text v first)) (read_blocks v first count 0 []) (first_blocks_again v first count) (first_blocks_take v first count low);
 }

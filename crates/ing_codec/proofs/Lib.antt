@@ -1,6 +1,5 @@
 pub mod Texts
 pub mod Loops
-pub mod MetaLaws
 pub mod Order
 pub mod Binds
 pub mod Built

@@ -1,19 +1,14 @@
 -- The order of the entries of a block: by stamp, then by number.
-use Rattle.std.proofs.Common.{◌≡◌, ◌≢◌, ℕ, ◌-◌, ◌<◌, ◌≤◌, Bool, true, false, refl, ◌&&◌, ◌||◌, List, [], ◌∷◌, ◌++◌, length, get_or, Option, sym, ap, ◌∙◌, arith}
+use Rattle.std.proofs.Common.{◌≡◌, ◌≢◌, ℕ, ◌-◌, ◌<◌, true, false, ◌&&◌, ◌||◌, List, [], ◌∷◌, ◌++◌, length, get_or, Option, sym, ap, ◌∙◌, arith}
 use Rattle.std.specs.Prelude.{◌==◌, nat_lt}
 use Rattle.std.specs.Ordering.{is_lt, nat_cmp, ordering_then}
 use Rattle.std.proofs.lemmas.Bool.Decides.{nat_tests}
 use Rattle.std.proofs.lemmas.Grind.{common_steps}
 use Rattle.std.proofs.lemmas.Option.{slice_get-get_or}
-use Rattle.std.proofs.lemmas.List.Folds.{list_any-append}
 use Rattle.std.proofs.lemmas.List.Kept.{IsSortedBy-push}
 use Rattle.ing_chunk.specs.declared.numbered.Numbered.{Numbered}
 use Rattle.ing_chunk.specs.Chunks.{comes_before, AreInOrder}
-use Rattle.ing_chunk.specs.Parts.{is_taken}
-use Rattle.ing_codec.specs.declared.chunk_reading.Part.{Part}
-use Rattle.ing_codec.specs.declared.chunk_reading.Seen.{Seen}
 use Rattle.ing_codec.specs.ChunkReading.{goes_on, is_above}
-use Rattle.ing_codec.specs.Seen.{HasSeen, is_seen}
 
 as_tests : (s t m n : ℕ) → is_lt (ordering_then (nat_cmp s t) (nat_cmp m n)) ≡ (nat_lt s t || ((s == t) && nat_lt m n))
 as_tests s t m n = grind (arith, common_steps)
@@ -38,25 +33,3 @@ above_last before e d some h = sym (ap (λ (o : Option Numbered). is_above o e) 
 
 pub in_order_more : (before : List Numbered) (e : Numbered) → AreInOrder before → goes_on before e ≡ true → AreInOrder (before ++ e ∷ [])
 in_order_more before e up h = IsSortedBy-push comes_before before e up (λ d some. not_back (get_or before (length before - 1) d) e (above_last before e d some h))
-
--- one number more is seen
-pub seen_more : (p : Part) (old new : Seen) (before : List Numbered) (e : Numbered) → HasSeen p old before → new.from ≡ old.from
-    → ((k : ℕ) → old.from ≤ k → is_seen new k ≡ ((k == e.number) || is_seen old k)) → HasSeen p new (before ++ e ∷ [])
-seen_more p old new before e h from seen = record {
-  from = from ∙ h.from;
-  numbers = λ k low.
-      let there : old.from ≤ k = omega (arith, low, from) in
-      let joined = list_any-append (λ (x : Numbered). x.number == k) before (e ∷ []) in
-      seen k there ∙ ap (λ b. (k == e.number) || b) (h.numbers k there) ∙ turned k e.number (is_taken k before) ∙ sym joined;
-} where
-  either : (a b : Bool) → (a || b) ≡ (b || (a || false))
-  either true true = refl
-  either true false = refl
-  either false true = refl
-  either false false = refl
-
-  same : (n m : ℕ) → (n == m) ≡ (m == n)
-  same n m = grind (arith, nat_tests)
-
-  turned : (k n : ℕ) (b : Bool) → ((k == n) || b) ≡ (b || ((n == k) || false))
-  turned k n b = ap (λ a. a || b) (same k n) ∙ either (n == k) b

@@ -1,6 +1,6 @@
 -- The fields with texts, and what each object begins with: read as they were written, and written as they were read.
 use Rattle.std.proofs.Common.{◌≡◌, ◌⊎◌, inl, inr, ℕ, ◌+◌, ◌^◌, ◌<◌, ◌≤◌, Bool, true, false, cond, ◌&&◌, ◌||◌, List, [], ◌∷◌, ◌++◌, length, codes, Ok, Err, refl, sym, ap, subst, ◌∙◌, append_assoc, arith}
-use Rattle.std.specs.Prelude.{◌==◌, nat_lt, nat_le, bytes_eq}
+use Rattle.std.specs.Prelude.{⊤, ◌==◌, nat_lt, nat_le, bytes_eq}
 use Rattle.std.specs.Int.{w32, w64, to_be_bytes}
 use Rattle.std.specs.Str.{is_utf8}
 use Rattle.std.specs.List.{list_all}
@@ -13,7 +13,7 @@ use Rattle.ing_chunk.specs.Parts.{max_line}
 use Rattle.ing_codec.specs.declared.version.Version.{Version}
 use Rattle.ing_codec.specs.declared.version.Version.TheVariants.{First, Second}
 use Rattle.ing_codec.specs.Versions.{version_byte}
-use Rattle.ing_codec.specs.Fields.{Rest, known_version, read_known_version, read_owner, read_bytes, read_number, read_byte, read_magic, read_version, read_tenant, read_name, read_line, read_stamp, read_first, read_front, short_text, long_text, front_text, is_name}
+use Rattle.ing_codec.specs.Fields.{Rest, known_version, meta_text, read_known_version, read_meta, read_owner, read_bytes, read_number, read_byte, read_magic, read_version, read_tenant, read_name, read_line, read_stamp, read_first, read_front, short_text, long_text, front_text, is_name}
 use Rattle.ing_codec.specs.ChunkReading.{read_chunk_front}
 use Rattle.ing_codec.proofs.Binds.{bind_ok, passed, not_stopped, ok_is}
 use Rattle.ing_codec.proofs.FieldLaws.{IsBytes, Takes, then_takes, rest, Again, bytes_take, bytes_again, wide32, wide64, number_takes, number_again, byte_takes}
@@ -106,6 +106,23 @@ pub known_again : (v : Version) → Again read_known_version (version_byte v ∷
 unfolding read_known_version
 known_again First at more = (at + 1, refl)
 known_again Second at more = (at + 1, refl)
+
+-- ---- what stands behind a line
+
+pub meta_takes : (v : Version) (r : Rest) (x : ⊤ × Rest) → IsBytes r.bytes → read_meta v r ≡ Ok x → Takes r (meta_text v) x.1
+unfolding read_meta
+meta_takes First r x fits e = subst (λ (y : ⊤ × Rest). Takes r [] y.1) (ok_is (tt, r) x e) (record { parts = refl; fits = fits })
+meta_takes Second r x fits e =
+    let n = bind_ok (read_byte r) (λ n. cond (n.0 == 0) (Ok (tt, n.1)) (Err (BadField r.at))) x e in
+    let g = passed (n.0.0 == 0) (BadField r.at) (Ok (tt, n.0.1)) x n.2 in
+    let t = byte_takes r n.0 fits n.1 in
+    let none : n.0.0 ≡ 0 = nat_eq_true n.0.0 0 g.0 in
+    subst (λ (y : ⊤ × Rest). Takes r (0 ∷ []) y.1) (ok_is (tt, n.0.1) x g.1) (subst (λ (k : ℕ). Takes r (k ∷ []) n.0.1) none t)
+
+pub meta_again : (v : Version) → Again (read_meta v) (meta_text v) tt
+unfolding read_meta
+meta_again First at more = (at, refl)
+meta_again Second at more = (at + 1, refl)
 
 -- ---- texts
 

@@ -28,11 +28,11 @@ enough : (es : List Numbered) → length es * 16 ≤ size_of_entries es
 enough [] = omega arith
 enough (e ∷ es) = omega (arith, sum_by-cons (λ (x : Numbered). size_of x.entry) e es, enough es)
 
-block_size : (from count : ℕ) (es : List Numbered) → AllByRecursion (IsWithin from count) es → size_of_entries es ≤ length es * 327696
+block_size : (from count : ℕ) (es : List Numbered) → AllByRecursion (IsWithin from count) es → size_of_entries es ≤ length es * 262160
 block_size from count [] h = omega arith
-block_size from count (e ∷ es) h = omega (arith, sum_by-cons (λ (x : Numbered). size_of x.entry) e es, h.0.short.line, h.0.short.meta, block_size from count es h.1)
+block_size from count (e ∷ es) h = omega (arith, sum_by-cons (λ (x : Numbered). size_of x.entry) e es, h.0.line, block_size from count es h.1)
 
-blocks_size : (from : ℕ) (bs : List (List Numbered)) → AreParts from bs → size_of_entries (in_blocks bs) ≤ length (in_blocks bs) * 327696
+blocks_size : (from : ℕ) (bs : List (List Numbered)) → AreParts from bs → size_of_entries (in_blocks bs) ≤ length (in_blocks bs) * 262160
 blocks_size from [] h = omega arith
 blocks_size from (b ∷ bs) h =
     omega (arith, sum_by-append (λ (x : Numbered). size_of x.entry) b (in_blocks bs), length-append b (in_blocks bs), block_size from (length b) b h.0.within, blocks_size (from + length b) bs h.1)

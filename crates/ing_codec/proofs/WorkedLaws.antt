@@ -1,20 +1,17 @@
 -- The worked chunk, both ways.
-use Rattle.std.proofs.Common.{◌≡◌, ℕ, zero, suc, ◌≤◌, Bool, true, false, ◌&&◌, List, [], ◌∷◌, codes, Ok, refl, sym, ap, ◌∙◌, arith}
+use Rattle.std.proofs.Common.{◌≡◌, ℕ, zero, suc, Bool, true, false, ◌&&◌, List, [], ◌∷◌, codes, Ok, refl, sym, ap, ◌∙◌, arith}
 use Rattle.std.specs.Prelude.{nat_lt}
 use Rattle.std.specs.List.{list_all}
 use Rattle.std.specs.Str.{is_utf8, IsAscii}
 use Rattle.std.proofs.lemmas.Str.{is_utf8-from_IsUtf8, IsUtf8-from_ascii}
 use Rattle.ing_labels.specs.CanonicalTests.{is_canonical}
-use Rattle.ing_labels.specs.Labels.{Pair}
-use Rattle.ing_rows.specs.Metas.{size_of_pairs}
 use Rattle.ing_chunk.specs.Chunks.{AreInOrder}
-use Rattle.ing_codec.specs.Fields.{IsMetaText, is_name}
+use Rattle.ing_codec.specs.Fields.{is_name}
 use Rattle.ing_codec.specs.declared.version.Version.TheVariants.{First, Second}
 use Rattle.ing_codec.specs.ChunkObjects.{IsObject, chunk_text, text_in}
-use Rattle.ing_codec.specs.ChunkReading.{chunk_object, numbered, read_chunk}
-use Rattle.ing_codec.specs.WorkedObjects.{worked_chunk, worked_bytes, worked_bytes_of_first, worked_beside, worked_bytes_beside}
+use Rattle.ing_codec.specs.ChunkReading.{numbered, read_chunk}
+use Rattle.ing_codec.specs.WorkedObjects.{worked_chunk, worked_bytes, worked_bytes_of_first}
 use Rattle.ing_codec.proofs.ChunkLaws.{text_again}
-use Rattle.ing_codec.proofs.MetaLaws.{none_is_text}
 use Rattle.ing_codec.proofs.TextLaws.{is_less}
 use Rattle.ing_codec.proofs.Order.{in_order_more}
 
@@ -48,11 +45,11 @@ ascii_utf8 bs h = is_utf8-from_IsUtf8 bs (IsUtf8-from_ascii bs (are_ascii bs h))
 name_utf8 : is_name (codes "{a=\"1\"}") ≡ true
 name_utf8 = rw (ascii_utf8 (codes "{a=\"1\"}") refl, canonical) refl
 
-in_order : (m : List Pair) → AreInOrder (numbered 1 3 (codes "yz") [] ∷ numbered 0 5 (codes "x") m ∷ [])
-in_order m = in_order_more (numbered 1 3 (codes "yz") [] ∷ []) (numbered 0 5 (codes "x") m) (λ k d low high. absurd (omega arith)) refl
+in_order : AreInOrder (numbered 1 3 (codes "yz") ∷ numbered 0 5 (codes "x") ∷ [])
+in_order = in_order_more (numbered 1 3 (codes "yz") ∷ []) (numbered 0 5 (codes "x")) (λ k d low high. absurd (omega arith)) refl
 
-is_object : (m : List Pair) → size_of_pairs m ≤ 65536 → IsMetaText m → IsObject (chunk_object (codes "t") (codes "{a=\"1\"}") 0 ((numbered 1 3 (codes "yz") [] ∷ numbered 0 5 (codes "x") m ∷ []) ∷ []))
-is_object m few meta = record {
+is_object : IsObject worked_chunk
+is_object = record {
   tenant = refl;
   name = name_utf8;
   numbered = record {
@@ -61,10 +58,7 @@ is_object m few meta = record {
     parts = (
       record {
         some = λ e. absurd cc;
-        within = (
-          record { low = omega arith; high = omega arith; short = record { line = omega arith; meta = omega arith } },
-          (record { low = omega arith; high = omega arith; short = record { line = omega arith; meta = few } }, tt),
-        );
+        within = (record { low = omega arith; high = omega arith; line = omega arith }, (record { low = omega arith; high = omega arith; line = omega arith }, tt));
         apart = (refl, (refl, tt));
       },
       tt,
@@ -72,27 +66,11 @@ is_object m few meta = record {
     last = omega arith;
     few = omega arith;
   };
-  blocks = (
-    record {
-      in_order = in_order m;
-      entries = (record { stamp = omega arith; utf8 = ascii_utf8 (codes "yz") refl; meta = none_is_text }, (record { stamp = omega arith; utf8 = ascii_utf8 (codes "x") refl; meta = meta }, tt));
-    },
-    tt,
-  );
+  blocks = (record { in_order = in_order; entries = (record { stamp = omega arith; utf8 = ascii_utf8 (codes "yz") refl }, (record { stamp = omega arith; utf8 = ascii_utf8 (codes "x") refl }, tt)) }, tt);
 }
 
 pub read : read_chunk worked_bytes ≡ Ok worked_chunk
-read = ap read_chunk (sym written) ∙ text_again Second worked_chunk (is_object [] (omega arith) none_is_text) ((tt, (tt, tt)), tt)
+read = ap read_chunk (sym written) ∙ text_again Second worked_chunk is_object
 
 pub read_of_first : read_chunk worked_bytes_of_first ≡ Ok worked_chunk
-read_of_first = ap read_chunk (sym of_first) ∙ text_again First worked_chunk (is_object [] (omega arith) none_is_text) ((refl, (refl, tt)), tt)
-
-one_pair : IsMetaText ((codes "k", codes "v") ∷ [])
-one_pair = record { is_meta = record { rising = refl; names = refl; values = refl; few = refl }; utf8 = ((ascii_utf8 (codes "k") refl, ascii_utf8 (codes "v") refl), tt) }
-
-pub written_beside : chunk_text worked_beside ≡ worked_bytes_beside
-unfolding text_in
-written_beside = refl
-
-pub read_beside : read_chunk worked_bytes_beside ≡ Ok worked_beside
-read_beside = ap read_chunk (sym written_beside) ∙ text_again Second worked_beside (is_object ((codes "k", codes "v") ∷ []) (omega arith) one_pair) ((tt, (tt, tt)), tt)
+read_of_first = ap read_chunk (sym of_first) ∙ text_again First worked_chunk is_object

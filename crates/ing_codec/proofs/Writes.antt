@@ -52,7 +52,7 @@ blocks_few from (b ∷ bs) h = omega (arith, nonempty b h.0.some, blocks_few (fr
 entries_writable : (first from count : ℕ) (es : List Numbered) → first ≤ from → from + count ≤ first + 2 ^ 32 → AllByRecursion (IsWithin from count) es → AllByRecursion (IsWritable first) es
 entries_writable first from count [] low high h = tt
 entries_writable first from count (e ∷ es) low high h =
-    (record { low = omega (arith, h.0.low); high = omega (arith, h.0.high); line = omega (arith, h.0.short.line) }, entries_writable first from count es low high h.1)
+    (record { low = omega (arith, h.0.low); high = omega (arith, h.0.high); line = omega (arith, h.0.line) }, entries_writable first from count es low high h.1)
 
 blocks_writable : (first from : ℕ) (bs : List (List Numbered)) → first ≤ from → from + length (in_blocks bs) < first + 2 ^ 32 → AreParts from bs → AllByRecursion (IsBlockWritable first) bs
 blocks_writable first from [] low high h = tt

@@ -8,7 +8,7 @@ use Rattle.ing_chunk.specs.declared.numbered.Numbered.{Numbered}
 use Rattle.ing_chunk.specs.Chunks.{AreInOrder, in_blocks}
 use Rattle.ing_chunk.specs.Parts.{AreParts}
 use Rattle.ing_codec.specs.declared.version.Version.{Version}
-use Rattle.ing_codec.specs.Fields.{IsMetaText, IsTold, front_text, long_text, meta_text, is_name}
+use Rattle.ing_codec.specs.Fields.{front_text, long_text, meta_text, is_name}
 use Rattle.ing_codec.specs.Versions.{version_byte, written_version}
 
 -- whose it is, the number of its first entry, and the entries of each block
@@ -23,7 +23,7 @@ pub record ChunkObject : Type 0 where
 -- an entry, by its number from the first of the chunk on
 abbrev pub entry_text : Version → ℕ → Numbered → List ℕ
 entry_text v first e =
-    to_be_bytes w32 (e.number - first) ++ (to_be_bytes w64 e.entry.stamp ++ (long_text e.entry.line ++ meta_text v e.entry.meta))
+    to_be_bytes w32 (e.number - first) ++ (to_be_bytes w64 e.entry.stamp ++ (long_text e.entry.line ++ meta_text v))
 
 abbrev pub block_text : Version → ℕ → List Numbered → List ℕ
 block_text v first b = to_be_bytes w32 (length b) ++ flat_map (entry_text v first) b
@@ -40,15 +40,10 @@ text_in v o = head_text v o ++ flat_map (block_text v o.first) o.blocks
 abbrev pub chunk_text : ChunkObject → List ℕ
 chunk_text o = text_in written_version o
 
--- the version tells all of the entries: the first has no metadata
-abbrev pub AreTold : Version → List Numbered → Type 0
-AreTold v entries = AllByRecursion (λ e. IsTold v e.entry.meta) entries
-
 -- the bytes spell the chunk, in a version
 pub record Spells (bytes : List ℕ) (o : ChunkObject) : Type 0 where
   pub version : Version
   pub is : bytes ≡ text_in version o
-  pub told : AllByRecursion (AreTold version) o.blocks
 
 -- ---- which chunks there are
 
@@ -60,11 +55,10 @@ pub record IsNumbered (o : ChunkObject) : Type 0 where
   pub last : o.first + length (in_blocks o.blocks) ≤ 2 ^ 62
   pub few : length (in_blocks o.blocks) < 2 ^ 32
 
--- an entry with a stamp, a line of UTF-8 (RFC 3629), and metadata
+-- an entry with a stamp, and a line of UTF-8 (RFC 3629)
 pub record IsEntry (e : Numbered) : Type 0 where
   pub stamp : e.entry.stamp < 2 ^ 63
   pub utf8 : is_utf8 e.entry.line ≡ true
-  pub meta : IsMetaText e.entry.meta
 
 -- a block in order of stamp, then number
 pub record IsBlock (b : List Numbered) : Type 0 where

@@ -2,7 +2,6 @@
 use Rattle.std.specs.Prelude.{ℕ, zero, suc, ◌+◌, ◌-◌, ◌^◌, Bool, true, not, ◌&&◌, ◌==◌, nat_lt, nat_le, List, [], ◌∷◌, ◌++◌, length, codes, slice_get, Option, Some, None, Result, Ok, Err, if◌then◌else◌}
 use Rattle.std.specs.Int.{w32}
 use Rattle.ing_refusals.specs.Results.{◌>>=◌}
-use Rattle.ing_labels.specs.Labels.{Pair}
 use Rattle.ing_chunk.specs.declared.numbered.Numbered.{Numbered}
 use Rattle.ing_chunk.specs.Chunks.{comes_before}
 use Rattle.ing_codec.specs.declared.chunk_reading.Part.{Part}
@@ -29,8 +28,8 @@ is_above (Some last) e = comes_before last e
 abbrev pub goes_on : List Numbered → Numbered → Bool
 goes_on before e = is_above (slice_get before (length before - 1)) e
 
-abbrev pub numbered : ℕ → ℕ → List ℕ → List Pair → Numbered
-numbered n stamp line meta = record { number = n; entry = record { stamp = stamp; line = line; meta = meta } }
+abbrev pub numbered : ℕ → ℕ → List ℕ → Numbered
+numbered n stamp line = record { number = n; entry = record { stamp = stamp; line = line } }
 
 abbrev pub in_turn : List Numbered → Numbered → Rest → Result (Numbered × Rest) CodecFault
 in_turn before e r = if goes_on before e then Ok (e, r) else Err OutOfOrder
@@ -43,7 +42,7 @@ read_entry p before r = do
     s ← read_stamp o.1
     l ← read_line s.1
     m ← read_meta p.version l.1
-    in_turn before (numbered (p.first + o.0) s.0 l.0 m.0) m.1)
+    in_turn before (numbered (p.first + o.0) s.0 l.0) m.1)
       else Err (BadField r.at)
 
 -- so many more entries

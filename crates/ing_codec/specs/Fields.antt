@@ -1,16 +1,11 @@
 -- The fields of objects: how each is written, and how each is read from the front of the bytes that are left.
 -- Every number is unsigned and big-endian. What names no standard is own.
-use Rattle.std.specs.Prelude.{⊤, ◌≡◌, ℕ, zero, suc, ◌+◌, ◌-◌, ◌^◌, min, Bool, true, ◌&&◌, ◌||◌, ◌==◌, nat_lt, nat_le, List, [], ◌∷◌, ◌++◌, length, take, drop, bytes_eq, Result, Ok, Err, if◌then◌else◌}
+use Rattle.std.specs.Prelude.{⊤, ℕ, ◌+◌, ◌^◌, Bool, ◌&&◌, ◌||◌, ◌==◌, nat_lt, nat_le, List, [], ◌∷◌, ◌++◌, length, take, drop, bytes_eq, Result, Ok, Err, if◌then◌else◌}
 use Rattle.std.specs.Int.{Width, w32, w64, byte_len, from_be_bytes, to_be_bytes}
 use Rattle.std.specs.Str.{is_utf8}
-use Rattle.std.specs.List.{flat_map, AllByRecursion}
-use Rattle.std.specs.Ordering.{is_lt}
 use Rattle.ing_refusals.specs.Results.{◌>>=◌}
 use Rattle.ing_rows.specs.Texts.{is_tenant}
-use Rattle.ing_rows.specs.Metas.{IsMeta, size_of_pairs}
-use Rattle.ing_chunk.specs.Parts.{max_line, max_meta}
-use Rattle.ing_labels.specs.Labels.{Pair, name_order}
-use Rattle.ing_labels.specs.CanonicalReading.{last_name}
+use Rattle.ing_chunk.specs.Parts.{max_line}
 use Rattle.ing_labels.specs.CanonicalTests.{is_canonical}
 use Rattle.ing_codec.specs.declared.fault.CodecFault.{CodecFault}
 use Rattle.ing_codec.specs.declared.fault.CodecFault.TheVariants.{Truncated, BadMagic, BadVersion, BadField}
@@ -31,25 +26,10 @@ long_text text = to_be_bytes w32 (length text) ++ text
 abbrev pub row_version : ℕ
 row_version = 1
 
--- a pair of metadata: its name and its value
-abbrev pub pair_text : Pair → List ℕ
-pair_text p = long_text p.0 ++ long_text p.1
-
--- what stands behind a line: nothing in the first version, and in the second how many pairs of metadata the entry has, in one
--- byte, and the pairs
-abbrev pub meta_text : Version → List Pair → List ℕ
-meta_text First pairs = []
-meta_text Second pairs = length pairs ∷ flat_map pair_text pairs
-
--- metadata whose names and values are UTF-8 (RFC 3629)
-pub record IsMetaText (pairs : List Pair) : Type 0 where
-  pub is_meta : IsMeta pairs
-  pub utf8 : AllByRecursion (λ p. (is_utf8 p.0 ≡ true) × (is_utf8 p.1 ≡ true)) pairs
-
--- the first version tells no metadata
-abbrev pub IsTold : Version → List Pair → Type 0
-IsTold First pairs = pairs ≡ []
-IsTold Second pairs = ⊤
+-- what stands behind a line: nothing in the first version, and in the second how many pairs of metadata the entry has, which is none
+abbrev pub meta_text : Version → List ℕ
+meta_text First = []
+meta_text Second = 0 ∷ []
 
 -- the letters of a kind of object, its version, a tenant and a canonical name, with which each object begins
 abbrev pub front_text : List ℕ → ℕ → List ℕ → List ℕ → List ℕ
@@ -141,45 +121,12 @@ read_line r = do
     t ← read_bytes n.0 n.1
     if is_utf8 t.0 then Ok t else Err (BadField n.1.at)
 
--- a text, UTF-8 (RFC 3629), of so many bytes at least and at most
-unfoldable pub read_text : ℕ → ℕ → Rest → Result (List ℕ × Rest) CodecFault
-read_text least most r = do
-  n ← read_number w32 r
-  if nat_le least n.0 && nat_le n.0 most then (do
-    t ← read_bytes n.0 n.1
-    if is_utf8 t.0 then Ok t else Err (BadField n.1.at))
-      else Err (BadField r.at)
-
--- how many bytes of names and values may follow these pairs
-abbrev pub room_after : List Pair → ℕ
-room_after before = max_meta - size_of_pairs before
-
--- the name lies above that of the last of these pairs, and where there is none, has a byte
-abbrev pub rises : List Pair → List ℕ → Bool
-rises before name = is_lt (name_order (last_name before) name)
-
--- a pair of metadata after these, which are fewer than 128: names rise
-unfoldable pub read_pair : List Pair → Rest → Result (Pair × Rest) CodecFault
-read_pair before r = do
-  n ← read_text 1 (min 1024 (room_after before)) r
-  if rises before n.0 then (do
-    v ← read_text 0 (room_after before - length n.0) n.1
-    Ok ((n.0, v.0), v.1))
-      else Err (BadField (r.at + 4))
-
--- so many pairs after these
-unfoldable pub read_pairs : ℕ → List Pair → Rest → Result (List Pair × Rest) CodecFault
-read_pairs zero before r = Ok (before, r)
-read_pairs (suc k) before r = do
-  p ← read_pair before r
-  read_pairs k (before ++ p.0 ∷ []) p.1
-
--- what stands behind a line: the pairs of metadata, at most 128
-unfoldable pub read_meta : Version → Rest → Result (List Pair × Rest) CodecFault
-read_meta First r = Ok ([], r)
+-- what stands behind a line
+unfoldable pub read_meta : Version → Rest → Result (⊤ × Rest) CodecFault
+read_meta First r = Ok (tt, r)
 read_meta Second r = do
   n ← read_byte r
-  if nat_le n.0 128 then read_pairs n.0 [] n.1 else Err (BadField r.at)
+  if n.0 == 0 then Ok (tt, n.1) else Err (BadField r.at)
 
 -- a stamp, in nanoseconds
 unfoldable pub read_stamp : Rest → Result (ℕ × Rest) CodecFault

@@ -10,9 +10,9 @@ use Rattle.ing_chunk.specs.Chunks.{in_blocks}
 use Rattle.ing_chunk.specs.Parts.{AreParts, max_line}
 use Rattle.ing_codec.specs.declared.fault.CodecFault.{CodecFault}
 use Rattle.ing_codec.specs.declared.version.Version.{Version}
-use Rattle.ing_codec.specs.Fields.{Rest, IsMetaText, IsTold, short_text, long_text, meta_text, is_name, read_bytes, read_number, read_known_version, read_tenant, read_name, read_line, read_meta, read_stamp, read_first}
+use Rattle.ing_codec.specs.Fields.{Rest, short_text, long_text, meta_text, is_name, read_bytes, read_number, read_known_version, read_tenant, read_name, read_line, read_meta, read_stamp, read_first}
 use Rattle.ing_codec.specs.Versions.{version_byte}
-use Rattle.ing_codec.specs.ChunkObjects.{ChunkObject, IsBlock, IsObject, AreTold, Spells, block_text}
+use Rattle.ing_codec.specs.ChunkObjects.{ChunkObject, IsBlock, IsObject, Spells, block_text}
 use Rattle.ing_codec.specs.ChunkReading.{read_block_count, read_blocks, read_chunk}
 use Rattle.ing_codec.specs.RowObjects.{RowObject, IsExtent, IsRow, extent_text, row_text, read_extent, read_row}
 
@@ -42,14 +42,13 @@ pub record FieldIsExact {A : Type 0} (IsField : A → Type 0) (text : A → List
   pub each : (x : A) → IsField x → (at : ℕ) (more : List ℕ) → (after : ℕ) × (read (left_from at (text x ++ more)) ≡ Ok (x, left_from after more))
   pub only : (r : Rest) (x : A) (after : Rest) → AreBytes r.bytes → read r ≡ Ok (x, after) → IsField x × (r.bytes ≡ text x ++ after.bytes) × AreBytes after.bytes
 
--- so many blocks that follow one another from a first number on, and that a version tells
-pub record AreBlocks (v : Version) (first blocks : ℕ) (bs : List (List Numbered)) : Type 0 where
+-- so many blocks that follow one another from a first number on
+pub record AreBlocks (first blocks : ℕ) (bs : List (List Numbered)) : Type 0 where
   pub count : length bs ≡ blocks
   pub parts : AreParts first bs
   pub last : first + length (in_blocks bs) ≤ 2 ^ 62
   pub few : length (in_blocks bs) < 2 ^ 32
   pub each : AllByRecursion IsBlock bs
-  pub told : AllByRecursion (AreTold v) bs
 
 -- the fields of objects, one by one
 pub record FieldsAreExact : Type 0 where
@@ -62,7 +61,7 @@ pub record FieldsAreExact : Type 0 where
   pub names : FieldIsExact (λ t. (is_name t ≡ true) × (length t < 2 ^ 32)) long_text read_name
   pub versions : FieldIsExact (λ _. ⊤) (λ v. version_byte v ∷ []) read_known_version
   pub lines : FieldIsExact (λ t. (is_utf8 t ≡ true) × (length t ≤ max_line)) long_text read_line
-  pub metas : (v : Version) → FieldIsExact (λ m. IsMetaText m × IsTold v m) (meta_text v) (read_meta v)
+  pub metas : (v : Version) → FieldIsExact (λ _. ⊤) (λ _. meta_text v) (read_meta v)
   pub extents : FieldIsExact IsExtent extent_text read_extent
   pub keys : FieldIsExact (λ k. length k ≡ 32) (λ k. k) (read_bytes 32)
-  pub blocks : (v : Version) (first count : ℕ) → first ≤ 2 ^ 62 → FieldIsExact (AreBlocks v first count) (flat_map (block_text v first)) (read_blocks v first count 0 [])
+  pub blocks : (v : Version) (first count : ℕ) → first ≤ 2 ^ 62 → FieldIsExact (AreBlocks first count) (flat_map (block_text v first)) (read_blocks v first count 0 [])

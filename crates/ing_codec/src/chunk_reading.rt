@@ -46,7 +46,6 @@ fn goes_on(before: &[LentEntry<'_>], entry: &LentEntry<'_>) -> bool
 /// One entry of a block, after those before it; their numbers are those seen.
 #[tactic(auto, unfolding(crate::specs::ChunkReading::read_entry))]
 fn entry<'a>(
-    alloc: Global,
     fields: Fields<'a>,
     part: Part,
     seen: &mut Seen,
@@ -65,8 +64,8 @@ fn entry<'a>(
     }
     let (stamp, rest) = rest.stamp()?;
     let (line, rest) = rest.line()?;
-    let (meta, rest) = rest.meta(alloc, part.version)?;
-    let lent = LentEntry::of(number, stamp, line, meta);
+    let rest = rest.meta(part.version)?;
+    let lent = LentEntry::of(number, stamp, line);
     if goes_on(before, &lent) {
         Ok((lent, rest))
     } else {
@@ -89,7 +88,7 @@ fn entries<'a>(
     let mut seen = Seen::new(alloc, part.first + part.start, room)?;
     let mut rest = fields;
     for _ in 0..part.count {
-        let (lent, after) = entry(alloc, rest, part, &mut seen, found.as_slice())?;
+        let (lent, after) = entry(rest, part, &mut seen, found.as_slice())?;
         found.push(lent)?;
         rest = after;
     }

@@ -1,14 +1,12 @@
 //! Fields that are read one after another.
-ghost use Rattle.std.specs.Prelude.{◌≡◌, ◌+◌, ◌*◌, ◌<◌, ◌≤◌, ◌^◌, IfOk, length, [], Ok, Err, if◌then◌else◌};
+ghost use Rattle.std.specs.Prelude.{◌≡◌, ◌+◌, ◌*◌, ◌<◌, ◌≤◌, ◌^◌, IfOk, length, Ok, Err, if◌then◌else◌};
 ghost use Rattle.ing_rows.specs.Texts.{is_tenant};
 ghost use Rattle.ing_labels.specs.Canonical.{canonical_of};
 ghost use Rattle.std.specs.Int.{w32, w64};
 ghost use Rattle.ing_refusals.specs.Results.{Returns, Gives};
 ghost use Rattle.ing_codec.specs.Fields.{whole, read_number, read_byte, read_bytes, read_magic};
 ghost use Rattle.ing_codec.specs.Fields.{read_version, read_known_version, read_tenant, read_name, read_line};
-ghost use Rattle.ing_codec.specs.Fields.{read_text, read_pair, read_pairs, read_meta, room_after, read_stamp, read_first, read_owner, read_front, is_name};
-ghost use Rattle.ing_labels.specs.Labels.{texts};
-ghost use Rattle.ing_rows.specs.Metas.{IsMeta};
+ghost use Rattle.ing_codec.specs.Fields.{read_meta, read_stamp, read_first, read_owner, read_front, is_name};
 ghost use Rattle.ing_codec.specs.Fields as spec;
 ghost use Rattle.ing_codec.specs.ChunkReading.{read_block_count, ended};
 
@@ -25,16 +23,6 @@ const MAX_TENANT: u8 = 150;
 
 /// The most bytes of a line (own).
 const MAX_LINE: u32 = 262_144;
-
-/// The most bytes of a name of metadata, the most bytes of all names and values of an entry, and the most pairs (own).
-const MAX_META_NAME: u32 = 1024;
-
-const MAX_META_BYTES: u32 = 65_536;
-
-const MAX_META_PAIRS: u8 = 128;
-
-/// The fewest bytes of a pair of metadata.
-const META_PAIR_BYTES: usize = 9;
 
 /// The greatest number of an entry of a stream (own).
 pub(crate) const MAX_FIRST: u64 = 0x4000_0000_0000_0000;
@@ -214,93 +202,25 @@ impl<'a> Fields<'a> {
         Ok((utf8_at(bytes, at)?, after))
     }
 
-    /// A text of so many bytes at least and at most: four bytes of length, and the text, UTF-8 (RFC 3629), which stays where it
-    /// is. `Truncated` where the length or the text passes the end; `BadField` of the length where it is another, and of the
-    /// text where it is not UTF-8.
-    #[tactic(auto, unfolding(crate::specs::Fields::read_text))]
-    fn text(self, least: u32, most: u32) -> Result<(&'a str, Fields<'a>), CodecFault>
-        ensures value { Returns (λ x. (x.0.now, x.1)) result (read_text least most self.entry) }
-        ensures length { IfOk result (λ x. (least ≤ length x.0.now) × (length x.0.now ≤ most)) }
-        ensures four { IfOk result (λ _. self.entry.at + 4 < 2 ^ 64) }
-    {
-        let length_at = self.at;
-        let (length, rest) = self.u32()?;
-        if least <= length && length <= most {
-            let at = rest.at;
-            let (bytes, after) = rest.bytes(length as usize)?;
-            return Ok((utf8_at(bytes, at)?, after));
-        }
-        Err(CodecFault::BadField { at: length_at })
-    }
-
-    /// A pair of metadata behind others, with so many bytes of names and values left for it.
-    #[tactic(auto, unfolding(crate::specs::Fields::read_pair))]
-    fn pair(
-        self,
-        before: &[(&'a str, &'a str)],
-        room: u32,
-    ) -> Result<((&'a str, &'a str), Fields<'a>), CodecFault>
-        requires { room ≡ room_after (texts before.now) }
-        ensures value { Returns (λ x. ((x.0.0.now, x.0.1.now), x.1)) result (read_pair (texts before.now) self.entry) }
-        ensures room { IfOk result (λ x. length x.0.0.now + length x.0.1.now ≤ room) }
-    {
-        let at = self.at;
-        let (name, rest) = self.text(1, room.min(MAX_META_NAME))?;
-        if !rises(before, name) {
-            return Err(CodecFault::BadField { at: at + 4 });
-        }
-        let (value, after) = rest.text(0, room - name.len() as u32)?;
-        Ok(((name, value), after))
-    }
-
-    /// What stands behind a line: nothing in the first version; in the second one byte, how many pairs of metadata the entry has,
-    /// at most 128, and the pairs in byte order of their names, whose texts stay where they are. `Truncated` where a field passes the end;
-    /// `BadField` of the count where it is more, of a length that metadata may not have, and of a name or a value
-    /// that is not UTF-8 (RFC 3629), or of a name that does not lie above the one before it. `NoMemory` may stand in place of any answer:
-    /// memory is taken for as many pairs as the bytes that are left can hold, at most. (Own.)
+    /// What stands behind a line: nothing in the first version; in the second one byte, how many pairs of
+    /// metadata the entry has, which is none. `Truncated` where that byte passes the end; `BadField` of it where
+    /// it is another than 0.
     #[tactic(auto, unfolding(crate::specs::Fields::read_meta))]
-    pub fn meta(
-        self,
-        alloc: Global,
-        version: Version,
-    ) -> Result<(Vec<(&'a str, &'a str)>, Fields<'a>), CodecFault>
-        ensures value { Gives CodecFault.NoMemory (λ x. (texts x.0.items, x.1)) result (read_meta version self.entry) }
-        ensures is_meta { IfOk result (λ x. IsMeta (texts x.0.items)) }
+    pub fn meta(self, version: Version) -> Result<Fields<'a>, CodecFault>
+        ensures { Returns (λ x. (tt, x)) result (read_meta version self.entry) }
     {
         match version {
-            Version::First => Ok((Vec::new(alloc), self)),
+            Version::First => Ok(self),
             Version::Second => {
                 let at = self.at;
                 let (count, after) = self.byte()?;
-                if count > MAX_META_PAIRS {
-                    return Err(CodecFault::BadField { at });
+                if count == 0 {
+                    Ok(after)
+                } else {
+                    Err(CodecFault::BadField { at })
                 }
-                after.pairs(alloc, count)
             }
         }
-    }
-
-    /// So many pairs of metadata.
-    fn pairs(
-        self,
-        alloc: Global,
-        count: u8,
-    ) -> Result<(Vec<(&'a str, &'a str)>, Fields<'a>), CodecFault>
-        requires { count ≤ 128 }
-        ensures value { Gives CodecFault.NoMemory (λ x. (texts x.0.items, x.1)) result (read_pairs count [] self.entry) }
-        ensures is_meta { IfOk result (λ x. IsMeta (texts x.0.items)) }
-    {
-        let room_for = (self.rest.len() / META_PAIR_BYTES).min(usize::from(count));
-        let mut found = Vec::with_capacity(alloc, room_for)?;
-        let mut room = MAX_META_BYTES;
-        let mut rest = self;
-        for _ in 0..count {
-            let (pair, after) = rest.pair(&found, room)?;
-            room -= pair.0.len() as u32 + pair.1.len() as u32;
-            found.push(pair)?;
-            rest = after;
-        }
-        Ok((found, rest))
     }
 
     /// A stamp: a number of eight bytes, in nanoseconds. `Truncated` where fewer are left, `BadField` from
@@ -399,16 +319,6 @@ impl<'a> Fields<'a> {
         } else {
             Err(CodecFault::BadField { at })
         }
-    }
-}
-
-/// Whether a name lies above that of the last of these pairs, and where there is none, has a byte.
-fn rises(before: &[(&str, &str)], name: &str) -> bool
-    ensures { result ≡ spec.rises (texts before.now) name.now }
-{
-    match before.last() {
-        Some((last, _)) => *last < name,
-        None => !name.is_empty(),
     }
 }
 

@@ -2,7 +2,7 @@
 ghost use Rattle.ing_codec.specs.Laws.{ChunksAreExact, RowsAreExact, FieldsAreExact};
 ghost use Rattle.ing_codec.specs.WorkedObjects.{ChunkIsWorked};
 
-/// Each chunk has one spelling in each version that tells it, and each spelling is accepted from one chunk alone.
+/// Each chunk has one spelling, and each spelling is accepted from one chunk alone.
 pub fn chunks_are_exact()
     ensures { ChunksAreExact }
 {}
@@ -18,7 +18,7 @@ pub fn fields_are_exact()
     ensures { FieldsAreExact }
 {}
 
-/// Chunks of two entries, without metadata and with a pair of it, byte by byte.
+/// A chunk of two entries, byte by byte.
 pub fn worked_objects()
     ensures { ChunkIsWorked }
 {}

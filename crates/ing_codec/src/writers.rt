@@ -3,12 +3,11 @@
 ghost use Rattle.std.specs.Prelude.{◌≡◌, ◌++◌, ◌<◌, ◌^◌, OnOk, length, true};
 ghost use Rattle.std.specs.Str.{is_utf8};
 ghost use Rattle.std.specs.Int.{w32, w64, to_be_bytes};
-ghost use Rattle.ing_codec.specs.Fields.{IsMetaText, short_text, long_text, pair_text, meta_text, front_text};
-ghost use Rattle.ing_rows.specs.Metas.{IsMeta};
+ghost use Rattle.ing_codec.specs.Fields.{short_text, long_text, meta_text, front_text};
 ghost use Rattle.ing_codec.specs.Versions.{written_version};
 
 use byteorder::{BigEndian, ByteOrder};
-use ing_rows::{Line, MetaPair, Stamp, Tenant};
+use ing_rows::{Line, Stamp, Tenant};
 use std::alloc::AllocError;
 
 /// Writes a number as four bytes, big-endian.
@@ -61,43 +60,25 @@ pub fn put_line(out: &mut Vec<u8>, line: &Line) -> Result<(), AllocError>
     ensures text { OnOk result (out.new.items ≡ out.old.items ++ long_text line.now) }
     ensures utf8 { is_utf8 line.now ≡ true }
 {
-    put_text(out, line.as_str())
-}
-
-/// Writes what stands behind a line: one byte, how many pairs of metadata the entry has, and the pairs, each a name and a value
-/// as a line is written.
-pub fn put_meta(out: &mut Vec<u8>, pairs: &[MetaPair]) -> Result<(), AllocError>
-    requires { IsMeta pairs.now }
-    ensures text { OnOk result (out.new.items ≡ out.old.items ++ meta_text written_version pairs.now) }
-    ensures is_meta { OnOk result (IsMetaText pairs.now) }
-{
-    out.push(pairs.len() as u8)?;
-    for pair in pairs {
-        put_pair(out, pair)?;
-    }
-    Ok(())
-}
-
-/// Writes a pair of metadata.
-fn put_pair(out: &mut Vec<u8>, pair: &MetaPair) -> Result<(), AllocError>
-    requires name { length pair.now.0 < 2 ^ 32 }
-    requires value { length pair.now.1 < 2 ^ 32 }
-    ensures text { OnOk result (out.new.items ≡ out.old.items ++ pair_text pair.now) }
-    ensures utf8 { OnOk result ((is_utf8 pair.now.0 ≡ true) × (is_utf8 pair.now.1 ≡ true)) }
-{
-    put_text(out, pair.name())?;
-    put_text(out, pair.value())?;
-    Ok(())
-}
-
-/// Writes a text: four bytes of length, and the text.
-fn put_text(out: &mut Vec<u8>, text: &str) -> Result<(), AllocError>
-    requires { length text.now < 2 ^ 32 }
-    ensures text { OnOk result (out.new.items ≡ out.old.items ++ long_text text.now) }
-    ensures utf8 { is_utf8 text.now ≡ true }
-{
+    let text = text_of(line);
     put_u32(out, text.len() as u32)?;
     out.extend_from_slice(text.as_bytes())
+}
+
+/// Writes what stands behind a line: one byte, how many pairs of metadata the entry has, which is none.
+pub fn put_meta(out: &mut Vec<u8>) -> Result<(), AllocError>
+    ensures { OnOk result (out.new.items ≡ out.old.items ++ meta_text written_version) }
+{
+    out.push(0)?;
+    Ok(())
+}
+
+/// The text of a line, which is UTF-8.
+fn text_of(line: &Line) -> &str
+    ensures text { result.now ≡ line.now }
+    ensures utf8 { is_utf8 line.now ≡ true }
+{
+    line.as_str()
 }
 
 /// Writes what each object begins with: the letters of its kind, its version, a tenant id and a canonical

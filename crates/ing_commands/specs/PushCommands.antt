@@ -5,7 +5,7 @@ use Rattle.std.specs.List.{list_any}
 use Rattle.serde_json.specs.Data.{Data, Items, no_items, item, Members, no_members, member}
 use Rattle.serde_json.specs.Find.{as_array}
 use Rattle.ing_refusals.specs.Results.{◌>>=◌}
-use Rattle.ing_rows.specs.Entries.{Entry, plain}
+use Rattle.ing_rows.specs.declared.entry.Entry.{Entry}
 use Rattle.ing_rows.specs.Texts.{is_tenant, stamp_of}
 use Rattle.ing_commands.specs.declared.fault.LineFault.{LineFault}
 use Rattle.ing_commands.specs.declared.fault.LineFault.TheVariants.{BadCommand, Metadata, BadTenant, BadStamp}
@@ -112,7 +112,7 @@ time_of text = unwrap_or (stamp_of text) 0
 
 -- the entry of a value
 abbrev pub entry_of : RawValue → Entry
-entry_of v = plain (time_of v.stamp) v.line
+entry_of v = record { stamp = time_of v.stamp; line = v.line }
 
 -- the labels and the entries of a stream
 abbrev pub entries_of : RawStream → StreamEntries

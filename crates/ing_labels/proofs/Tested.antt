@@ -69,7 +69,7 @@ unnamed : (x : List ℕ) (es : List Pair) → Below x es → is_named x es ≡ f
 unnamed x [] below = refl
 unnamed x (e ∷ es) below = ap (λ b. b || is_named x es) (sym (is_eq-slice_cmp e.0 x) ∙ ap is_eq below.0) ∙ unnamed x es below.1
 
-pub rising_apart : (pairs : List Pair) → Rising pairs → first_repeated_name pairs ≡ None
+rising_apart : (pairs : List Pair) → Rising pairs → first_repeated_name pairs ≡ None
 rising_apart pairs rising = no_repeat pairs (λ k within. unnamed _ _ (below_at pairs k ([], []) rising within))
 
 -- the map of names that rise has the pairs as they are
@@ -77,7 +77,7 @@ put_first : (k v : List ℕ) (es : List Pair) → Above k es → put name_order 
 put_first k v [] above = refl
 put_first k v (e ∷ es) above = ap (λ o. by_order o ((k, v) ∷ e ∷ es) ((e.0, v) ∷ es) (e ∷ put name_order k v es)) above.0
 
-pub entries_rising : (es : List Pair) → Rising es → entries (from_entries {R = name_order} es) ≡ es
+entries_rising : (es : List Pair) → Rising es → entries (from_entries {R = name_order} es) ≡ es
 entries_rising [] rising = entries-empty
 entries_rising (e ∷ es) rising =
     entries-insert nat_list_cmp_total (from_entries es) e.0 e.1 ∙ ap (put name_order e.0 e.1) (entries_rising es rising.1) ∙ put_first e.0 e.1 es rising.0

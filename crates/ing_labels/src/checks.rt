@@ -18,9 +18,8 @@ pub(crate) fn first_bad_name(pairs: &[(&str, &str)]) -> Option<usize>
     pairs.iter().position(|(name, _)| !is_label_name(name))
 }
 
-/// Whether each name of a list of pairs of a name and a value lies above the one before it, in byte order: then none stands
-/// twice. Takes no memory (own).
-pub fn names_rise(pairs: &[(&str, &str)]) -> bool
+/// Whether each name lies above the one before it, in byte order: then none stands twice.
+pub(crate) fn names_rise(pairs: &[(&str, &str)]) -> bool
     ensures { result ≡ is_sorted labels.name_order (labels.texts pairs.now) }
 {
     for at in 1..pairs.len() {
@@ -31,9 +30,8 @@ pub fn names_rise(pairs: &[(&str, &str)]) -> bool
     true
 }
 
-/// The place, counted from 0, of the first pair of a name and a value whose name a pair before it has. `AllocError` where memory
-/// runs out (own).
-pub fn first_repeated_name(
+/// The place of the first pair whose name a pair before it has.
+pub(crate) fn first_repeated_name(
     alloc: Global,
     pairs: &[(&str, &str)],
 ) -> Result<Option<usize>, AllocError>

@@ -11,7 +11,6 @@ mod selector;
 mod selector_reader;
 mod text_fault;
 
-pub use checks::{first_repeated_name, names_rise};
 pub use fault::{LabelFault, LabelLimits};
 pub use label_set::{Labels, Pairs};
 pub use laws::{

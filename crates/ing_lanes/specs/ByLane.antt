@@ -11,7 +11,7 @@ use Rattle.ing_labels.specs.Canonical.{canonical_of}
 use Rattle.ing_labels.specs.TextFaults.{IsSelectorFault, text_fault_place, text_refusal_of}
 use Rattle.ing_labels.specs.declared.fault.LabelFault.{LabelFault}
 use Rattle.ing_labels.specs.declared.text_fault.TextFault.{TextFault}
-use Rattle.ing_rows.specs.Entries.{Entry}
+use Rattle.ing_rows.specs.declared.entry.Entry.{Entry}
 use Rattle.ing_rows.specs.declared.gauges.Gauges.{Gauges}
 use Rattle.ing_rows.specs.declared.verdict.Verdict.{Verdict}
 use Rattle.ing_rows.specs.Placement.{shard_of}

@@ -1,6 +1,6 @@
 //! The diary of a pusher, where it keeps one.
 ghost use Rattle.std.specs.Prelude.{◌≡◌, List, [], OnOk, is_some};
-ghost use Rattle.ing_rows.specs.Entries.{Entry};
+ghost use Rattle.ing_rows.specs.declared.entry.Entry.{Entry};
 ghost use Rattle.ing_rows.specs.Rows.{StreamKey};
 ghost use Rattle.ing_diary.specs.Notes.{noted};
 ghost use Rattle.ing_node.specs.Diaries.{IsBegun, notes_in, notes_kept, with_notes};

@@ -3,7 +3,6 @@
 use Rattle.std.specs.Prelude.{◌≡◌, ◌++◌, ℕ, ◌≤◌, Bool, true, ◌&&◌, nat_le, nat_lt, List, [], map, filter, Option, None, Some, IsPermutation}
 use Rattle.std.specs.List.{AllPass, flat_map}
 use Rattle.ing_rows.specs.Cursors.{Cursor}
-use Rattle.ing_rows.specs.Entries.{plain}
 use Rattle.ing_rows.specs.Rows.{StreamKey, Row}
 use Rattle.ing_chunk.specs.declared.numbered.Numbered.{Numbered}
 use Rattle.ing_chunk.specs.Chunks.{ChunksContents, block_rows, entries_in_memory, greatest_of, in_blocks, least_of, stream_state}
@@ -40,7 +39,7 @@ found_among ps = flat_map found_in ps
 
 -- an entry that stands where a cursor is; its line does not count in an order
 abbrev pub found_there : Cursor → Found
-found_there c = record { name = c.stream; number = c.number; entry = plain c.stamp [] }
+found_there c = record { name = c.stream; number = c.number; entry = record { stamp = c.stamp; line = [] } }
 
 -- the place of an entry
 abbrev pub place_of : Found → Cursor

@@ -1,6 +1,6 @@
 //! The best entries so far.
 ghost use Rattle.std.specs.Prelude.{◌≡◌, [], ◌∷◌, OnOk, true, ◌+◌, ◌*◌, ◌<◌, ◌≤◌, ◌++◌, OnErr, IsPermutation, length, set, vec_len};
-ghost use Rattle.ing_rows.specs.Entries.{Entry};
+ghost use Rattle.ing_rows.specs.declared.entry.Entry.{Entry};
 ghost use Rattle.ing_parts.specs.Answers.{IsAnswer, IsPast, Offers, PassesOver};
 ghost use Rattle.ing_parts.specs.Answers as answers;
 ghost use Rattle.ing_parts.specs.Kept.{IsHeap, IsHeapBut, IsLastBelow};
@@ -68,7 +68,7 @@ impl Best {
             return false;
         }
         match self.held.first() {
-            Some(last) => is_past(self.order, last.entry.stamp().nanoseconds(), from),
+            Some(last) => is_past(self.order, last.entry.stamp.nanoseconds(), from),
             None => true,
         }
     }

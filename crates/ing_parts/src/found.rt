@@ -5,7 +5,7 @@ ghost use Rattle.std.specs.Cmp.Lexicographic.{slice_cmp};
 ghost use Rattle.std.specs.Ordering.{is_lt, nat_cmp, ordering_then};
 ghost use Rattle.ing_rows.specs.Cursors.{cursor_view};
 ghost use Rattle.ing_parts.specs.declared.found.Found.{Found};
-ghost use Rattle.ing_rows.specs.Entries.{Entry};
+ghost use Rattle.ing_rows.specs.declared.entry.Entry.{Entry};
 ghost use Rattle.ing_parts.specs.Answers as answers;
 ghost use Rattle.ing_parts.specs.Parts.{found_there, is_within};
 ghost use Rattle.ing_parts.specs.Questions.{question_view};
@@ -36,7 +36,7 @@ impl Found {
         ensures name { result.1.now ≡ self.now.name }
         ensures number { result.2 ≡ self.now.number }
     {
-        (self.entry.stamp().nanoseconds(), &self.name, self.number)
+        (self.entry.stamp.nanoseconds(), &self.name, self.number)
     }
 }
 

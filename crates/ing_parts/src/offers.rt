@@ -17,7 +17,7 @@ fn is_offered(best: &Best, name: &StreamName, numbered: &Numbered, question: &Qu
     ensures passed { result ≡ false →
         Offers (found_between name.now (question_view question.now) (numbered.now ∷ [])) best.now best.now }
 {
-    let stamp = numbered.entry.stamp().nanoseconds();
+    let stamp = numbered.entry.stamp.nanoseconds();
     question.wants(stamp, name, numbered.number) && !best.refuses(stamp, name, numbered.number)
 }
 
@@ -109,7 +109,7 @@ fn offer_run_from_first(
 {
     stamps_rise();
     for numbered in run {
-        if best.bars(numbered.entry.stamp().nanoseconds()) {
+        if best.bars(numbered.entry.stamp.nanoseconds()) {
             return Ok(());
         }
         offer_one(best, alloc, name, numbered, question)?;
@@ -133,7 +133,7 @@ fn offer_run_from_last(
     stamps_rise();
     for index in (0..run.len()).rev() {
         let numbered = &run[index];
-        if best.bars(numbered.entry.stamp().nanoseconds()) {
+        if best.bars(numbered.entry.stamp.nanoseconds()) {
             return Ok(());
         }
         offer_one(best, alloc, name, numbered, question)?;

@@ -7,7 +7,7 @@ use Rattle.json.specs.Json as json
 use Rattle.json.specs.Value.{items_of}
 use Rattle.serde_json.specs.Data.{Items, no_items, item}
 use Rattle.serde_json.specs.Read.{of_items}
-use Rattle.ing_rows.specs.Entries.{Entry}
+use Rattle.ing_rows.specs.declared.entry.Entry.{Entry}
 use Rattle.ing_commands.specs.PushCommands.{RawValue, RawStream, StreamEntries, raw_value, raw_stream, is_no_stamp, has_bad_value, entry_of, entries_of}
 use Rattle.ing_commands.specs.Shapes.{each}
 use Rattle.ing_pushes.specs.Usual.{Each, IsEntry, IsStream}

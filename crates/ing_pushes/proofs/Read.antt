@@ -8,7 +8,7 @@ use Rattle.json.specs.Value.{items_of}
 use Rattle.serde_json.specs.Read.{of_json, read}
 use Rattle.ing_refusals.specs.Results.{◌>>=◌}
 use Rattle.ing_rows.specs.Texts.{is_tenant, stamp_of}
-use Rattle.ing_rows.specs.Entries.{Entry}
+use Rattle.ing_rows.specs.declared.entry.Entry.{Entry}
 use Rattle.ing_commands.specs.declared.fault.LineFault.TheVariants.{BadCommand}
 use Rattle.ing_commands.specs.Commands.{Push, said_by, command_of}
 use Rattle.ing_commands.specs.PushCommands.{StreamEntries, PushCommand, raw_stream, raw_push}

@@ -8,7 +8,7 @@ use Rattle.std.specs.Cmp.Lexicographic.{slice_cmp}
 use Rattle.json.specs.Json as json
 use Rattle.serde_json.specs.Data.{Data, string, array, object, Items, Members, no_members, member}
 use Rattle.serde_json.specs.Read.{of_json, of_items, of_members}
-use Rattle.ing_rows.specs.Entries.{Entry}
+use Rattle.ing_rows.specs.declared.entry.Entry.{Entry}
 use Rattle.ing_commands.specs.Commands.{Push, said_by}
 use Rattle.ing_commands.specs.PushCommands.{RawValue, RawStream, StreamEntries, PushCommand, raw_value, raw_labels, raw_stream, is_no_stamp, has_bad_value, entry_of, entries_of}
 

@@ -159,5 +159,5 @@ fn entry_in(alloc: Global, value: &Value<'_>) -> Result<Option<Entry>, AllocErro
         return Ok(None);
     };
     let line = Line::of_text(alloc, texts.second)?;
-    Ok(Some(Entry::new(stamp, line)))
+    Ok(Some(Entry { stamp, line }))
 }

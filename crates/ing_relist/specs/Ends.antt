@@ -1,6 +1,6 @@
 -- With which entry a chunk ends (own).
 use Rattle.std.specs.Prelude.{◌≡◌, ℕ, ◌+◌, Bool, not, ◌&&◌, ◌==◌, List, All, Option, Some, None}
-use Rattle.ing_rows.specs.Entries.{Entry}
+use Rattle.ing_rows.specs.declared.entry.Entry.{Entry}
 use Rattle.ing_rows.specs.Verdicts.{is_same}
 use Rattle.ing_chunk.specs.declared.numbered.Numbered.{Numbered}
 use Rattle.ing_chunk.specs.Chunks.{in_blocks}
@@ -12,4 +12,4 @@ EndsWith (Some e) end blocks = All (λ n. n.number + 1 ≡ end → n.entry ≡ e
 
 -- it has that number, and is another one; for private clauses
 abbrev pub is_other : ℕ → Entry → Numbered → Bool
-is_other end e n = (n.number + 1 == end) && not (is_same e n.entry)
+is_other end e n = (n.number + 1 == end) && not (is_same n.entry e)

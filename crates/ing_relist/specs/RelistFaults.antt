@@ -8,7 +8,7 @@ use Rattle.ing_parts.specs.Listings.{IsListing, blocks_in}
 use Rattle.ing_refusals.specs.Failures.{HasFailed}
 use Rattle.ing_store.specs.declared.fault.StoreFault as store
 use Rattle.ing_store.specs.declared.fault.StoreFault.TheVariants as store_fault
-use Rattle.ing_rows.specs.Entries.{Entry}
+use Rattle.ing_rows.specs.declared.entry.Entry.{Entry}
 use Rattle.ing_relist.specs.Ends.{EndsWith}
 use Rattle.ing_refusals.specs.declared.relist_fault.RelistFault.{RelistFault}
 use Rattle.ing_refusals.specs.declared.relist_fault.RelistFault.TheVariants.{NoMemory, Failed, Damaged, Missing, BadObject}

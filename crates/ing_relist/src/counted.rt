@@ -28,7 +28,7 @@ fn with_entry(counted: Counted, entry: &LentEntry<'_>) -> Counted
     let stamp = entry.stamp().nanoseconds();
     Counted {
         count: counted.count + 1,
-        size: counted.size + entry.size(),
+        size: counted.size + 16 + entry.line().len() as u128,
         least: counted.least.min(stamp),
         greatest: counted.greatest.max(stamp),
     }

@@ -6,7 +6,6 @@ ghost use Rattle.ing_chunk.specs.Chunks.{in_blocks};
 ghost use Rattle.ing_relist.specs.Ends as spec;
 ghost use Rattle.ing_relist.specs.Ends.{EndsWith};
 
-use crate::same::is_of;
 use ing_codec::{LentBlock, LentEntry};
 use ing_rows::Entry;
 
@@ -15,7 +14,8 @@ fn is_other(lent: &LentEntry<'_>, end: u64, entry: &Entry) -> bool
     requires { end ≤ 2 ^ 62 }
     ensures { result ≡ spec.is_other end entry.now lent.now }
 {
-    lent.number().checked_add(1) == Some(end) && !is_of(lent, entry)
+    lent.number().checked_add(1) == Some(end)
+        && !(lent.stamp() == entry.stamp && lent.line() == entry.line.as_str())
 }
 
 /// Whether one of these is.

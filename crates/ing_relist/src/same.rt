@@ -2,28 +2,20 @@
 ghost use Rattle.std.specs.Prelude.{◌≡◌, true, false};
 ghost use Rattle.ing_labels.specs.Canonical.{canonical_of};
 ghost use Rattle.ing_codec.specs.ChunkReading.{chunk_object};
-ghost use Rattle.ing_rows.specs.Verdicts.{is_same};
 ghost use Rattle.ing_relist.specs.Same as spec;
 
 use ing_chunk::{Block, Chunk, Numbered};
 use ing_codec::{LentBlock, LentChunk, LentEntry};
 use ing_labels::Labels;
-use ing_rows::{Entry, Tenant, are_pairs};
+use ing_rows::Tenant;
 
 /// Whether it is this entry, under the same number.
 fn is_entry(lent: &LentEntry<'_>, numbered: &Numbered) -> bool
     ensures { result ≡ spec.is_entry numbered.now lent.now }
 {
-    lent.number() == numbered.number && is_of(lent, &numbered.entry)
-}
-
-/// Whether it has the stamp, the line and the metadata of this entry.
-pub(crate) fn is_of(lent: &LentEntry<'_>, entry: &Entry) -> bool
-    ensures { result ≡ is_same entry.now lent.now.entry }
-{
-    entry.stamp() == lent.stamp()
-        && entry.line().as_str() == lent.line()
-        && are_pairs(entry.meta(), lent.meta())
+    lent.number() == numbered.number
+        && lent.stamp() == numbered.entry.stamp
+        && lent.line() == numbered.entry.line.as_str()
 }
 
 /// Whether they are these entries, in the same order.

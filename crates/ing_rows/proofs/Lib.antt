@@ -1,11 +1,9 @@
 mod ApartLaws
 mod Digits
-pub mod EntryLaws
 mod FactLaws
 mod FlushLaws
 mod Keys
 mod MarkLaws
-pub mod MetaLaws
 mod PartLaws
 mod PushLaws
 mod Reordered

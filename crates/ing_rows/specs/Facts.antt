@@ -2,7 +2,7 @@
 -- What names no section of the Loki documentation is own.
 use Rattle.std.specs.Prelude.{ℕ, Bool, List, length, Option}
 use Rattle.std.specs.Option.{option_map}
-use Rattle.ing_rows.specs.Entries.{Entry}
+use Rattle.ing_rows.specs.declared.entry.Entry.{Entry}
 use Rattle.ing_rows.specs.Rows.{StreamKey, Row, count_of, highest_of, last_of, has_stream, live_streams}
 
 -- How many entries the stream has had accepted, their greatest stamp and the last of them; whether the stream is live,

@@ -1,7 +1,7 @@
 -- Rows without chunk, block and place: what was accepted, wherever it is kept.
 -- What names no section of the Loki documentation is own.
 use Rattle.std.specs.Prelude.{ℕ}
-use Rattle.ing_rows.specs.Entries.{Entry}
+use Rattle.ing_rows.specs.declared.entry.Entry.{Entry}
 use Rattle.ing_rows.specs.Rows.{StreamKey, Row}
 
 -- an accepted entry with its stream and its number in it

@@ -1,7 +1,6 @@
 pub mod Claims
 pub mod Cursors
 pub mod Defaults
-pub mod Entries
 pub mod Events
 pub mod Facets
 pub mod Facts
@@ -9,7 +8,6 @@ pub mod Faults
 pub mod Flushes
 pub mod Gauges
 pub mod Kept
-pub mod Metas
 pub mod Placement
 pub mod Rows
 pub mod Sound

@@ -1,8 +1,7 @@
 -- The state of a shard as one flat list of accepted entries, each with its place, and one of chunks that are not stored.
 -- What names no section of the Loki documentation is own.
 use Rattle.std.specs.Prelude.{ℕ, ◌+◌, max, Bool, true, false, not, ◌&&◌, ◌||◌, List, [], ◌∷◌, filter, sum_by, length, bytes_eq, ◌==◌, nat_lt, if◌then◌else◌, IsPermutation, Option, Some, None}
-use Rattle.ing_rows.specs.Entries.{Entry}
-use Rattle.ing_rows.specs.Metas.{size_of_pairs}
+use Rattle.ing_rows.specs.declared.entry.Entry.{Entry}
 use Rattle.ing_rows.specs.declared.place.Place.{Place}
 use Rattle.ing_rows.specs.declared.place.Place.TheVariants.{Head, Block, Flight, Stored}
 use Rattle.ing_rows.specs.declared.place.SealReason.{SealReason}
@@ -85,9 +84,9 @@ is_stored (Flight f) = false
 
 -- ---- a stream's rows
 
--- what an entry counts against sizes, in bytes: 16, its line, and the names and values of its metadata (own)
+-- what an entry counts against sizes, in bytes: 16 and its line (own)
 abbrev pub size_of : Entry → ℕ
-size_of e = 16 + length e.line + size_of_pairs e.meta
+size_of e = 16 + length e.line
 
 -- of all of them
 abbrev pub size_of_rows : List Row → ℕ

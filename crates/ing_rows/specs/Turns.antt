@@ -1,7 +1,7 @@
 -- A push as judging by what is kept of a stream, then accepting in turn; and one stream's part of a state beside the rest.
 -- What names no section of the Loki documentation is own.
 use Rattle.std.specs.Prelude.{◌≡◌, ℕ, ◌+◌, ◌<◌, ◌≤◌, max, true, false, List, [], ◌∷◌, ◌++◌, All, filter, length, if◌then◌else◌, is_some, Some}
-use Rattle.ing_rows.specs.Entries.{Entry}
+use Rattle.ing_rows.specs.declared.entry.Entry.{Entry}
 use Rattle.ing_rows.specs.declared.rules.Rules.{Rules}
 use Rattle.ing_rows.specs.declared.verdict.Verdict.{Verdict}
 use Rattle.ing_rows.specs.Rows.{StreamKey, Row, Mark, State, same_stream, is_of_chunk, count_of, chunk_starts}

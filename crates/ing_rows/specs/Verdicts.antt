@@ -1,8 +1,7 @@
 -- How an entry is judged.
 -- What names no section of the Loki documentation is own.
 use Rattle.std.specs.Prelude.{ℕ, ◌-◌, ◌/◌, Bool, false, not, ◌&&◌, List, length, bytes_eq, ◌==◌, nat_lt, nat_le, if◌then◌else◌, Option, Some, None}
-use Rattle.ing_rows.specs.Entries.{Entry}
-use Rattle.ing_rows.specs.Metas.{are_same_pairs}
+use Rattle.ing_rows.specs.declared.entry.Entry.{Entry}
 use Rattle.ing_rows.specs.declared.rules.Rules.{Rules}
 use Rattle.ing_rows.specs.declared.verdict.Verdict.{Verdict}
 use Rattle.ing_rows.specs.declared.verdict.Verdict.TheVariants.{Accepted, Duplicate, LineTooLong, TooFarBehind, TooManyStreams}
@@ -14,9 +13,9 @@ use Rattle.ing_rows.specs.Rows.{StreamKey, Row}
 abbrev pub window_limit : ℕ → ℕ → ℕ
 window_limit highest max_age = highest - max_age / 2
 
--- two entries have one stamp, one line, and the same metadata
+-- two entries have one stamp and one line
 abbrev pub is_same : Entry → Entry → Bool
-is_same a b = (a.stamp == b.stamp) && (bytes_eq a.line b.line && are_same_pairs a.meta b.meta)
+is_same a b = (a.stamp == b.stamp) && bytes_eq a.line b.line
 
 -- the entry is this one, where there is one
 abbrev pub is_entry : Entry → Option Entry → Bool

@@ -1,14 +1,11 @@
 -- Worked values of the definitions.
-use Rattle.std.specs.Prelude.{◌≡◌, ℕ, List, [], ◌∷◌, codes, take, length, filter, map, Option, Some, None, Ok, Err}
-use Rattle.ing_rows.specs.Entries.{Entry, plain}
+use Rattle.std.specs.Prelude.{◌≡◌, ℕ, List, [], ◌∷◌, codes, take, length, filter, map, Option, Some, None}
+use Rattle.ing_rows.specs.declared.entry.Entry.{Entry}
 use Rattle.ing_rows.specs.declared.place.SealReason.{SealReason}
 use Rattle.ing_rows.specs.declared.place.SealReason.TheVariants.{Idle, MaxAge}
 use Rattle.ing_rows.specs.declared.rules.Rules.{Rules}
 use Rattle.ing_rows.specs.declared.verdict.Verdict.TheVariants.{Accepted, Duplicate, TooFarBehind}
-use Rattle.ing_labels.specs.Labels.{Pair}
-use Rattle.ing_rows.specs.declared.meta_fault.MetaFault.TheVariants.{BadMeta, MetaTwice}
-use Rattle.ing_rows.specs.Metas.{meta_of}
-use Rattle.ing_rows.specs.Rows.{StreamKey, State, empty_state, rows_of_chunk, is_head, size_of}
+use Rattle.ing_rows.specs.Rows.{StreamKey, State, empty_state, rows_of_chunk, is_head}
 use Rattle.ing_rows.specs.Steps.{blocks_of, chunk_for, due_of, after_push, verdicts_of}
 use Rattle.ing_rows.specs.Gauges.{gauges_of}
 use Rattle.ing_rows.specs.Defaults.{defaults}
@@ -20,7 +17,7 @@ abbrev pub small : Rules
 small = record defaults { chunk_block_size = 40; chunk_target_size = 80 }
 
 abbrev pub at : ℕ → List ℕ → Entry
-at stamp line = plain stamp line
+at stamp line = record { stamp = stamp; line = line }
 
 -- the window goes with the greatest stamp: 8:00, 7:00, just below; then 10:00, 9:00, just below
 abbrev pub window_moves_with_greatest_stamp : Type 0
@@ -73,27 +70,3 @@ chunks_fall_due =
     × (due_after 999 (0 ∷ []) ≡ None ∷ [])
     × (due_after 1000 (0 ∷ 7200000000000 ∷ []) ≡ None ∷ [])
     × (due_after 1000 (0 ∷ 7200000000001 ∷ []) ≡ Some MaxAge ∷ [])
-
--- an entry with one pair of metadata
-abbrev pub beside : ℕ → List ℕ → List ℕ → List ℕ → Entry
-beside stamp line name value = record { stamp = stamp; line = line; meta = (name, value) ∷ [] }
-
--- metadata tells entries apart, and counts with the bytes of its names and values
-abbrev pub metadata_counts : Type 0
-metadata_counts =
-    let x = at 5 (codes "x") in
-    let xkv = beside 5 (codes "x") (codes "k") (codes "v") in
-    (verdicts_of defaults web 0 (x ∷ xkv ∷ xkv ∷ []) empty_state ≡ Accepted 0 ∷ Accepted 1 ∷ Duplicate ∷ [])
-    × (verdicts_of defaults web 0 (xkv ∷ beside 5 (codes "x") (codes "k") (codes "w") ∷ x ∷ []) empty_state ≡ Accepted 0 ∷ Accepted 1 ∷ Accepted 2 ∷ [])
-    × (size_of x ≡ 17)
-    × (size_of xkv ≡ 19)
-
--- pairs stand in order of their names; the first fault is told, by its place
-abbrev pub metadata_is_ordered : Type 0
-metadata_is_ordered =
-    let kv : Pair = (codes "k", codes "v") in
-    let none : Pair = (codes "a", []) in
-    let nameless : Pair = ([], codes "v") in
-    (meta_of (kv ∷ none ∷ []) ≡ Ok (none ∷ kv ∷ []))
-    × (meta_of (kv ∷ kv ∷ nameless ∷ []) ≡ Err (BadMeta 2))
-    × (meta_of (kv ∷ none ∷ kv ∷ []) ≡ Err (MetaTwice 2))

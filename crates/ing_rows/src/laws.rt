@@ -1,5 +1,5 @@
 //! Laws of the definitions, each the contract of a function with nothing to do.
-ghost use Rattle.ing_rows.specs.Entries.{Entry};
+ghost use Rattle.ing_rows.specs.declared.entry.Entry.{Entry};
 ghost use Rattle.ing_rows.specs.declared.rules.Rules as rules;
 ghost use Rattle.ing_rows.specs.declared.place.SealReason.{SealReason};
 ghost use Rattle.std.specs.Prelude.{◌≡◌, ℕ, ◌+◌, ◌≤◌, Bool, true, false, ◌&&◌, ◌==◌, List, ◌++◌, All, bytes_eq, filter, is_none, length, map, reverse, IsPermutation, Option, None};
@@ -11,16 +11,14 @@ ghost use Rattle.ing_rows.specs.Flushes.{FlushesAreApart, FlushesHaveNoOrder, Fl
 ghost use Rattle.ing_rows.specs.Kept.{numbered};
 ghost use Rattle.ing_rows.specs.Turns.{facts_with, facts_with_all, verdicts_by, accepted_among, beside, IsOlder, NoneMarked, OneMarkEach, IsMarked, BeginsWithMarks};
 ghost use Rattle.ing_rows.specs.Events.{accepted_entries, is_full, due_count, sealed_count};
-ghost use Rattle.ing_rows.specs.Worked.{window_moves_with_greatest_stamp, duplicate_of_last_only, chunks_grow, chunks_fall_due, metadata_counts, metadata_is_ordered};
+ghost use Rattle.ing_rows.specs.Worked.{window_moves_with_greatest_stamp, duplicate_of_last_only, chunks_grow, chunks_fall_due};
 
-/// The worked values of windows, duplicates, growing chunks, chunks that fall due and metadata follow from the definitions.
+/// The worked values of windows, duplicates, growing chunks and chunks that fall due follow from the definitions.
 pub fn worked_rows()
     ensures windows { window_moves_with_greatest_stamp }
     ensures duplicates { duplicate_of_last_only }
     ensures chunks { chunks_grow }
     ensures dues { chunks_fall_due }
-    ensures metadata { metadata_counts }
-    ensures ordered { metadata_is_ordered }
 {}
 
 /// What is computed of a push, verdicts and state, is a chain of judged and placed entries.

@@ -7,8 +7,6 @@ mod facet;
 mod fault;
 mod gauges;
 mod laws;
-mod meta;
-mod meta_fault;
 mod order;
 mod place;
 mod placement;
@@ -27,8 +25,6 @@ pub use laws::{
     flushes_have_no_order, flushes_keep_facts, order_does_not_count, parts_are_apart,
     pushes_keep_states_sound, seals_are_apart, seals_have_no_order, worked_rows,
 };
-pub use meta::{Meta, MetaPair, are_pairs};
-pub use meta_fault::MetaFault;
 pub use order::Order;
 pub use place::{Place, SealReason};
 pub use placement::shard_of;

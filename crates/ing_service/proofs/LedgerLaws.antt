@@ -16,7 +16,7 @@ use Rattle.ing_labels.specs.Labels.{LabelMap, labels_of}
 use Rattle.ing_labels.specs.TextFaults.{text_fault_place, text_refusal_of}
 use Rattle.ing_labels.specs.declared.fault.LabelFault.{LabelFault}
 use Rattle.ing_labels.specs.Faults as label_faults
-use Rattle.ing_rows.specs.Entries.{Entry}
+use Rattle.ing_rows.specs.declared.entry.Entry.{Entry}
 use Rattle.ing_rows.specs.declared.place.Place.{Place}
 use Rattle.ing_rows.specs.declared.place.Place.TheVariants.{Block}
 use Rattle.ing_rows.specs.declared.place.SealReason.{SealReason}

@@ -533,7 +533,7 @@ fn write_place(out: &mut Writer, found: &Found) -> Result<(), AllocError>
 {
     out.begin_object()?;
     write_count(out, "number", found.number)?;
-    write_digits(out, "stamp", found.entry.stamp().nanoseconds())?;
+    write_digits(out, "stamp", found.entry.stamp.nanoseconds())?;
     write_text(out, "stream", found.name.as_str())?;
     out.end_object()?;
     Ok(())
@@ -592,8 +592,8 @@ fn write_entry(out: &mut Writer, found: &Found) -> Result<(), AllocError>
     ensures before { out.new.before ≡ out.old.before }
 {
     out.begin_object()?;
-    write_text(out, "line", found.entry.line().as_str())?;
-    write_digits(out, "stamp", found.entry.stamp().nanoseconds())?;
+    write_text(out, "line", found.entry.line.as_str())?;
+    write_digits(out, "stamp", found.entry.stamp.nanoseconds())?;
     write_text(out, "stream", found.name.as_str())?;
     out.end_object()?;
     Ok(())

@@ -1,7 +1,7 @@
 -- What a push to one stream does to the whole.
 use Rattle.std.proofs.Common.{◌≡◌, ℕ, ◌<◌, ◌≤◌, Bool, List, ◌∷◌, ◌++◌, length, true, false, ap, ◌∙◌, subst, filter}
 use Rattle.std.proofs.lemmas.List.Elements.{All-weaker}
-use Rattle.ing_rows.specs.Entries.{Entry}
+use Rattle.ing_rows.specs.declared.entry.Entry.{Entry}
 use Rattle.ing_rows.specs.declared.rules.Rules.{Rules}
 use Rattle.ing_rows.specs.Rows.{StreamKey, Row, Mark, State, IsSame, same_stream, count_of}
 use Rattle.ing_rows.specs.Sound.{IsSound}

@@ -7,7 +7,7 @@ use Rattle.std.proofs.lemmas.List.{nil_from_length}
 use Rattle.std.proofs.lemmas.List.Elements.{All-weaker}
 use Rattle.std.proofs.lemmas.Slice.Eq.{bytes_eq-Decides}
 use Rattle.ing_labels.specs.Labels.{IsLabelSet}
-use Rattle.ing_rows.specs.Entries.{Entry}
+use Rattle.ing_rows.specs.declared.entry.Entry.{Entry}
 use Rattle.ing_rows.specs.declared.verdict.Verdict.{Verdict}
 use Rattle.ing_rows.specs.Events.{is_full}
 use Rattle.ing_rows.specs.Turns.{accepted_among}

@@ -2,7 +2,7 @@
 use Rattle.std.specs.Prelude.{◌≡◌, ℕ, ◌<◌, ◌^◌, List, [], ◌∷◌, ◌++◌, filter, length, sum_by, if◌then◌else◌, Option, Some, None, slice_get}
 use Rattle.ing_labels.specs.Labels.{LabelMap}
 use Rattle.ing_labels.specs.Canonical.{canonical_of}
-use Rattle.ing_rows.specs.Entries.{Entry}
+use Rattle.ing_rows.specs.declared.entry.Entry.{Entry}
 use Rattle.ing_rows.specs.Rows.{StreamKey, Row, State, IsSame, has_stream, is_in_flight, is_stored}
 use Rattle.ing_rows.specs.Placement.{shard_of}
 use Rattle.ing_rows.specs.Events.{Reply}

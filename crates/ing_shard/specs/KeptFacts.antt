@@ -1,7 +1,7 @@
 -- What is kept of a stream to judge its entries, as contracts see it.
 use Rattle.std.specs.Prelude.{List, [], ◌∷◌, Option, Some}
 use Rattle.std.specs.Option.{option_map}
-use Rattle.ing_rows.specs.Entries.{Entry}
+use Rattle.ing_rows.specs.declared.entry.Entry.{Entry}
 use Rattle.ing_rows.specs.Facts.{Facts}
 use Rattle.ing_shard.specs.declared.judge.KeptFacts.{KeptFacts}
 

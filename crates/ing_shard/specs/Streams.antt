@@ -6,7 +6,7 @@ use Rattle.ing_labels.specs.Canonical.{canonical_of}
 use Rattle.ing_labels.specs.Labels.{IsLabelSet}
 use Rattle.ing_limits.specs.Settings.{StoreSettings}
 use Rattle.ing_postings.specs.declared.postings.Listed.{Listed}
-use Rattle.ing_rows.specs.Entries.{Entry}
+use Rattle.ing_rows.specs.declared.entry.Entry.{Entry}
 use Rattle.ing_rows.specs.Rows.{StreamKey, Row, State, empty_state, is_head, is_block, is_in_flight, is_stored, same_stream}
 use Rattle.ing_rows.specs.Facts.{Facts, facts_of}
 use Rattle.ing_rows.specs.Gauges.{gauge_of, HaveRoom, AreWithin, with_changed, gauges_by}

@@ -3,7 +3,7 @@ use Rattle.std.proofs.Common.{◌≡◌, ℕ, Bool, true, false, cond, List, [],
 use Rattle.std.specs.Prelude.{IsPermutation}
 use Rattle.std.proofs.lemmas.List.{append_assoc}
 use Rattle.std.proofs.lemmas.List.Sorted.{IsPermutation-append_comm, IsPermutation-append_left, length_permutation, IsPermutation-map, IsPermutation-refl, IsPermutation-sym, IsPermutation-trans}
-use Rattle.ing_rows.specs.Entries.{Entry}
+use Rattle.ing_rows.specs.declared.entry.Entry.{Entry}
 use Rattle.ing_rows.specs.declared.place.Place.{Place}
 use Rattle.ing_rows.specs.declared.rules.Rules.{Rules}
 use Rattle.ing_rows.specs.declared.verdict.Verdict.{Verdict}

@@ -4,7 +4,7 @@ use Rattle.std.specs.Prelude.{IsPermutation, slice_get}
 use Rattle.std.specs.Option.{option_map}
 use Rattle.sha2.specs.Sha256.{sha256}
 use Rattle.ing_codec.specs.ChunkObjects.{chunk_text}
-use Rattle.ing_rows.specs.Entries.{Entry}
+use Rattle.ing_rows.specs.declared.entry.Entry.{Entry}
 use Rattle.ing_rows.specs.declared.place.Place.TheVariants.{Block, Flight, Stored}
 use Rattle.ing_rows.specs.declared.place.SealReason.{SealReason}
 use Rattle.ing_rows.specs.declared.rules.Rules.{Rules}

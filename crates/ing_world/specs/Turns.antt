@@ -10,7 +10,7 @@ use Rattle.ing_parts.specs.declared.found.Found.{Found}
 use Rattle.ing_parts.specs.Answers.{IsAnswer}
 use Rattle.ing_parts.specs.Parts.{within}
 use Rattle.ing_parts.specs.Questions.{Question, question_view}
-use Rattle.ing_rows.specs.Entries.{Entry}
+use Rattle.ing_rows.specs.declared.entry.Entry.{Entry}
 use Rattle.ing_rows.specs.declared.rules.Rules.{Rules}
 use Rattle.ing_rows.specs.Events as events
 use Rattle.ing_rows.specs.Events.{Event, Push, Sweep, SealAll, Claim, Finish, GiveBack, Judged, Claimed, NothingToClaim, Step, accepted_by}

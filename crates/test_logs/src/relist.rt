@@ -147,10 +147,10 @@ fn a_chunk_of_the_first_version_is_listed_again(rt: HostRuntime) -> Result<(), F
     let mut end = store.end(&rt, Fuse::None);
     let name = chunk_name(alloc, &FIRST_KEY)?;
     let _ = end.put(alloc, name.as_str(), &FIRST_CHUNK)?;
-    let last = Entry::new(
-        Stamp::of_nanoseconds(3).ok_or("a stamp")?,
-        Line::of_text(alloc, "yz")?,
-    );
+    let last = Entry {
+        stamp: Stamp::of_nanoseconds(3).ok_or("a stamp")?,
+        line: Line::of_text(alloc, "yz")?,
+    };
     let (tenant, labels) = (&stream.tenant, &stream.labels);
     let listing = relist(
         alloc,
@@ -227,10 +227,10 @@ fn ends_with<R: Wait>(
     line: &str,
 ) -> Result<bool, Fail> {
     let extent = extent()?;
-    let last = Entry::new(
-        Stamp::of_nanoseconds(stamp).ok_or("a stamp")?,
-        Line::of_text(alloc, line)?,
-    );
+    let last = Entry {
+        stamp: Stamp::of_nanoseconds(stamp).ok_or("a stamp")?,
+        line: Line::of_text(alloc, line)?,
+    };
     let fault = fault_of(alloc, end, stream, extent, Some(&last));
     assert!(rt; fault.is_none() || fault == Some(RelistFault::BadObject { key: KEY }));
     Ok(fault.is_none())

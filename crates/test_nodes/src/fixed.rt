@@ -58,7 +58,7 @@ fn is_in_turn(life: &Life, alloc: Global) -> Result<bool, LifeFault> {
     }
     for (at, found) in life.answer.entries.iter().enumerate() {
         let line = format!(in alloc; "{}{}", STREAMS[at % 2], at / 2)?;
-        if found.entry.line().as_str() != line.as_str() {
+        if found.entry.line.as_str() != line.as_str() {
             return Ok(false);
         }
     }

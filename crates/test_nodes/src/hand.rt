@@ -347,10 +347,10 @@ impl<N: NodeName + Send + Sync> Hand<N> {
             let text = LINES
                 .get(self.lots.below(LINES.len() as u64) as usize)
                 .ok_or(LifeFault::Text)?;
-            entries.push(Entry::new(
-                stamp(now.saturating_sub(behind))?,
-                Line::of_text(alloc, text)?,
-            ))?;
+            entries.push(Entry {
+                stamp: stamp(now.saturating_sub(behind))?,
+                line: Line::of_text(alloc, text)?,
+            })?;
         }
         Ok(entries)
     }
@@ -573,7 +573,10 @@ fn counted(alloc: Global, stream: usize, number: u64) -> Result<Vec<Entry>, Life
 /// One entry.
 fn alone(alloc: Global, nanoseconds: u64, line: Line) -> Result<Vec<Entry>, LifeFault> {
     let mut entries = Vec::new(alloc);
-    entries.push(Entry::new(stamp(nanoseconds)?, line))?;
+    entries.push(Entry {
+        stamp: stamp(nanoseconds)?,
+        line,
+    })?;
     Ok(entries)
 }
 

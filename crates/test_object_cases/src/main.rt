@@ -1,6 +1,6 @@
 //! Reads the objects in the folder that it is started in, one a file, and prints of each what it is, or why it is none: the
 //! first fault and its offset. A file `.row` is read as a row of an index, each other as a chunk, those `first_` of the first
-//! version. A row has to be written again as it stands; of a chunk that is not, it is told as what it is written. Then each front of the worked chunk with metadata is read, and that chunk with each byte changed.
+//! version. A row has to be written again as it stands; of a chunk that is not, it is told as what it is written. Then each front of the worked chunk is read, and the chunk with each byte changed.
 #![tactic(auto)]
 
 mod changes;
@@ -22,7 +22,7 @@ fn main(rt: HostRuntime) -> Result<()> {
         };
         println!(rt; "{name}: {told}")?;
     }
-    let worked = fs::read(&rt, "worked_beside.chunk")?;
+    let worked = fs::read(&rt, "worked.chunk")?;
     println!(rt; "{} fronts are truncated", truncated(rt.alloc(), &worked))?;
     let changed = after_changes(rt.alloc(), &worked)?;
     println!(rt;

@@ -91,7 +91,7 @@ fn push<N: NodeName, R: Receipt, W: Wait + Abort>(
 ) {
     let stamp = Stamp::of_nanoseconds(nanoseconds).expect(rt, "a stamp");
     let line = Line::of_text(alloc, "x").expect(rt, "a line");
-    let entries = vec![in alloc; Entry::new(stamp, line)].expect(rt, "memory");
+    let entries = vec![in alloc; Entry { stamp, line }].expect(rt, "memory");
     if labels.name().len() >= 1 << 32 {
         panic!(rt; "a long name");
     }

@@ -65,7 +65,7 @@ pub(crate) fn found<R: Receipt, S: StoreEnd<Receipt = R>>(
 pub(crate) fn joined(alloc: Global, found: &[Found]) -> Result<String, AllocError> {
     let mut lines = String::new(alloc);
     for one in found {
-        lines.push_str(one.entry.line().as_str())?;
+        lines.push_str(one.entry.line.as_str())?;
     }
     Ok(lines)
 }

@@ -76,7 +76,7 @@ type Seen = ((Gauges, (u64, u64)), Vec<(u64, u64)>);
 fn numbered(alloc: Global, found: &[Found]) -> Result<Vec<(u64, u64)>, AllocError> {
     let mut entries = Vec::new(alloc);
     for one in found {
-        entries.push((one.entry.stamp().nanoseconds(), one.number))?;
+        entries.push((one.entry.stamp.nanoseconds(), one.number))?;
     }
     Ok(entries)
 }

@@ -94,7 +94,10 @@ fn push_at(alloc: Global, time: u64) -> Result<WorldEvent<'static>, Fail> {
     let tenant = Tenant::of_text(alloc, "t")?;
     let labels = Labels::of_pairs(alloc, &[("a", "1")], &LIMITS)?;
     let now = stamp(time)?;
-    let entry = Entry::new(now, Line::of_text(alloc, "x")?);
+    let entry = Entry {
+        stamp: now,
+        line: Line::of_text(alloc, "x")?,
+    };
     let mut entries = Vec::new(alloc);
     entries.push(entry)?;
     Ok(WorldEvent::Push {

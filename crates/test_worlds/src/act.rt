@@ -3,7 +3,7 @@ use anyhow::{Context, Result};
 use ing_labels::{LabelLimits, Labels, Selector};
 use ing_parts::Question;
 use ing_postings::StreamNo;
-use ing_rows::{Entry, Line, Meta, Stamp, Tenant, are_pairs};
+use ing_rows::{Entry, Line, Stamp, Tenant};
 use ing_world::{Object, Outcome, WorldEvent};
 use std::alloc::Global;
 
@@ -43,27 +43,10 @@ pub const SELECTORS: [(&str, [bool; 3]); 4] = [
     ("{a=\"3\"}", [false, false, false]),
 ];
 
-/// The lines that are pushed, two of them beside metadata.
-const LINES: [&str; 6] = ["", "a", "abc", "abcdefghijkl", "a", "a"];
+/// The lines that are pushed.
+pub const LINES: [&str; 4] = ["", "a", "abc", "abcdefghijkl"];
 
-/// The metadata of each.
-fn pairs_of(line: usize) -> &'static [(&'static str, &'static str)] {
-    match line {
-        4 => &[("k", "v")],
-        5 => &[("k", "w"), ("l", "")],
-        _ => &[],
-    }
-}
-
-/// Which of the lines an entry has, with its metadata.
-pub fn line_of(entry: &Entry) -> Option<usize> {
-    (0..LINES.len()).find(|line| {
-        let text = LINES.get(*line).copied().unwrap_or("");
-        text == entry.line().as_str() && are_pairs(entry.meta(), pairs_of(*line))
-    })
-}
-
-/// An entry: its stamp in nanoseconds, and which of the lines it has, with its metadata.
+/// An entry: its stamp in nanoseconds, and which of the lines it has.
 #[derive(Clone, Copy, Debug)]
 pub struct Logged {
     pub stamp: u64,
@@ -114,20 +97,19 @@ pub fn entries(alloc: Global, logged: &[Logged; 3], count: usize) -> Result<Vec<
     let mut entries = Vec::new(alloc);
     for one in logged.iter().take(count) {
         let text = LINES.get(one.line).context("a line")?;
-        let line = Line::of_text(alloc, text)?;
-        let meta = Meta::of_pairs(alloc, pairs_of(one.line))?;
-        entries.push(Entry::with_meta(alloc, stamp(one.stamp)?, line, meta)?)?;
+        entries.push(Entry {
+            stamp: stamp(one.stamp)?,
+            line: Line::of_text(alloc, text)?,
+        })?;
     }
     Ok(entries)
 }
 
 /// How many bytes a logged entry counts.
 pub fn size_of(one: Logged) -> u64 {
-    let mut size = 16 + LINES.get(one.line).map_or(0, |line| line.len() as u64);
-    for (name, value) in pairs_of(one.line) {
-        size += (name.len() + value.len()) as u64;
-    }
-    size
+    LINES
+        .get(one.line)
+        .map_or(16, |line| 16 + line.len() as u64)
 }
 
 impl Act {

@@ -1,5 +1,5 @@
 //! Worlds beside the slow program.
-use crate::act::{Act, SETTINGS, labels, line_of, tenant};
+use crate::act::{Act, LINES, SETTINGS, labels, tenant};
 use crate::slow::{Kept, Slow, Wanted};
 use anyhow::{Context, Result, bail};
 use ing_limits::Settings;
@@ -134,11 +134,13 @@ fn told(alloc: Global, found: &[Found]) -> Result<Vec<Kept>> {
     for one in found {
         let name = one.name.as_str();
         let stream = names.iter().position(|labels| labels.name() == name);
+        let text = one.entry.line.as_str();
+        let line = LINES.iter().position(|line| *line == text);
         told.push((
-            one.entry.stamp().nanoseconds(),
+            one.entry.stamp.nanoseconds(),
             stream.context("a stream")?,
             one.number,
-            line_of(&one.entry).context("a line")?,
+            line.context("a line")?,
         ))?;
     }
     Ok(told)

@@ -35,7 +35,7 @@ impl Lots {
         };
         Logged {
             stamp: self.now.saturating_sub(behind),
-            line: self.below(6) as usize,
+            line: self.below(4) as usize,
         }
     }
 

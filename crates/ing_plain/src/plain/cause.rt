@@ -51,7 +51,7 @@ fn greatest_stamp(rows: &[PlainRow], mark: &PlainMark) -> u64
     let mut greatest: u64 = 0;
     for row in rows {
         if mark.has(row) {
-            greatest = row.entry.stamp().nanoseconds().max(greatest);
+            greatest = row.entry.stamp.nanoseconds().max(greatest);
         }
     }
     greatest
@@ -64,7 +64,7 @@ fn least_stamp(rows: &[PlainRow], mark: &PlainMark) -> u64
     let mut least: Option<u64> = None;
     for row in rows {
         if mark.has(row) {
-            least = Some(lower(row.entry.stamp().nanoseconds(), least));
+            least = Some(lower(row.entry.stamp.nanoseconds(), least));
         }
     }
     least.unwrap_or(0)

@@ -22,12 +22,12 @@ pub fn judge(
     ensures { let s = stream tenant.now name.now in
         result ≡ verdict_of (reverse rows.now) rules.now s entry.now }
 {
-    if entry.line().len() as u64 > rules.max_line_size {
+    if entry.line.len() as u64 > rules.max_line_size {
         return Verdict::LineTooLong;
     }
     let count = count_of(rows, tenant, name);
     let limit = window_limit(highest_of(rows, tenant, name), rules.max_chunk_age);
-    if count > 0 && entry.stamp().nanoseconds() < limit {
+    if count > 0 && entry.stamp.nanoseconds() < limit {
         return Verdict::TooFarBehind { limit };
     }
     if is_last(rows, tenant, name, entry) {
@@ -63,7 +63,7 @@ fn highest_of(rows: &[PlainRow], tenant: &Tenant, name: &str) -> u64
     let mut highest: u64 = 0;
     for row in rows {
         if row.is_of(tenant, name) {
-            highest = row.entry.stamp().nanoseconds().max(highest);
+            highest = row.entry.stamp.nanoseconds().max(highest);
         }
     }
     highest
@@ -97,7 +97,9 @@ fn is_last(rows: &[PlainRow], tenant: &Tenant, name: &str, entry: &Entry) -> boo
         result ≡ is_entry entry.now (option_map (λ r. r.entry) last) }
 {
     match last_of(rows, tenant, name) {
-        Some(last) => last.entry.is(entry),
+        Some(last) => {
+            last.entry.stamp == entry.stamp && last.entry.line.as_str() == entry.line.as_str()
+        }
         None => false,
     }
 }

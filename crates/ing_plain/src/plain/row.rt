@@ -10,6 +10,9 @@ use super::measure::Kind;
 use ing_rows::{Entry, Place, Tenant};
 use std::marker::Model;
 
+/// What an entry counts against sizes beside its line, in bytes (own).
+const ENTRY_SIZE: u64 = 16;
+
 /// An accepted entry: a row of the model.
 #[derive(Debug, Drop)]
 pub struct PlainRow {
@@ -114,14 +117,15 @@ impl PlainRow {
         ensures size { result ≡ size_of self.now.entry }
         ensures small { result ≤ 2 ^ 65 }
     {
-        self.entry.size()
+        u128::from(ENTRY_SIZE) + self.entry.line.len() as u128
     }
 
     /// What is left of a size when its own is taken away, and 0 where that is more.
     pub fn taken_from(&self, size: u64) -> u64
         ensures { result ≡ size - size_of self.now.entry }
     {
-        size.saturating_sub(u64::try_from(self.entry.size()).unwrap_or(u64::MAX))
+        size.saturating_sub(ENTRY_SIZE)
+            .saturating_sub(self.entry.line.len() as u64)
     }
 
     /// Where it is in the head of this chunk, the head is closed into a block.

@@ -1,7 +1,7 @@
 use Rattle.std.proofs.Common.{◌≡◌, ◌++◌, length, arith, rules, refl, sym, ap, subst, ◌∙◌, [], ◌∷◌, List, append_assoc}
 use Rattle.std.specs.Vec.Iter.{into_iter_items}
 use Rattle.std.proofs.lemmas.List.{nil_from_length}
-use Rattle.ing_rows.specs.Entries.{Entry}
+use Rattle.ing_rows.specs.declared.entry.Entry.{Entry}
 use Rattle.ctl_feed.specs.Feeds.{FeedsAll}
 use Rattle.ctl_feed.proofs.FeedLaws.{feeds_all, feeds_both, feeds_none}
 use Rattle.ctl_feed.proofs.entries.feed_entries.Goals as goal

@@ -1,6 +1,6 @@
 use Rattle.std.proofs.Common.{◌≡◌, ◌+◌, ◌++◌, suc, List, ◌∷◌, slice_get, ap, sym, ◌∙◌, append_assoc, arith, drop, length}
 use Rattle.std.specs.Vec.Iter.{into_iter_items}
-use Rattle.ing_rows.specs.Entries.{Entry}
+use Rattle.ing_rows.specs.declared.entry.Entry.{Entry}
 use Rattle.ing_diary.specs.Notes.{note_under, noted, notes_of, number_told}
 use Rattle.ing_diary.proofs.NoteLaws.{noted_next}
 use Rattle.ing_diary.proofs.noting.accepted_of.Goals as goal

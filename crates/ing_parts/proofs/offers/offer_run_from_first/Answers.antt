@@ -9,7 +9,7 @@ returns-then-bars c =
     let at = c.loop-numbered in
     let e = c.numbered-item.result in
     rest_of_run c.stamps_rise.ensures c.args.name.now (question_view c.args.question.now) c.args.run.now c.requires.ordered at.numbered-index e c.loop-numbered-test.true c.numbered-item.is
-    c.args.best.now at.best (at.invariant.order ∙ c.requires.forward) (subst (λ n. PassesOver n at.best) (c.nanoseconds.ensures.value ∙ c.stamp.ensures) (c.bars.ensures c.if-bars.true)) at.invariant
+    c.args.best.now at.best (at.invariant.order ∙ c.requires.forward) (subst (λ n. PassesOver n at.best) c.nanoseconds.ensures.value (c.bars.ensures c.if-bars.true)) at.invariant
 
 pub loop-numbered-preserved : goal.loop-numbered-preserved
 loop-numbered-preserved c =

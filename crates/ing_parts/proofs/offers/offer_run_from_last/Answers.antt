@@ -13,7 +13,7 @@ returns-then-bars c =
     let e = c.index-run-index.result in
     let next : i + 1 ≡ at.index = omega arith in
     front_of_run c.stamps_rise.ensures c.args.name.now (question_view c.args.question.now) run c.requires.ordered i e (omega arith) c.index-run-index.is
-    c.args.best.now at.best (at.invariant.order ∙ c.requires.backward) (subst (λ n. PassesOver n at.best) (c.nanoseconds.ensures.value ∙ c.stamp.ensures) (c.bars.ensures c.if-bars.true))
+    c.args.best.now at.best (at.invariant.order ∙ c.requires.backward) (subst (λ n. PassesOver n at.best) c.nanoseconds.ensures.value (c.bars.ensures c.if-bars.true))
     (subst (λ n. Offers (found_between c.args.name.now (question_view c.args.question.now) (drop n run)) c.args.best.now at.best) (sym next) at.invariant)
 
 pub loop-index-preserved : goal.loop-index-preserved

@@ -1,7 +1,6 @@
 use Rattle.std.proofs.Common.{false, refl, sym, ap, ◌∙◌}
 use Rattle.serde_json.specs.Data.{string, array, no_items, item}
 use Rattle.serde_json.specs.Read.{of_json}
-use Rattle.ing_rows.specs.Entries.{plain}
 use Rattle.ing_pushes.proofs.Entries.{spelled}
 use Rattle.ing_pushes.proofs.usual.entry_in.Goals as goal
 
@@ -16,5 +15,5 @@ returns c =
       shape = refl;
       bare = refl;
       timed = rw stamp refl;
-      entry = rw stamp (ap (plain c.in-Ok.stamp) (sym c.in_ok-line.ensures) ∙ sym c.new.ensures);
+      entry = rw (stamp, c.in_ok-line.ensures) refl;
     }

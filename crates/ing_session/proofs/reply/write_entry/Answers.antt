@@ -11,7 +11,5 @@ returns-clause-tokens c =
       c.in_ok-begin_object.ensures.ok,
       c.as_str-2.ensures,
       c.nanoseconds.ensures.value,
-      c.stamp.ensures,
       c.as_str.ensures,
-      c.line.ensures.line,
     ) (simp append_assoc)

@@ -11,5 +11,4 @@ returns-clause-tokens c =
       c.in_ok-begin_object.ensures.ok,
       c.as_str.ensures,
       c.nanoseconds.ensures.value,
-      c.stamp.ensures,
     ) (simp append_assoc)

@@ -1,4 +1,4 @@
-use Rattle.std.proofs.Common.{rules, ◌∙◌, ◌≤◌, length, subst, arith}
+use Rattle.std.proofs.Common.{rules, ◌≤◌, length, subst, arith}
 use Rattle.ing_parts.specs.Answers.{BestState, IsPast, PassesOver}
 use Rattle.ing_parts.proofs.KeptLaws.{barred, none_first, none_wanted}
 use Rattle.ing_parts.proofs.best.Best.bars.Goals as goal
@@ -8,7 +8,7 @@ returns-in-Some c = λ past.
     let inside = c.self.inside in
     let b : BestState = record { order = inside.order; limit = inside.limit; held = inside.held.items } in
     let full : inside.limit ≤ length inside.held.items = omega (arith, c.if-len-self.false, c.len.ensures) in
-    let behind = subst (λ n. IsPast inside.order n c.args.from) (c.nanoseconds.ensures.value ∙ c.stamp.ensures) (c.is_past.ensures.yes past) in
+    let behind = subst (λ n. IsPast inside.order n c.args.from) c.nanoseconds.ensures.value (c.is_past.ensures.yes past) in
     subst (λ (x : BestState). PassesOver c.args.from x) c.self.view_is (barred b c.in-Some.last.now c.self.invariant.heap full (search rules) c.args.from behind)
 
 pub returns-in-None : goal.returns-in-None

@@ -1,8 +1,0 @@
-use Rattle.std.proofs.Common.{◌≡◌, drop}
-use Rattle.ing_labels.specs.Labels.{texts}
-use Rattle.ing_rows.specs.Metas.{are_same_pairs}
-use Rattle.ing_rows.proofs.meta.are_pairs.Given as goal
-
--- the pairs before are the same
-abbrev pub invariant-loop-at : goal.invariant-loop-at
-invariant-loop-at l = are_same_pairs l.meta (texts l.pairs) ≡ are_same_pairs (drop l.at l.meta) (drop l.at (texts l.pairs))
